@@ -8,6 +8,7 @@
 mod plain;
 mod rows;
 mod sending;
+mod shape;
 mod side;
 mod slots;
 mod taking;

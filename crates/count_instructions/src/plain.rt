@@ -1,17 +1,12 @@
 //! All ranks of a grid, over a plain bank, in turn on one thread.
-ghost use Rattle.std.specs.Prelude.{◌≡◌, ◌<◌, length, slice_index_or, IfOk};
-ghost use Rattle.item_buffer.specs.Capacity.{IsCap};
-ghost use Rattle.route_tensor.specs.Grid.{ranks};
-ghost use Rattle.port_bank.specs.Plain.{sent_of, got_of, empty_bank};
-ghost use Rattle.convey.specs.Buffers.{buffers_of};
-ghost use Rattle.convey.specs.Law.{AgreeTogether};
+ghost use Rattle.std.specs.Prelude.{◌<◌, length};
 
 use crate::rows::Job;
+use crate::shape::Shape;
 use crate::side::Side;
 use bale_types::NoMemory;
 use convey::exchange_law;
 use port_bank::PlainBank;
-use route_tensor::Grid;
 use std::alloc::Global;
 use std::marker::Model;
 
@@ -19,12 +14,9 @@ use std::marker::Model;
 pub(crate) fn over_plain<const CAP: usize, const HOPS: usize>(
     alloc: Global,
     job: Job,
-    grid: &Grid,
-) -> Result<u64, NoMemory>
-    requires cap { IsCap CAP }
-    requires hops { length grid.now ≡ HOPS }
-{
-    let mut all = OverPlain::<CAP, HOPS>::new(alloc, grid)?;
+    shape: &Shape<CAP, HOPS>,
+) -> Result<u64, NoMemory> {
+    let mut all = OverPlain::new(alloc, shape)?;
     for _ in 0..job.epochs {
         all = all.run_epoch(job.items)?;
     }
@@ -55,12 +47,12 @@ impl<const CAP: usize, const HOPS: usize> Model for OverPlain<CAP, HOPS> {
 
 impl<const CAP: usize, const HOPS: usize> OverPlain<CAP, HOPS> {
     #[tactic(auto, unfolding(port_bank::specs::Port::IsSlots))]
-    fn new(alloc: Global, grid: &Grid) -> Result<Self, NoMemory>
-        requires cap { IsCap CAP }
-        requires hops { length grid.now ≡ HOPS }
-    {
-        let bank = PlainBank::new(alloc, grid, 2)?;
-        let sides = sides_of(alloc, grid)?;
+    fn new(alloc: Global, shape: &Shape<CAP, HOPS>) -> Result<Self, NoMemory> {
+        let bank = PlainBank::new(alloc, &shape.grid, 2)?;
+        let mut sides = Vec::with_capacity(alloc, shape.grid.ranks() as usize)?;
+        for rank in 0..shape.grid.ranks() {
+            sides.push(Side::new(alloc, shape, rank)?)?;
+        }
         Ok(OverPlain { sides, bank })
     }
 
@@ -112,23 +104,4 @@ impl<const CAP: usize, const HOPS: usize> OverPlain<CAP, HOPS> {
         }
         sum
     }
-}
-
-/// The conveyors of all ranks of a grid.
-fn sides_of<const CAP: usize, const HOPS: usize>(
-    alloc: Global,
-    grid: &Grid,
-) -> Result<Vec<Side<CAP, HOPS>>, NoMemory>
-    requires cap { IsCap CAP }
-    requires hops { length grid.now ≡ HOPS }
-    ensures all { IfOk result (λ v. length v.items ≡ ranks grid.now) }
-    ensures together { (d : _) (slots : _)
-        → IfOk result (λ v. AgreeTogether grid.now CAP slots (λ r. buffers_of (slice_index_or v.items r d).conveyor)
-        (sent_of (empty_bank grid.now slots)) (got_of (empty_bank grid.now slots))) }
-{
-    let mut sides = Vec::with_capacity(alloc, grid.ranks() as usize)?;
-    for rank in 0..grid.ranks() {
-        sides.push(Side::new(alloc, grid, rank)?)?;
-    }
-    Ok(sides)
 }

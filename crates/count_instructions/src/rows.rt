@@ -1,8 +1,8 @@
 //! What is measured.
-ghost use Rattle.std.specs.Prelude.{◌≡◌, ◌<◌, length};
-ghost use Rattle.item_buffer.specs.Capacity.{IsCap};
+ghost use Rattle.std.specs.Prelude.{◌<◌};
 
 use crate::plain::over_plain;
+use crate::shape::Shape;
 use crate::slots::over_slots;
 use bale_types::NoMemory;
 use route_tensor::Grid;
@@ -24,11 +24,11 @@ pub(crate) struct Job {
 /// Does the job, and answers the sum of what came.
 pub(crate) fn measure(alloc: Global, job: Job) -> Result<u64, NoMemory> {
     match job.hops {
-        1 => on_grid::<1>(alloc, job, &[4], &[1]),
-        2 => on_grid::<2>(alloc, job, &[2, 2], &[1, 1]),
-        3 => on_grid::<3>(alloc, job, &[2, 2, 2], &[1, 1, 1]),
-        16 => on_grid::<1>(alloc, job, &[16], &[1]),
-        _ => on_grid::<1>(alloc, job, &[64], &[1]),
+        1 => on_grid(alloc, job, [4], [1]),
+        2 => on_grid(alloc, job, [2, 2], [1, 1]),
+        3 => on_grid(alloc, job, [2, 2, 2], [1, 1, 1]),
+        16 => on_grid(alloc, job, [16], [1]),
+        _ => on_grid(alloc, job, [64], [1]),
     }
 }
 
@@ -36,34 +36,28 @@ pub(crate) fn measure(alloc: Global, job: Job) -> Result<u64, NoMemory> {
 fn on_grid<const HOPS: usize>(
     alloc: Global,
     job: Job,
-    dims: &[u32],
-    ones: &[u32],
-) -> Result<u64, NoMemory>
-    requires hops { length dims.now ≡ HOPS }
-    requires one_hops { length ones.now ≡ HOPS }
-{
+    dims: [u32; HOPS],
+    ones: [u32; HOPS],
+) -> Result<u64, NoMemory> {
     let dims = if job.bank == 0 { ones } else { dims };
-    let Ok(grid) = Grid::new(dims) else {
+    let Ok(grid) = Grid::new(&dims) else {
         return Ok(0);
     };
     match job.buffer {
-        1 => over::<1, HOPS>(alloc, job, &grid),
-        64 => over::<64, HOPS>(alloc, job, &grid),
-        _ => over::<1024, HOPS>(alloc, job, &grid),
+        1 => over(alloc, job, &Shape::<1, HOPS> { grid }),
+        64 => over(alloc, job, &Shape::<64, HOPS> { grid }),
+        _ => over(alloc, job, &Shape::<1024, HOPS> { grid }),
     }
 }
 
 fn over<const CAP: usize, const HOPS: usize>(
     alloc: Global,
     job: Job,
-    grid: &Grid,
-) -> Result<u64, NoMemory>
-    requires cap { IsCap CAP }
-    requires hops { length grid.now ≡ HOPS }
-{
+    shape: &Shape<CAP, HOPS>,
+) -> Result<u64, NoMemory> {
     if job.bank == 1 {
-        over_slots::<CAP, HOPS>(alloc, job, grid)
+        over_slots(alloc, job, shape)
     } else {
-        over_plain::<CAP, HOPS>(alloc, job, grid)
+        over_plain(alloc, job, shape)
     }
 }

@@ -25,7 +25,13 @@ pub(crate) fn push_some<const CAP: usize, const HOPS: usize>(
     let mut seed = seed;
     let mut pushed = from;
     while pushed < items {
-        if push_one(conveyor, seed, rank_count) == Pushed::Full {
+        let to = (seed >> 33) as u32 % rank_count;
+        let item = Item {
+            a: seed,
+            b: 1,
+            c: 0,
+        };
+        if conveyor.push(item, to) == Pushed::Full {
             return (pushed, seed);
         }
         seed = seed
@@ -34,27 +40,4 @@ pub(crate) fn push_some<const CAP: usize, const HOPS: usize>(
         pushed += 1;
     }
     (pushed, seed)
-}
-
-/// Pushes the item of a seed.
-#[inline]
-fn push_one<const CAP: usize, const HOPS: usize>(
-    conveyor: &mut Conveyor<CAP, HOPS>,
-    seed: u64,
-    rank_count: u32,
-) -> Pushed
-    requires count { ranks conveyor.old.dims ≡ rank_count }
-    requires some { 0 < rank_count }
-    requires working { conveyor.old.phase ≡ Phase.Working }
-    requires not_done { conveyor.old.done ≡ false }
-    ensures kept { KeepsAgreement conveyor.old conveyor.new }
-    ensures same { conveyor.new ≡ record conveyor.old { outs = conveyor.new.outs; pulled = conveyor.new.pulled } }
-{
-    let to = (seed >> 33) as u32 % rank_count;
-    let item = Item {
-        a: seed,
-        b: 1,
-        c: 0,
-    };
-    conveyor.push(item, to)
 }

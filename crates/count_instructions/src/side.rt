@@ -1,6 +1,5 @@
 //! One rank of a benchmark: its conveyor, which turns at the port that it is lent.
-ghost use Rattle.std.specs.Prelude.{◌≡◌, ◌<◌, false, length, IfOk};
-ghost use Rattle.item_buffer.specs.Capacity.{IsCap};
+ghost use Rattle.std.specs.Prelude.{◌≡◌, ◌<◌, false, IfOk};
 ghost use Rattle.route_tensor.specs.Grid.{ranks};
 ghost use Rattle.convey.specs.Buffers.{buffers_of};
 ghost use Rattle.convey.specs.Conveyors.{StartsOut, StaysWithRank};
@@ -8,11 +7,11 @@ ghost use Rattle.convey.specs.Law.{IsSound};
 ghost use Rattle.convey.specs.Advance.{IsAtPort, KeepsPort};
 
 use crate::sending::push_some;
+use crate::shape::Shape;
 use crate::taking::sum_all;
 use bale_types::NoMemory;
 use convey::{Conveyor, Phase, Progress};
 use port_bank::Port;
-use route_tensor::Grid;
 use std::alloc::Global;
 
 /// A rank that sends items to ranks of its choice and sums those that come.
@@ -35,17 +34,15 @@ pub(crate) struct Side<const CAP: usize, const HOPS: usize> {
 
 impl<const CAP: usize, const HOPS: usize> Side<CAP, HOPS> {
     /// The conveyor of a rank.
-    pub(crate) fn new(alloc: Global, grid: &Grid, rank: u32) -> Result<Self, NoMemory>
-        requires cap { IsCap CAP }
-        requires hops { length grid.now ≡ HOPS }
-        requires rank { rank < ranks grid.now }
-        ensures starts { IfOk result (λ s. StartsOut grid.now rank s.conveyor) }
+    pub(crate) fn new(alloc: Global, shape: &Shape<CAP, HOPS>, rank: u32) -> Result<Self, NoMemory>
+        requires rank { rank < ranks shape.now.grid }
+        ensures starts { IfOk result (λ s. StartsOut shape.now.grid rank s.conveyor) }
     {
-        let conveyor = Conveyor::new(alloc, grid, rank, false)?;
+        let conveyor = Conveyor::new(alloc, &shape.grid, rank, false)?;
         conveyor.known();
         Ok(Side {
             conveyor,
-            rank_count: grid.ranks(),
+            rank_count: shape.grid.ranks(),
             seed: rank as u64 + 1,
             pushed: 0,
             done: false,

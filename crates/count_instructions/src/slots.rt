@@ -1,15 +1,11 @@
 //! All ranks of a grid, over slot links, in turn on one thread.
-ghost use Rattle.std.specs.Prelude.{◌≡◌, ℕ, ◌<◌, true, false, length, slice_index_or, slice_set};
-ghost use Rattle.item_buffer.specs.Capacity.{IsCap};
-ghost use Rattle.route_tensor.specs.Grid.{ranks};
-ghost use Rattle.link_slots.specs.Seen.{posted_on, collected_from};
-ghost use Rattle.convey.specs.Conveyors.{AgreesWith};
+ghost use Rattle.std.specs.Prelude.{◌<◌};
 
 use crate::rows::Job;
+use crate::shape::Shape;
 use crate::side::Side;
 use bale_types::NoMemory;
-use link_slots::{GatherSeat, SlotBank, SlotPort};
-use route_tensor::Grid;
+use link_slots::{SlotBank, SlotPort};
 use std::alloc::Global;
 use std::marker::Model;
 
@@ -39,60 +35,20 @@ impl<'a, const CAP: usize, const HOPS: usize> Model for AtSeat<'a, CAP, HOPS> {
 pub(crate) fn over_slots<const CAP: usize, const HOPS: usize>(
     alloc: Global,
     job: Job,
-    grid: &Grid,
-) -> Result<u64, NoMemory>
-    requires cap { IsCap CAP }
-    requires hops { length grid.now ≡ HOPS }
-{
-    let (bank, mut gather) = SlotBank::<CAP>::new(alloc, grid, 2)?;
-    let mut sides = sides_of::<CAP, HOPS>(alloc, grid, &bank, &mut gather)?;
+    shape: &Shape<CAP, HOPS>,
+) -> Result<u64, NoMemory> {
+    let (bank, mut gather) = SlotBank::<CAP>::new(alloc, &shape.grid, 2)?;
+    let mut sides = Vec::new(alloc);
+    for rank in 0..shape.grid.ranks() {
+        let port = bank.port(bank.seat(&mut gather, rank));
+        let side = Side::new(alloc, shape, rank)?;
+        let at = AtSeat { side, port };
+        sides.push(at)?;
+    }
     for _ in 0..job.epochs {
         run_epoch(&mut sides, job.items)?;
     }
     Ok(sum_of(&sides))
-}
-
-/// The conveyors of all ranks, over the ports of their seats.
-fn sides_of<'a, const CAP: usize, const HOPS: usize>(
-    alloc: Global,
-    grid: &Grid,
-    bank: &'a SlotBank<CAP>,
-    gather: &mut GatherSeat<CAP>,
-) -> Result<Vec<AtSeat<'a, CAP, HOPS>>, NoMemory>
-    requires cap { IsCap CAP }
-    requires hops { length grid.now ≡ HOPS }
-    requires grid { bank.now.shape.dims ≡ grid.now }
-    requires bank { (gather.old.id ≡ bank.now.id) × (gather.old.shape ≡ bank.now.shape) }
-    requires here { (k : ℕ) → k < ranks grid.now → slice_index_or gather.old.given k true ≡ false }
-{
-    let mut sides = Vec::new(alloc);
-    for rank in 0..grid.ranks() {
-        let side = side_of::<CAP, HOPS>(alloc, grid, bank, gather, rank)?;
-        sides.push(side)?;
-    }
-    Ok(sides)
-}
-
-/// The conveyor of a rank over the port of the rank's seat, which was not given out before.
-fn side_of<'a, const CAP: usize, const HOPS: usize>(
-    alloc: Global,
-    grid: &Grid,
-    bank: &'a SlotBank<CAP>,
-    gather: &mut GatherSeat<CAP>,
-    rank: u32,
-) -> Result<AtSeat<'a, CAP, HOPS>, NoMemory>
-    requires cap { IsCap CAP }
-    requires hops { length grid.now ≡ HOPS }
-    requires grid { bank.now.shape.dims ≡ grid.now }
-    requires bank { (gather.old.id ≡ bank.now.id) × (gather.old.shape ≡ bank.now.shape) }
-    requires rank { rank < ranks grid.now }
-    requires here { slice_index_or gather.old.given rank true ≡ false }
-    ensures same_bank { (gather.new.id ≡ gather.old.id) × (gather.new.shape ≡ gather.old.shape) }
-    ensures given { gather.new.given ≡ slice_set gather.old.given rank true }
-{
-    let port = bank.port(bank.seat(gather, rank));
-    let side = Side::new(alloc, grid, rank)?;
-    Ok(AtSeat { side, port })
 }
 
 /// Begins an epoch for each rank, and turns each in order, sweep after sweep, until the epoch is over for each.

@@ -3,7 +3,7 @@
 /// The drive for a capacity, one of item_buffer's `CAPACITIES`: each case hands the values on.
 #[macro_export]
 macro_rules! by_capacity {
-    ($cap:expr, $drive:ident::<$hops:ident, $($param:ty),*>, ($($value:expr),*)) => {
+    ($cap:expr, $drive:ident::<$hops:tt, $($param:ty),*>, ($($value:expr),*)) => {
         if $cap == 1 {
             $drive::<1, $hops, $($param),*>($($value),*)
         } else if $cap == 2 {

@@ -20,6 +20,7 @@ use std::time::Clock;
 ///
 /// # Errors
 /// `NoMemory` where a program, a node, the bank or the result found none. The programs are dropped.
+#[tactic(auto, unfolding(item_buffer::specs::Capacity::IsCapacity))]
 pub fn case_threads<R: Threads + Wait + Clock + Sync, Q: Program + Send, G: Gate + Sync>(
     rt: &R,
     alloc: Global,
@@ -41,41 +42,20 @@ pub fn case_threads<R: Threads + Wait + Clock + Sync, Q: Program + Send, G: Gate
     ensures told { OnOk result (ToldOfTurns Q.rules progs grid.now (G.told gate.now)) }
 {
     match grid.hops() {
-        1 => over_hops::<1, R, Q, G>(rt, alloc, grid, cap, via, slots, steady, progs, gate),
-        2 => over_hops::<2, R, Q, G>(rt, alloc, grid, cap, via, slots, steady, progs, gate),
-        _ => over_hops::<3, R, Q, G>(rt, alloc, grid, cap, via, slots, steady, progs, gate),
+        1 => by_capacity!(
+            cap,
+            drive_threads::<1, R, Q, G>,
+            (rt, alloc, grid, via, slots, steady, progs, gate)
+        ),
+        2 => by_capacity!(
+            cap,
+            drive_threads::<2, R, Q, G>,
+            (rt, alloc, grid, via, slots, steady, progs, gate)
+        ),
+        _ => by_capacity!(
+            cap,
+            drive_threads::<3, R, Q, G>,
+            (rt, alloc, grid, via, slots, steady, progs, gate)
+        ),
     }
-}
-
-/// The cases of so many hops.
-#[tactic(auto, unfolding(item_buffer::specs::Capacity::IsCapacity))]
-fn over_hops<
-    const HOPS: usize,
-    R: Threads + Wait + Clock + Sync,
-    Q: Program + Send,
-    G: Gate + Sync,
->(
-    rt: &R,
-    alloc: Global,
-    grid: &Grid,
-    cap: u32,
-    via: Via,
-    slots: u32,
-    steady: bool,
-    progs: Progs<Q>,
-    gate: &G,
-) -> Result<Finished<Q>, NoMemory>
-    requires hops { length grid.now ≡ HOPS }
-    requires capacity { IsCapacity cap }
-    requires slots { IsSlots slots }
-    requires run { MayRun Q.rules grid.now via progs }
-    ensures finished { IfOk result (HasFinished Q.rules progs
-        (record { dims = grid.now; cap = cap; slots = slots; by_slots = true }) (manner_of via steady)) }
-    ensures told { OnOk result (ToldOfTurns Q.rules progs grid.now (G.told gate.now)) }
-{
-    by_capacity!(
-        cap,
-        drive_threads::<HOPS, R, Q, G>,
-        (rt, alloc, grid, via, slots, steady, progs, gate)
-    )
 }

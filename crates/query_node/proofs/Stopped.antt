@@ -7,12 +7,15 @@ use Rattle.item_buffer.specs.Contents.{Shipped}
 use Rattle.list_laws.proofs.Lists.{find}
 use Rattle.route_tensor.specs.Grid.{ranks, IsGrid}
 use Rattle.route_tensor.specs.Link.{links}
-use Rattle.route_tensor.specs.Ends.{reader_at}
+use Rattle.route_tensor.specs.Ends.{sender_at, reader_at}
+use Rattle.port_bank.specs.declared.port.Port.{Ghosts}
 use Rattle.port_bank.specs.Logs.{Logs}
+use Rattle.port_bank.specs.Shapes.{IsConveyorShape}
 use Rattle.hop_core.specs.declared.phase.Phase.{Phase}
 use Rattle.hop_core.specs.declared.phase.Phase.TheVariants.{Dormant, Working, Endgame, Cleanup, Complete}
 use Rattle.hop_core.specs.State.{State}
 use Rattle.list_laws.specs.Lists.{Ends}
+use Rattle.convey.specs.Advance.{StaysAtPort, ListsGrow, WereAsked}
 use Rattle.convey.specs.Buffers.{in_of}
 use Rattle.convey.specs.Conveyors.{AgreesWith}
 use Rattle.convey.specs.Progress.{progress_of}
@@ -25,7 +28,7 @@ use Rattle.std.specs.Prelude.{IfSome}
 use Rattle.rank_node.specs.Movers.{AllRead}
 use Rattle.rank_node.specs.Pulls.{NoMore}
 use Rattle.rank_node.specs.Stuck.{HasCrowded}
-use Rattle.query_node.specs.States.{BiState, Sides}
+use Rattle.query_node.specs.States.{BiState, Sides, AdvancesOnce}
 use Rattle.query_node.specs.Still.{Known, IsStuck}
 use Rattle.query_node.proofs.Turned.{Advances}
 
@@ -43,7 +46,7 @@ complete_is p e = ap progress_of e
 pub ok_once : {T E : Type 0} {a b : T} → ◌≡◌ {A = Result T E} (Ok a) (Ok b) → a ≡ b
 ok_once e = cc
 
-pub lies_left : (c c1 c2 c3 : State) (got got' : Logs) → c1 ≡ record c { outs = c1.outs; pulled = c1.pulled } → NoMore c2 c3
+lies_left : (c c1 c2 c3 : State) (got got' : Logs) → c1 ≡ record c { outs = c1.outs; pulled = c1.pulled } → NoMore c2 c3
     → ((l : ℕ) (more : List Shipped) → l < links c1.dims → reader_at c1.dims l ≡ c1.rank → got' l ≡ got l ++ more → Ends ((in_of c1 l).parcel.untaken ++ flat_map (λ p. p.entries) more) (in_of c2 l).parcel.untaken)
     → (l : ℕ) (more : List Shipped) → l < links c.dims → reader_at c.dims l ≡ c.rank → got' l ≡ got l ++ more
     → length (in_of c3 l).parcel.untaken ≤ length (in_of c l).parcel.untaken + length (flat_map (λ (p : Shipped). p.entries) more)
@@ -55,13 +58,32 @@ lies_left c c1 c2 c3 got got' same fewer lies l more b e grew =
     omega (arith, ap length ins, lies_less (in_of c1 l).parcel.untaken (flat_map (λ (p : Shipped). p.entries) more) (in_of c2 l).parcel.untaken (in_of c3 l).parcel.untaken rest (fewer l))
 
 -- pushes leave a conveyor its own links
-pub once : (ends : List ℕ → ℕ → ℕ) (c c1 : State) (log log' : Logs) → c1 ≡ record c { outs = c1.outs; pulled = c1.pulled }
+once : (ends : List ℕ → ℕ → ℕ) (c c1 : State) (log log' : Logs) → c1 ≡ record c { outs = c1.outs; pulled = c1.pulled }
     → ((l : ℕ) → l < links c1.dims → ends c1.dims l ≡ c1.rank → length (log' l) ≤ length (log l) + 1)
     → (l : ℕ) → l < links c.dims → ends c.dims l ≡ c.rank → length (log' l) ≤ length (log l) + 1
 once ends c c1 log log' same one l b e =
     let d : c1.dims ≡ c.dims = ap (λ (t : State). t.dims) same in
     let r : c1.rank ≡ c.rank = ap (λ (t : State). t.rank) same in
     one l (subst (λ ds. l < links ds) (sym d) b) (subst (λ (ds : List ℕ). ends ds l ≡ c1.rank) (sym d) (e ∙ sym r))
+
+-- one way of a turn: pushes, an advance and pulls
+pub advances_once : {P : Type 0} {cap : ℕ} {M : Type 0} (G : Ghosts P cap M) (told : Bool) (c c1 c2 c3 : State) (port port' : P) → c1 ≡ record c { outs = c1.outs; pulled = c1.pulled }
+    → StaysAtPort G told c1 c2 port port' → ListsGrow G c1 port port' → WereAsked G c1 c2 port port' → c3 ≡ record c2 { ins = c3.ins; pulled = c3.pulled } → NoMore c2 c3 → AdvancesOnce G c c3 port port'
+advances_once {P} {cap} G told c c1 c2 c3 port port' same stays grows asked took fewer =
+    let steady : c1.steady ≡ c.steady = ap (λ (t : State). t.steady) same in
+    record {
+      steady = ap (λ (t : State). t.steady) took ∙ (stays.steady ∙ steady);
+      same_port = stays.same_port;
+      grows = record {
+        sent_grows = grows.sent_grows;
+        got_grows = grows.got_grows;
+        one_sent = once sender_at c c1 (G.sent port) (G.sent port') same grows.one_sent;
+        one_got = once reader_at c c1 (G.got port) (G.got port') same grows.one_got;
+        fills = λ l more grew. subst (λ b. IsConveyorShape b cap more) steady (grows.fills l more grew);
+        shape = λ l was. subst (λ b. IsConveyorShape b cap (G.sent port' l)) steady (grows.shape l (subst (λ b. IsConveyorShape b cap (G.sent port l)) (sym steady) was));
+      };
+      lie = lies_left c c1 c2 c3 (G.got port) (G.got port') same fewer asked.lies;
+    }
 
 -- done asking, or a push was refused
 pub asked_or : (es : List (ℕ × Item)) (next : ℕ) (done : Bool) (P : Type 0) → done ≡ (next == length es) → next ≤ length es → ((to : ℕ) (x : Item) → slice_get es next ≡ Some (to, x) → P) → (done ≡ true) ⊎ P

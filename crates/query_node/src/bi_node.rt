@@ -1,18 +1,11 @@
 //! A rank that asks, answers and hears.
 
-ghost use Rattle.std.specs.Prelude.{◌≡◌, ◌≢◌, ℕ, ◌+◌, ◌<◌, ◌≤◌, ◌==◌, ◌++◌, ◌&&◌, false, List, [], length, IfOk, OnOk, IsOk, Ok};
-ghost use Rattle.port_bank.specs.Frames.{SamePort};
+ghost use Rattle.std.specs.Prelude.{◌≡◌, ◌≢◌, ℕ, ◌+◌, ◌<◌, ◌==◌, ◌&&◌, false, [], length, IfOk, OnOk, IsOk, Ok};
 ghost use Rattle.item_buffer.specs.Capacity.{IsCap};
-ghost use Rattle.std.specs.List.{flat_map};
-ghost use Rattle.item_buffer.specs.Contents.{Shipped};
 ghost use Rattle.route_tensor.specs.Grid.{ranks};
-ghost use Rattle.route_tensor.specs.Link.{links};
-ghost use Rattle.route_tensor.specs.Ends.{sender_at, reader_at};
 ghost use Rattle.convey.specs.Buffers.{in_of, is_complete};
-ghost use Rattle.list_laws.specs.Lists.{Begins};
-ghost use Rattle.port_bank.specs.Shapes.{IsConveyorShape};
 ghost use Rattle.round_program.specs.Replies.{asks_of};
-ghost use Rattle.query_node.specs.States.{BiState, IsBiNode, IsFirst, HasAsked, HasAnswered};
+ghost use Rattle.query_node.specs.States.{BiState, IsBiNode, IsFirst, IsPortOf, AdvancesOnce, HasAsked, HasAnswered};
 ghost use Rattle.query_node.specs.Still.{IsStuck};
 
 use crate::answering::{answer_open, is_over};
@@ -98,10 +91,8 @@ impl<A: Asker, const CAP: usize, const HOPS: usize> BiNode<A, CAP, HOPS> {
         replies: &mut R,
         steps: &mut Steps<L>,
     ) -> Result<Turn, NoMemory>
-        requires queries_dims { P.dims queries.old ≡ self.old.queries.dims }
-        requires queries_rank { P.rank queries.old ≡ self.old.queries.rank }
-        requires replies_dims { R.dims replies.old ≡ self.old.replies.dims }
-        requires replies_rank { R.rank replies.old ≡ self.old.replies.rank }
+        requires queries { IsPortOf P.Port self.old.queries queries.old }
+        requires replies { IsPortOf R.Port self.old.replies replies.old }
         requires node { (start : A) × IsBiNode A.talk start self.old (P.sent queries.old) (P.got queries.old)
             (R.sent replies.old) (R.got replies.old) }
         ensures kept { (start : A) → IsBiNode A.talk start self.old (P.sent queries.old) (P.got queries.old)
@@ -135,42 +126,10 @@ impl<A: Asker, const CAP: usize, const HOPS: usize> BiNode<A, CAP, HOPS> {
         // What stays.
         ensures dims { self.new.queries.dims ≡ self.old.queries.dims }
         ensures rank { self.new.queries.rank ≡ self.old.queries.rank }
-        ensures steady { self.new.queries.steady ≡ self.old.queries.steady }
-        ensures steady_replies { self.new.replies.steady ≡ self.old.replies.steady }
-        ensures same_queries { SamePort P.Port queries.old queries.new }
-        ensures same_replies { SamePort R.Port replies.old replies.new }
 
-        // Each way advances once: its lists only grow, each by one parcel at most, and of the conveyor's shape.
-        ensures queries_sent { (l : ℕ) → Begins (P.sent queries.old l) (P.sent queries.new l) }
-        ensures queries_got { (l : ℕ) → Begins (P.got queries.old l) (P.got queries.new l) }
-        ensures replies_sent { (l : ℕ) → Begins (R.sent replies.old l) (R.sent replies.new l) }
-        ensures replies_got { (l : ℕ) → Begins (R.got replies.old l) (R.got replies.new l) }
-        ensures queries_once { (l : ℕ) → l < links self.old.queries.dims
-            → sender_at self.old.queries.dims l ≡ self.old.queries.rank
-            → length (P.sent queries.new l) ≤ length (P.sent queries.old l) + 1 }
-        ensures queries_got_once { (l : ℕ) → l < links self.old.queries.dims
-            → reader_at self.old.queries.dims l ≡ self.old.queries.rank
-            → length (P.got queries.new l) ≤ length (P.got queries.old l) + 1 }
-        ensures replies_once { (l : ℕ) → l < links self.old.replies.dims
-            → sender_at self.old.replies.dims l ≡ self.old.replies.rank
-            → length (R.sent replies.new l) ≤ length (R.sent replies.old l) + 1 }
-        ensures replies_got_once { (l : ℕ) → l < links self.old.replies.dims
-            → reader_at self.old.replies.dims l ≡ self.old.replies.rank
-            → length (R.got replies.new l) ≤ length (R.got replies.old l) + 1 }
-        ensures queries_shape { (l : ℕ) → IsConveyorShape self.old.queries.steady CAP (P.sent queries.old l)
-            → IsConveyorShape self.old.queries.steady CAP (P.sent queries.new l) }
-        ensures replies_shape { (l : ℕ) → IsConveyorShape self.old.replies.steady CAP (R.sent replies.old l)
-            → IsConveyorShape self.old.replies.steady CAP (R.sent replies.new l) }
-        ensures queries_lie { (l : ℕ) (more : List Shipped) → l < links self.old.queries.dims
-            → reader_at self.old.queries.dims l ≡ self.old.queries.rank
-            → P.got queries.new l ≡ P.got queries.old l ++ more
-            → length (in_of self.new.queries l).parcel.untaken ≤ length (in_of self.old.queries l).parcel.untaken
-            + length (flat_map (λ p. p.entries) more) }
-        ensures replies_lie { (l : ℕ) (more : List Shipped) → l < links self.old.replies.dims
-            → reader_at self.old.replies.dims l ≡ self.old.replies.rank
-            → R.got replies.new l ≡ R.got replies.old l ++ more
-            → length (in_of self.new.replies l).parcel.untaken ≤ length (in_of self.old.replies l).parcel.untaken
-            + length (flat_map (λ p. p.entries) more) }
+        // Each way advances once.
+        ensures queries { AdvancesOnce P.Port self.old.queries self.new.queries queries.old queries.new }
+        ensures replies { AdvancesOnce R.Port self.old.replies self.new.replies replies.old replies.new }
 
         // Where no parcel was moved on either way, something outside keeps the rank.
         ensures stuck { OnOk result ((start : A) → IsBiNode A.talk start self.old (P.sent queries.old)

@@ -1,7 +1,5 @@
 use Rattle.std.proofs.Common.{rules, ◌≡◌, ◌==◌, ℕ, length, sym, ap, subst, ◌∙◌}
 use Rattle.std.specs.Prelude.{is_ok, IfSome}
-use Rattle.route_tensor.specs.Ends.{sender_at, reader_at}
-use Rattle.port_bank.specs.Shapes.{IsConveyorShape}
 use Rattle.list_laws.proofs.Results.{on_ok_from}
 use Rattle.hop_core.specs.State.{State}
 use Rattle.convey.specs.Buffers.{is_complete}
@@ -13,7 +11,7 @@ use Rattle.query_node.specs.States.{BiState, Sides, IsBiNode, HasAsked, HasAnswe
 use Rattle.query_node.specs.Still.{IsStuck, Known}
 use Rattle.query_node.proofs.Turned.{Advances, works_on, was_served, has_completed, same_asks, count_is, asked_count, receivers, low, all_pushed, begun1, agrees1, stays_done, dims2, open2, answers2, epoch2, pulled2, begun3, agrees3, over3, halfway, first4, heard4, turned}
 use Rattle.rank_node.proofs.Halted.{Advanced}
-use Rattle.query_node.proofs.Stopped.{complete_from, lies_left, once, read_or, stuck}
+use Rattle.query_node.proofs.Stopped.{complete_from, advances_once, read_or, stuck}
 use Rattle.query_node.proofs.bi_node.BiNode.turn.Goals as goal
 
 pub push_queries-self-inside-requires : goal.push_queries-self-inside-requires
@@ -50,7 +48,7 @@ advance-asked-requires g c =
       (
         begun1 T laws start inside qs qg rs rg is g.row.CAP next count q1 push counted,
         (
-          record { same_dims = c.requires.queries_dims ∙ (sym (ap (λ (t : State). t.dims) e) ∙ sym (ap (λ (t : State). t.dims) push.same)); same_rank = c.requires.queries_rank ∙ (sym (ap (λ (t : State). t.rank) e) ∙ sym (ap (λ (t : State). t.rank) push.same)); agrees = agrees1 T laws start inside qs qg rs rg is g.row.CAP next count q1 push counted },
+          record { same_dims = c.requires.queries.same_dims ∙ (sym (ap (λ (t : State). t.dims) e) ∙ sym (ap (λ (t : State). t.dims) push.same)); same_rank = c.requires.queries.same_rank ∙ (sym (ap (λ (t : State). t.rank) e) ∙ sym (ap (λ (t : State). t.rank) push.same)); agrees = agrees1 T laws start inside qs qg rs rg is g.row.CAP next count q1 push counted },
           stays_done T laws start inside qs qg rs rg is g.row.CAP next count q1 push counted,
         ),
       ),
@@ -135,7 +133,7 @@ advance-replied-requires g c =
       (
         begun3 T laws start inside qs qg rs rg is g.row.CAP next count q1 push counted q2 qs' qg' adv q3 r1 ans,
         (
-          record { same_dims = c.requires.replies_dims ∙ (sym (ap (λ (t : State). t.dims) e) ∙ sym (ap (λ (t : State). t.dims) ans.same_replies)); same_rank = c.requires.replies_rank ∙ (sym (ap (λ (t : State). t.rank) e) ∙ sym (ap (λ (t : State). t.rank) ans.same_replies)); agrees = agrees3 T laws start inside qs qg rs rg is g.row.CAP next count q1 push counted q2 qs' qg' adv q3 r1 ans },
+          record { same_dims = c.requires.replies.same_dims ∙ (sym (ap (λ (t : State). t.dims) e) ∙ sym (ap (λ (t : State). t.dims) ans.same_replies)); same_rank = c.requires.replies.same_rank ∙ (sym (ap (λ (t : State). t.rank) e) ∙ sym (ap (λ (t : State). t.rank) ans.same_replies)); agrees = agrees3 T laws start inside qs qg rs rg is g.row.CAP next count q1 push counted q2 qs' qg' adv q3 r1 ans },
           over3 T laws start inside qs qg rs rg is g.row.CAP next count q1 push counted q2 qs' qg' adv q3 r1 ans over is_over,
         ),
       ),
@@ -308,57 +306,19 @@ pub returns-clause-replied_all : goal.returns-clause-replied_all
 returns-clause-replied_all g c =
     ap (λ (t : State). t.done) c.hear_all.ensures.hears.same ∙ (c.advance-replied.ensures.stays.done ∙ (c.is_over-over.ensures ∙ ap is_complete c.phase.ensures.value))
 
-pub returns-clause-queries_once : goal.returns-clause-queries_once
-returns-clause-queries_once g c =
-    let c1 = c.push_queries-self-inside.new.conveyor in
-    let same = subst (λ (t : State). c1 ≡ record t { outs = c1.outs; pulled = c1.pulled }) (ap (λ (m : BiState g.row.A.Denot). m.queries) c.self.view_is) c.push_queries-self-inside.ensures.same in
-    once sender_at c.args.self.now.queries c1 (g.P.Port.sent c.args.queries.now) (g.P.Port.sent c.advance-asked.new.port) same c.advance-asked.ensures.grows.one_sent
-
-pub returns-clause-queries_got_once : goal.returns-clause-queries_got_once
-returns-clause-queries_got_once g c =
-    let c1 = c.push_queries-self-inside.new.conveyor in
-    let same = subst (λ (t : State). c1 ≡ record t { outs = c1.outs; pulled = c1.pulled }) (ap (λ (m : BiState g.row.A.Denot). m.queries) c.self.view_is) c.push_queries-self-inside.ensures.same in
-    once reader_at c.args.self.now.queries c1 (g.P.Port.got c.args.queries.now) (g.P.Port.got c.advance-asked.new.port) same c.advance-asked.ensures.grows.one_got
-
-pub returns-clause-replies_once : goal.returns-clause-replies_once
-returns-clause-replies_once g c =
-    let c1 = c.answer_open-refused.new.replies in
-    let same = subst (λ (t : State). c1 ≡ record t { outs = c1.outs; pulled = c1.pulled }) (ap (λ (m : BiState g.row.A.Denot). m.replies) c.self.view_is) c.answer_open-refused.ensures.answers.same_replies in
-    once sender_at c.args.self.now.replies c1 (g.R.Port.sent c.args.replies.now) (g.R.Port.sent c.advance-replied.new.port) same c.advance-replied.ensures.grows.one_sent
-
-pub returns-clause-replies_got_once : goal.returns-clause-replies_got_once
-returns-clause-replies_got_once g c =
-    let c1 = c.answer_open-refused.new.replies in
-    let same = subst (λ (t : State). c1 ≡ record t { outs = c1.outs; pulled = c1.pulled }) (ap (λ (m : BiState g.row.A.Denot). m.replies) c.self.view_is) c.answer_open-refused.ensures.answers.same_replies in
-    once reader_at c.args.self.now.replies c1 (g.R.Port.got c.args.replies.now) (g.R.Port.got c.advance-replied.new.port) same c.advance-replied.ensures.grows.one_got
-
-pub returns-clause-queries_shape : goal.returns-clause-queries_shape
-returns-clause-queries_shape g c = λ l was.
-    let same : c.push_queries-self-inside.new.conveyor.steady ≡ c.args.self.now.queries.steady = ap (λ (t : State). t.steady) c.push_queries-self-inside.ensures.same ∙ ap (λ (m : BiState g.row.A.Denot). m.queries.steady) c.self.view_is in
-    subst (λ b. IsConveyorShape b g.row.CAP (g.P.Port.sent c.advance-asked.new.port l)) same
-    (c.advance-asked.ensures.grows.shape l (subst (λ b. IsConveyorShape b g.row.CAP (g.P.Port.sent c.args.queries.now l)) (sym same) was))
-
-pub returns-clause-replies_shape : goal.returns-clause-replies_shape
-returns-clause-replies_shape g c = λ l was.
-    let same : c.answer_open-refused.new.replies.steady ≡ c.args.self.now.replies.steady = ap (λ (t : State). t.steady) c.answer_open-refused.ensures.answers.same_replies ∙ ap (λ (m : BiState g.row.A.Denot). m.replies.steady) c.self.view_is in
-    subst (λ b. IsConveyorShape b g.row.CAP (g.R.Port.sent c.advance-replied.new.port l)) same
-    (c.advance-replied.ensures.grows.shape l (subst (λ b. IsConveyorShape b g.row.CAP (g.R.Port.sent c.args.replies.now l)) (sym same) was))
-
-pub returns-clause-queries_lie : goal.returns-clause-queries_lie
-returns-clause-queries_lie g c = λ l more below to grew.
-    let e = ap (λ (m : BiState g.row.A.Denot). m.queries) c.self.view_is in
+pub returns-clause-queries : goal.returns-clause-queries
+returns-clause-queries g c =
     let q1 = c.push_queries-self-inside.new.conveyor in
-    let same = subst (λ (q : State). q1 ≡ record q { outs = q1.outs; pulled = q1.pulled }) e c.push_queries-self-inside.ensures.same in
-    lies_left c.args.self.now.queries q1 c.advance-asked.new.self c.answer_open-refused.new.queries (g.P.Port.got c.args.queries.now) (g.P.Port.got c.advance-asked.new.port) same c.answer_open-refused.ensures.answers.fewer
-    c.advance-asked.ensures.asked.lies l more below to grew
+    let same = subst (λ (t : State). q1 ≡ record t { outs = q1.outs; pulled = q1.pulled }) (ap (λ (m : BiState g.row.A.Denot). m.queries) c.self.view_is) c.push_queries-self-inside.ensures.same in
+    let took = c.answer_open-refused.ensures.answers in
+    advances_once g.P.Port _ c.args.self.now.queries q1 c.advance-asked.new.self c.answer_open-refused.new.queries c.args.queries.now c.advance-asked.new.port same c.advance-asked.ensures.stays c.advance-asked.ensures.grows c.advance-asked.ensures.asked took.same took.fewer
 
-pub returns-clause-replies_lie : goal.returns-clause-replies_lie
-returns-clause-replies_lie g c = λ l more below to grew.
-    let e = ap (λ (m : BiState g.row.A.Denot). m.replies) c.self.view_is in
+pub returns-clause-replies : goal.returns-clause-replies
+returns-clause-replies g c =
     let r1 = c.answer_open-refused.new.replies in
-    let same = subst (λ (r : State). r1 ≡ record r { outs = r1.outs; pulled = r1.pulled }) e c.answer_open-refused.ensures.answers.same_replies in
-    lies_left c.args.self.now.replies r1 c.advance-replied.new.self c.hear_all.new.replies (g.R.Port.got c.args.replies.now) (g.R.Port.got c.advance-replied.new.port) same c.hear_all.ensures.hears.fewer
-    c.advance-replied.ensures.asked.lies l more below to grew
+    let same = subst (λ (t : State). r1 ≡ record t { outs = r1.outs; pulled = r1.pulled }) (ap (λ (m : BiState g.row.A.Denot). m.replies) c.self.view_is) c.answer_open-refused.ensures.answers.same_replies in
+    let took = c.hear_all.ensures.hears in
+    advances_once g.R.Port _ c.args.self.now.replies r1 c.advance-replied.new.self c.hear_all.new.replies c.args.replies.now c.advance-replied.new.port same c.advance-replied.ensures.stays c.advance-replied.ensures.grows c.advance-replied.ensures.asked took.same took.fewer
 
 pub returns-clause-stuck : goal.returns-clause-stuck
 returns-clause-stuck g c = on_ok_from c.turn_of.result (λ answer ok start was s1 g1 s2 g2.

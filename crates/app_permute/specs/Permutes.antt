@@ -3,7 +3,7 @@
 -- of their columns, who know the columns' new numbers; and to the owners of their new rows.
 use Rattle.std.specs.Prelude.{ℕ, ◌+◌, ◌-◌, ◌%◌, ◌/◌, ◌^◌, ◌<◌, ◌≡◌, ◌==◌, ◌&&◌, nat_lt, min, Bool, true, false, List}
 use Rattle.std.specs.Prelude.{if◌then◌else◌}
-use Rattle.std.specs.Prelude.{[], ◌∷◌, map, length, slice_index_or, if◌then◌else◌}
+use Rattle.std.specs.Prelude.{[], ◌∷◌, map, length, slice_index_or}
 use Rattle.std.specs.List.{All}
 use Rattle.bale_types.specs.declared.Item.{Item}
 use Rattle.bale_types.specs.declared.triple.Triple.{Triple}

@@ -1,6 +1,6 @@
 -- The lines of a text, or why it isn't read.
 use Rattle.std.specs.Prelude.{ℕ, ◌+◌, ◌≡◌, List, [], ◌∷◌, length, nat_lt, if◌then◌else◌, Option, None, Some, Result, Ok}
-use Rattle.std.specs.Prelude.{Err, if◌then◌else◌}
+use Rattle.std.specs.Prelude.{Err}
 use Rattle.mtx_text.specs.Grammar.{line_after}
 use Rattle.mtx_text.specs.Lines.{pieces}
 use Rattle.app_tally.specs.declared.lines.LinesFault.{LinesFault}

@@ -1,7 +1,7 @@
 -- The levels of a matrix's rows, and the order that they give.
 use Rattle.std.specs.Prelude.{ℕ, zero, suc, ◌==◌, ◌&&◌, Bool, List, [], ◌++◌, Option, None, Some, map, reverse, length}
 use Rattle.std.specs.Prelude.{if◌then◌else◌}
-use Rattle.std.specs.Prelude.{slice_index_or, count_by, if◌then◌else◌}
+use Rattle.std.specs.Prelude.{slice_index_or, count_by}
 use Rattle.std.specs.List.{filter, list_all, range_with_len, position_or_len}
 use Rattle.bale_types.specs.declared.triple.Triple.{Triple}
 

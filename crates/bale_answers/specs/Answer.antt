@@ -1,7 +1,7 @@
 -- What a run answers: a status and the bytes for err, and what out got (`Wrote`).
 use Rattle.std.specs.Prelude.{◌≡◌, ℕ, Bool, List, [], ◌==◌, ◌&&◌, Option, Some, None, is_some, Result, Ok, Err, OnOk}
 use Rattle.std.specs.Prelude.{if◌then◌else◌}
-use Rattle.std.specs.Prelude.{OnErr, if◌then◌else◌}
+use Rattle.std.specs.Prelude.{OnErr}
 use Rattle.bale_types.specs.Stream.{after, IsFront, CountsFaults}
 use Rattle.bale_words.specs.declared.command.Command.{Command}
 use Rattle.bale_words.specs.declared.command.Generated.{Generated}

@@ -2,7 +2,7 @@
 -- first that fails decides.
 use Rattle.std.specs.Prelude.{◌*◌, ◌==◌, ◌&&◌, ◌||◌, Bool, true, false, not, nat_lt, List, [], ◌∷◌, Option, None, Some}
 use Rattle.std.specs.Prelude.{if◌then◌else◌}
-use Rattle.std.specs.Prelude.{is_some, length, if◌then◌else◌}
+use Rattle.std.specs.Prelude.{is_some, length}
 use Rattle.mtx_text.specs.Sparse.{Sparse}
 use Rattle.least_walks.specs.Walks.{no_negative}
 use Rattle.bale_words.specs.declared.command.Command.{Command}

@@ -1,6 +1,6 @@
 -- What was appended to an output buffer, whether the sink has it yet or not.
 use Rattle.std.specs.Prelude.{◌≡◌, ◌<◌, ℕ, ◌+◌, ◌==◌, ◌%◌, if◌then◌else◌, List, length, Option, Result, OnOk, OnErr}
-use Rattle.std.specs.Prelude.{IsOk, take, if◌then◌else◌}
+use Rattle.std.specs.Prelude.{IsOk, take}
 use Rattle.bale_types.specs.Stream.{after, CountsFaults, IsFront}
 use Rattle.bale_types.specs.declared.out.Out.{Out}
 

@@ -1,7 +1,7 @@
 -- What contracts see of a conveyor.
 use Rattle.std.specs.Prelude.{◌≡◌, ℕ, ◌<◌, ◌≤◌, true, List, [], length, Some, None}
 use Rattle.bale_types.specs.declared.item.Item.{Item}
-use Rattle.route_tensor.specs.Grid.{ranks}
+use Rattle.route_tensor.specs.Grid.{ranks, IsGrid}
 use Rattle.route_tensor.specs.Link.{links}
 use Rattle.route_tensor.specs.Ends.{sender_at}
 use Rattle.port_bank.specs.Logs.{Logs}
@@ -14,6 +14,13 @@ use Rattle.convey.specs.Buffers.{buffers_of, out_of}
 use Rattle.convey.specs.Agreement.{Agrees}
 use Rattle.convey.specs.Law.{IsSound}
 use Rattle.convey.specs.Parts.{part_of}
+
+-- What holds of a conveyor for parcels of cap entries at every moment.
+pub record Stands (cap : ℕ) (st : State) : Type 0 where
+  pub grid : IsGrid st.dims
+  pub rank : st.rank < ranks st.dims
+  pub sound : IsSound (buffers_of st)
+  pub cap_is : st.cap ≡ cap
 
 -- A port with these lists agrees with a conveyor.
 abbrev pub AgreesWith : State → Logs → Logs → Type 0

@@ -1,7 +1,7 @@
 //! The conveyor of one rank: what a program pushes, advances and pulls.
 ghost use Rattle.std.specs.Prelude.{◌≡◌, ◌≢◌, ℕ, ◌+◌, ◌<◌, ◌^◌, true, false, [], length, sum, replicate, map, is_some, slice_get, Some, None, IfOk, IfSome, OnOk, IsOk, IsErr, Ok};
 ghost use Rattle.bale_types.specs.declared.item.Entry.{Entry};
-ghost use Rattle.route_tensor.specs.Grid.{ranks, IsGrid};
+ghost use Rattle.route_tensor.specs.Grid.{ranks};
 ghost use Rattle.route_tensor.specs.Link.{links};
 ghost use Rattle.route_tensor.specs.Ends.{hop_at, sender_at, reader_at};
 ghost use Rattle.list_laws.specs.Lists.{Begins};
@@ -11,10 +11,9 @@ ghost use Rattle.route_tensor.specs.Neighbour.{hop_to, neighbour};
 ghost use Rattle.route_tensor.specs.Tag.{IsFair, sender_of};
 ghost use Rattle.std.specs.List.{All};
 ghost use Rattle.port_bank.specs.Machine.Step.{Push, Pull, Unpull, Reset, Idle};
-ghost use Rattle.convey.specs.Buffers.{buffers_of, out_of, in_of};
-ghost use Rattle.convey.specs.Law.{IsSound};
+ghost use Rattle.convey.specs.Buffers.{out_of, in_of};
 ghost use Rattle.convey.specs.Advance.{IsAtPort, StaysAtPort, HasSettled, ListsGrow, WereAsked, WereServed};
-ghost use Rattle.convey.specs.Conveyors.{AgreesWith, HoldsAtMost, IsStepOf, KeepsAgreement, GivesNext, standing_toward};
+ghost use Rattle.convey.specs.Conveyors.{Stands, AgreesWith, HoldsAtMost, IsStepOf, KeepsAgreement, GivesNext, standing_toward};
 ghost use Rattle.convey.specs.Progress.{progress_of};
 ghost use Rattle.item_buffer.specs.Capacity.{IsCap};
 ghost use Rattle.hop_core.specs.Standing.{IsState};
@@ -81,10 +80,7 @@ impl<const CAP: usize, const HOPS: usize> Conveyor<CAP, HOPS> {
     #[inline]
     pub fn phase(&self) -> Phase
         ensures value { result ≡ self.now.phase }
-        ensures grid { IsGrid self.now.dims }
-        ensures rank { self.now.rank < ranks self.now.dims }
-        ensures sound { IsSound (buffers_of self.now) }
-        ensures cap { self.now.cap ≡ CAP }
+        ensures stands { Stands CAP self.now }
     {
         self.state.phase()
     }
@@ -92,10 +88,7 @@ impl<const CAP: usize, const HOPS: usize> Conveyor<CAP, HOPS> {
     /// Does nothing, and tells what holds of a conveyor at every moment.
     #[inline]
     pub fn known(&self)
-        ensures grid { IsGrid self.now.dims }
-        ensures rank { self.now.rank < ranks self.now.dims }
-        ensures sound { IsSound (buffers_of self.now) }
-        ensures cap { self.now.cap ≡ CAP }
+        ensures { Stands CAP self.now }
     {
         self.state.known();
     }

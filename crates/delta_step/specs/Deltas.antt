@@ -1,7 +1,7 @@
 -- sssp by buckets, as a program: delta-stepping after Meyer and Sanders.
 use Rattle.std.specs.Prelude.{ℕ, ◌+◌, ◌-◌, ◌*◌, ◌%◌, ◌/◌, ◌^◌, ◌<◌, ◌≤◌, ◌≡◌, ◌≢◌, ◌==◌, ◌&&◌, ◌||◌, ◌++◌, not, nat_lt}
 use Rattle.std.specs.Prelude.{if◌then◌else◌}
-use Rattle.std.specs.Prelude.{min, Bool, true, false, List, [], ◌∷◌, Option, None, Some, map, length, if◌then◌else◌}
+use Rattle.std.specs.Prelude.{min, Bool, true, false, List, [], ◌∷◌, Option, None, Some, map, length}
 use Rattle.std.specs.List.{All, filter, list_any, range_with_len}
 use Rattle.bale_types.specs.declared.Item.{Item}
 use Rattle.bale_types.specs.declared.triple.Triple.{Triple}

@@ -1,6 +1,6 @@
 -- One rank's links, as contracts see them.
 use Rattle.std.specs.Prelude.{ℕ, ◌-◌, ◌==◌, Bool, false, not, if◌then◌else◌, List, [], ◌∷◌, ◌++◌, length, drop}
-use Rattle.std.specs.Prelude.{slice_get, Option, Some, None, if◌then◌else◌}
+use Rattle.std.specs.Prelude.{slice_get, Option, Some, None}
 use Rattle.bale_types.specs.declared.item.Item.{Item}
 use Rattle.bale_types.specs.declared.item.Tag.{Tag}
 use Rattle.bale_types.specs.declared.item.Entry.{Entry}

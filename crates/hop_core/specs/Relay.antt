@@ -1,6 +1,6 @@
 -- What a rank passes on, by pairs of ranks.
 use Rattle.std.specs.Prelude.{◌≡◌, ◌≢◌, ℕ, Bool, zero, suc, ◌+◌, ◌-◌, ◌==◌, if◌then◌else◌, List, [], ◌∷◌, ◌++◌, length}
-use Rattle.std.specs.Prelude.{take, drop, slice_get, slice_set, slice_index_or, Some, if◌then◌else◌}
+use Rattle.std.specs.Prelude.{◌<◌, sum, take, drop, slice_get, slice_set, slice_index_or, Some}
 use Rattle.std.specs.List.{sum_by}
 use Rattle.bale_types.specs.declared.item.Entry.{Entry}
 use Rattle.bale_types.specs.declared.item.Item.{Item}
@@ -11,7 +11,17 @@ use Rattle.route_tensor.specs.Tag.{digit}
 use Rattle.route_tensor.specs.Pair.{PassesThrough, items_of_pair}
 use Rattle.route_tensor.specs.Routes.{about, passed_on}
 use Rattle.hop_core.specs.Link.{Out, In, no_out, no_in, with_entry, read_on}
+use Rattle.list_laws.specs.Lists.{EachAt}
 use Rattle.hop_core.specs.State.{State}
+use Rattle.hop_core.specs.Standing.{IsOut}
+
+-- What passing on the entries of link in number i asks of the rank's links out: there is a hop after the link's, and
+-- each keeps what a link out of its hop does.
+pub record MayPassOn (dims : List ℕ) (cap i : ℕ) (outs : List Out) : Type 0 where
+  pub number : i < sum dims
+  pub hop : hop_to dims i < length dims
+  pub all : length outs ≡ sum dims
+  pub each : EachAt (λ o out. IsOut dims cap (hop_to dims o) out) outs
 
 -- The number of the link in over which the entries of s come to a rank on hop h, and that of the link out over which
 -- those for d leave it.

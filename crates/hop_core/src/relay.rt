@@ -6,7 +6,7 @@ ghost use Rattle.list_laws.specs.Lists.{EachAt};
 ghost use Rattle.route_tensor.specs.Neighbour.{hop_to};
 ghost use Rattle.hop_core.specs.Link.{no_out, no_in, is_finished, read_on};
 ghost use Rattle.hop_core.specs.Standing.{IsOut, IsIn};
-ghost use Rattle.hop_core.specs.Relay.{PassesOn, held_by, AddsToHop, TakesFromHop, IsStopped, waiting, passed, passed_count, relayed_hop};
+ghost use Rattle.hop_core.specs.Relay.{MayPassOn, PassesOn, held_by, AddsToHop, TakesFromHop, IsStopped, waiting, passed, passed_count, relayed_hop};
 ghost use Rattle.route_tensor.specs.Pair.{PassesThrough};
 ghost use Rattle.hop_core.specs.State.{ins_of_hop};
 ghost use Rattle.std.specs.List.{list_all};
@@ -24,10 +24,7 @@ pub fn relay_link<const CAP: usize>(
     link: &mut InLink<CAP>,
     i: u32,
 ) -> u64
-    requires number { i < sum routes.now.dims }
-    requires hop { hop_to routes.now.dims i < length routes.now.dims }
-    requires all { length outs.old.items ≡ sum routes.now.dims }
-    requires each { EachAt (λ o out. IsOut routes.now.dims CAP (hop_to routes.now.dims o) out) outs.old.items }
+    requires may { MayPassOn routes.now.dims CAP i outs.old.items }
     requires link { IsIn routes.now.dims CAP (hop_to routes.now.dims i) link.old }
     requires not_closed { (o : ℕ) → hop_to routes.now.dims o ≡ hop_to routes.now.dims i + 1
         → 0 < length link.old.parcel.untaken → (slice_index_or outs.old.items o no_out).closed ≡ false }
@@ -58,10 +55,7 @@ fn pass_on<const CAP: usize>(
     link: &InLink<CAP>,
     i: u32,
 ) -> usize
-    requires number { i < sum routes.now.dims }
-    requires hop { hop_to routes.now.dims i < length routes.now.dims }
-    requires all { length outs.old.items ≡ sum routes.now.dims }
-    requires each { EachAt (λ o out. IsOut routes.now.dims CAP (hop_to routes.now.dims o) out) outs.old.items }
+    requires may { MayPassOn routes.now.dims CAP i outs.old.items }
     requires link { IsIn routes.now.dims CAP (hop_to routes.now.dims i) link.now }
     requires not_closed { (o : ℕ) → hop_to routes.now.dims o ≡ hop_to routes.now.dims i + 1
         → 0 < length link.now.parcel.untaken → (slice_index_or outs.old.items o no_out).closed ≡ false }

@@ -1,6 +1,6 @@
 -- The edges of a rank's vertices, those of each vertex together, and the weights that they offer.
 use Rattle.std.specs.Prelude.{ℕ, ◌+◌, ◌%◌, ◌/◌, ◌^◌, ◌==◌, ◌&&◌, nat_le, if◌then◌else◌, ◌++◌, Bool, List, [], ◌∷◌}
-use Rattle.std.specs.Prelude.{Option, None, Some, map, slice_index_or, if◌then◌else◌}
+use Rattle.std.specs.Prelude.{Option, None, Some, map, slice_index_or}
 use Rattle.std.specs.List.{filter, flat_map, range_with_len}
 use Rattle.bale_types.specs.declared.Item.{Item}
 use Rattle.bale_types.specs.declared.triple.Triple.{Triple}

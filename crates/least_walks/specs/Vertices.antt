@@ -1,7 +1,7 @@
 -- The vertices of a rank, each with the least weight found so far, and which of them were improved.
 use Rattle.std.specs.Prelude.{ℕ, suc, Bool, true, false, ◌&&◌, ◌==◌, ◌/◌, min, List, [], ◌∷◌, Option, None, Some}
 use Rattle.std.specs.Prelude.{if◌then◌else◌}
-use Rattle.std.specs.Prelude.{nat_lt, slice_index_or, if◌then◌else◌}
+use Rattle.std.specs.Prelude.{nat_lt, slice_index_or}
 use Rattle.std.specs.List.{fold}
 use Rattle.list_laws.specs.Lists.{changed_at}
 use Rattle.least_walks.specs.declared.vertices.Vertex.{Vertex}

@@ -1,7 +1,6 @@
 -- Ordered maps from places to values, as lists of triples in order.
 use Rattle.std.specs.Prelude.{◌≡◌, ℕ, ◌==◌, ◌&&◌, ◌||◌, Bool, true, List, [], ◌∷◌, Option, Some, None, nat_lt}
 use Rattle.std.specs.Prelude.{if◌then◌else◌}
-use Rattle.std.specs.Prelude.{if◌then◌else◌}
 use Rattle.std.specs.Int.{int_max}
 use Rattle.std.specs.List.{AllPairs, fold, flat_map}
 use Rattle.bale_types.specs.declared.triple.Triple.{Triple}

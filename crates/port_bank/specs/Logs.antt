@@ -1,7 +1,6 @@
 -- Link logs: all parcels that were ever posted on a link, or all that its reader collected, in order.
 use Rattle.std.specs.Prelude.{◌≡◌, ℕ, zero, suc, ◌+◌, ◌==◌, Bool, true, List, [], ◌∷◌, ◌++◌, length, take}
 use Rattle.std.specs.Prelude.{if◌then◌else◌}
-use Rattle.std.specs.Prelude.{if◌then◌else◌}
 use Rattle.std.specs.List.{filter}
 use Rattle.list_laws.specs.Lists.{EachAt}
 use Rattle.item_buffer.specs.Contents.{Shipped}

@@ -89,11 +89,13 @@ pub record IsPortOf {P : Type 0} {cap : ℕ} {M : Type 0} (G : Ghosts P cap M) (
 -- What a turn makes of one way, of queries or of replies: it advances once.
 -- grows: its lists only grow, each by one parcel at most, and of the conveyor's shape.
 -- lie: an inbox holds at most what it held and what came.
-pub record AdvancesOnce {P : Type 0} {cap : ℕ} {M : Type 0} (G : Ghosts P cap M) (c c' : State) (port port' : P) : Type 0 where
+pub record AdvancesOnce {P : Type 0} {cap : ℕ} {M : Type 0} (G : Ghosts P cap M) (c c' : State)
+    (port port' : P) : Type 0 where
   pub steady : c'.steady ≡ c.steady
   pub same_port : SamePort G port port'
   pub grows : ListsGrow G c port port'
-  pub lie : (l : ℕ) (more : List Shipped) → l < links c.dims → reader_at c.dims l ≡ c.rank → G.got port' l ≡ G.got port l ++ more
+  pub lie : (l : ℕ) (more : List Shipped) → l < links c.dims → reader_at c.dims l ≡ c.rank
+      → G.got port' l ≡ G.got port l ++ more
       → length (in_of c' l).parcel.untaken ≤ length (in_of c l).parcel.untaken + length (flat_map (λ p. p.entries) more)
 
 -- What a turn that takes a rank from n to n' asks: it pushes the queries from number n.next on, up to number n'.next.

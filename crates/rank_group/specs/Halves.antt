@@ -1,7 +1,7 @@
 -- How far ranks over exstacks are, in rounds over all epochs and in halves of rounds.
 use Rattle.std.specs.Prelude.{◌≡◌, ◌⊎◌, ℕ, zero, suc, ◌+◌, ◌*◌, ◌<◌, ◌≤◌, ⊤, Bool, true, false, ◌||◌, ◌==◌, List}
 use Rattle.std.specs.Prelude.{if◌then◌else◌}
-use Rattle.std.specs.Prelude.{length, Option, None, Some, slice_get, if◌then◌else◌}
+use Rattle.std.specs.Prelude.{length, Option, None, Some, slice_get}
 use Rattle.list_laws.specs.Sums.{total}
 use Rattle.port_bank.specs.Logs.{Logs}
 use Rattle.exstack.specs.State.{Stack, out_at, is_proceeding, is_exchanging}

@@ -1,7 +1,6 @@
 -- The ranks of a run, each a node, and what a turn leaves of one.
 use Rattle.std.specs.Prelude.{◌≡◌, ◌⊎◌, ℕ, ◌+◌, ◌<◌, ◌≤◌, ◌==◌, Bool, true, false, List, ◌++◌, length, slice_get, Some}
 use Rattle.std.specs.Prelude.{if◌then◌else◌}
-use Rattle.std.specs.Prelude.{if◌then◌else◌}
 use Rattle.std.specs.List.{All, flat_map}
 use Rattle.item_buffer.specs.Contents.{Shipped}
 use Rattle.route_tensor.specs.Grid.{ranks, IsGrid}

@@ -1,7 +1,7 @@
 -- All ranks of a drive over one plain bank, and what a sweep over them leaves.
 use Rattle.std.specs.Prelude.{◌≡◌, ◌⊎◌, ⊤, true, ℕ, ◌+◌, ◌-◌, ◌^◌, ◌<◌, ◌≤◌, false, List, [], length, Option, Some}
 use Rattle.std.specs.Prelude.{if◌then◌else◌}
-use Rattle.std.specs.Prelude.{None, slice_get, if◌then◌else◌}
+use Rattle.std.specs.Prelude.{None, slice_get}
 use Rattle.std.specs.List.{flat_map}
 use Rattle.bale_types.specs.declared.item.Entry.{Entry}
 use Rattle.item_buffer.specs.Contents.{Shipped}

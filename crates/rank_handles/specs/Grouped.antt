@@ -1,7 +1,7 @@
 -- What contracts see of a group, and of a rank that was just made.
 use Rattle.std.specs.Prelude.{◌≡◌, ℕ, ◌==◌, ◌||◌, not, is_some, Bool, true, false, List, [], ◌∷◌, sum, replicate}
 use Rattle.std.specs.Prelude.{if◌then◌else◌}
-use Rattle.std.specs.Prelude.{slice_set, None, nat_lt, slice_index_or, if◌then◌else◌, Result, Ok, Err}
+use Rattle.std.specs.Prelude.{slice_set, None, nat_lt, slice_index_or, Result, Ok, Err}
 use Rattle.item_buffer.specs.Capacity.{is_capacity}
 use Rattle.route_tensor.specs.Grid.{ranks}
 use Rattle.route_tensor.specs.Refusal.{refusal}

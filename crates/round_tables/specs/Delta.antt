@@ -1,7 +1,7 @@
 -- The rounds of sssp by buckets: each is a step of delta-stepping over the whole graph.
 use Rattle.std.specs.Prelude.{◌≡◌, ◌⊎◌, ◌≤◌, ◌<◌, ◌+◌, ◌*◌, ◌%◌, ◌==◌, ◌&&◌, ◌||◌, not, ℕ, nat_abs, nat_le, Bool, true}
 use Rattle.std.specs.Prelude.{if◌then◌else◌}
-use Rattle.std.specs.Prelude.{false, List, [], Option, Some, None, Contains, map, if◌then◌else◌}
+use Rattle.std.specs.Prelude.{false, List, [], Option, Some, None, Contains, map}
 use Rattle.std.specs.List.{filter, flat_map, fold, list_any, range_with_len}
 use Rattle.bale_types.specs.declared.Item.{Item}
 use Rattle.bale_types.specs.declared.triple.Triple.{Triple}

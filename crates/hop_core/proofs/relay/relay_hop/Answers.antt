@@ -22,20 +22,13 @@ relay_link-count-requires g c =
       (
         omega arith,
         (
-          q,
-          (
-            omega (arith, hop, c.requires.last),
-            (
-              c.loop-i.invariant.relaying.all_outs,
-              (
-                c.loop-i.invariant.relaying.each_out,
-                (
-                  x,
-                  link_open _ _ _ _ _ _ _ _ _ _ _ q hop c.requires.all_ins c.loop-i.invariant.relaying c.index_mut.ensures.value,
-                ),
-              ),
-            ),
-          ),
+          record {
+            number = q;
+            hop = omega (arith, hop, c.requires.last);
+            all = c.loop-i.invariant.relaying.all_outs;
+            each = c.loop-i.invariant.relaying.each_out;
+          },
+          (x, link_open _ _ _ _ _ _ _ _ _ _ _ q hop c.requires.all_ins c.loop-i.invariant.relaying c.index_mut.ensures.value),
         ),
       ),
     )

@@ -5,8 +5,9 @@ use Rattle.hop_core.specs.Standing.{IsState}
 use Rattle.convey.proofs.Completes.{is_sound}
 use Rattle.convey.proofs.conveyor.Conveyor.known.Goals as goal
 
-pub returns-clause-sound : goal.returns-clause-sound
-returns-clause-sound g c =
+pub returns : goal.returns
+returns g c =
     let now : State = c.args.self.now in
     let s : IsState now = subst IsState c.self.view_is c.known.ensures.standing in
-    is_sound now s (subst (λ (t : State). t.phase ≡ Complete → phase_of t ≡ Complete) c.self.view_is c.self.invariant.complete)
+    let sound = is_sound now s (subst (λ (t : State). t.phase ≡ Complete → phase_of t ≡ Complete) c.self.view_is c.self.invariant.complete) in
+    record { grid = search rules; rank = search rules; sound = sound; cap_is = search rules }

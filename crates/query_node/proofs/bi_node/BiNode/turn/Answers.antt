@@ -238,7 +238,7 @@ returns-clause-kept g c = λ start was.
       stays = λ e. ap (λ (t : State). t.phase) (c.advance-replied.ensures.complete e) ∙ e;
       step = c.advance-replied.ensures.stays.step;
     } in
-    turned T laws start inside qs qg rs rg is g.row.CAP next count q1 push counted q2 qs' qg' adv q3 r1 ans over is_over r2 rs' rg' adv' c.hear_all.new.replies c.hear_all.new.asker.value c.hear_all.new.lines.items c.hear_all.ensures.hears c.hear_all.ensures.read c.phase.ensures.sound c.known-2.ensures.sound
+    turned T laws start inside qs qg rs rg is g.row.CAP next count q1 push counted q2 qs' qg' adv q3 r1 ans over is_over r2 rs' rg' adv' c.hear_all.new.replies c.hear_all.new.asker.value c.hear_all.new.lines.items c.hear_all.ensures.hears c.hear_all.ensures.read c.phase.ensures.stands.sound c.known-2.ensures.sound
 
 pub returns-clause-unasked : goal.returns-clause-unasked
 returns-clause-unasked g c =
@@ -395,7 +395,7 @@ returns-clause-stuck g c = on_ok_from c.turn_of.result (λ answer ok start was s
     subst (λ (m : BiState g.row.A.Denot). IsStuck m n' old new known) c.self.view_is
     (stuck T inside (asks_of T inside.asker) g.row.CAP next (next == count) over c.hear_all.new.asker.value c.hear_all.new.lines.items q1 q2 q3 r1 r2 c.hear_all.new.replies c.answer_open-refused.result old new known
     push done_is (agrees1 T laws start inside qs qg rs rg is g.row.CAP next count q1 push counted) adv served ans c.answer_open-refused.ensures.read c.answer_open-refused.ensures.refused (agrees3 T laws start inside qs qg rs rg is g.row.CAP next count q1 push counted q2 qs' qg' adv q3 r1 ans) is_over adv' served'
-    c.hear_all.ensures.hears c.phase.ensures.grid c.phase.ensures.rank c.known-2.ensures.grid c.known-2.ensures.rank s1 g1 s2 g2))
+    c.hear_all.ensures.hears c.phase.ensures.stands.grid c.phase.ensures.stands.rank c.known-2.ensures.grid c.known-2.ensures.rank s1 g1 s2 g2))
 
 pub returns-clause-between : goal.returns-clause-between
 returns-clause-between g c =

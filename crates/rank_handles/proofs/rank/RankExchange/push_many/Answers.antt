@@ -30,5 +30,5 @@ returns-clause-pushes g c =
       full = λ _ less.
           let place : n < length to = omega (arith, less, c.requires.same) in
           push_full (at seat b) (get_or to n 0) (ap (λ (z : State). z.phase) same ∙ working) (rank_at (ranks b.dims) to n place (subst (λ m. all_ranks m to ≡ true) (sym dims) all))
-          (omega (arith, c.push_while_room.ensures.full less, cap, c.phase.ensures.cap));
+          (omega (arith, c.push_while_room.ensures.full less, cap, c.phase.ensures.stands.cap_is));
     })

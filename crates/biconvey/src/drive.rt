@@ -13,6 +13,7 @@ ghost use Rattle.rank_group.specs.Rounds.{round_of};
 ghost use Rattle.biconvey.specs.Worlds.{turns_of};
 ghost use Rattle.biconvey.specs.Drives.{AreAskers, askers_of};
 ghost use Rattle.biconvey.specs.Driven.{HasExchanged, HasSweptBoth};
+ghost use Rattle.rank_node.specs.Fits.{FitsGrid};
 
 use crate::nodes::{nodes_of, take_askers};
 use crate::running::run_all;
@@ -43,8 +44,7 @@ pub fn drive_both<const CAP: usize, const HOPS: usize, A: Asker, L: Ledger>(
     askers: Progs<A>,
     steps: &mut Steps<L>,
 ) -> Result<Finished<A>, NoMemory>
-    requires cap { IsCap CAP }
-    requires hops { length grid.now ≡ HOPS }
+    requires fits { FitsGrid CAP HOPS grid.now }
     requires slots { IsSlots slots }
     requires order { IsOrder (ranks grid.now) order.now }
     requires askers { AreAskers A.talk (ranks grid.now) askers }

@@ -1,9 +1,9 @@
 //! The ranks of an exchange, as it begins and ends.
 
-ghost use Rattle.std.specs.Prelude.{◌≡◌, ◌<◌, length, IfOk};
-ghost use Rattle.item_buffer.specs.Capacity.{IsCap};
+ghost use Rattle.std.specs.Prelude.{◌≡◌, ◌<◌, IfOk};
 ghost use Rattle.route_tensor.specs.Grid.{ranks};
 ghost use Rattle.biconvey.specs.Drives.{AreAskers, AreFresh, askers_of};
+ghost use Rattle.rank_node.specs.Fits.{FitsGrid};
 
 use bale_types::NoMemory;
 use query_node::BiNode;
@@ -19,8 +19,7 @@ pub(crate) fn nodes_of<const CAP: usize, const HOPS: usize, A: Asker>(
     steady: bool,
     askers: Progs<A>,
 ) -> Result<Vec<BiNode<A, CAP, HOPS>>, NoMemory>
-    requires cap { IsCap CAP }
-    requires hops { length grid.now ≡ HOPS }
+    requires fits { FitsGrid CAP HOPS grid.now }
     requires askers { AreAskers A.talk (ranks grid.now) askers }
     ensures { IfOk result (λ all. AreFresh A.talk grid.now steady askers all.items) }
 {

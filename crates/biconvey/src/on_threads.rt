@@ -1,11 +1,11 @@
 //! One call that drives an exchange of queries and replies on threads.
 
-ghost use Rattle.std.specs.Prelude.{◌≡◌, ℕ, ◌<◌, true, length, IfOk, OnOk};
-ghost use Rattle.item_buffer.specs.Capacity.{IsCap};
+ghost use Rattle.std.specs.Prelude.{◌≡◌, ℕ, ◌<◌, true, IfOk, OnOk};
 ghost use Rattle.route_tensor.specs.Grid.{ranks};
 ghost use Rattle.port_bank.specs.Port.{IsSlots};
 ghost use Rattle.biconvey.specs.Drives.{AreAskers};
 ghost use Rattle.biconvey.specs.Driven.{HasExchanged};
+ghost use Rattle.rank_node.specs.Fits.{FitsGrid};
 
 use crate::nodes::{nodes_of, take_askers};
 use crate::seating::{gather_all, seat_all};
@@ -43,8 +43,7 @@ pub fn thread_both<
     askers: Progs<A>,
     gate: &G,
 ) -> Result<Finished<A>, NoMemory>
-    requires cap { IsCap CAP }
-    requires hops { length grid.now ≡ HOPS }
+    requires fits { FitsGrid CAP HOPS grid.now }
     requires slots { IsSlots slots }
     requires askers { AreAskers A.talk (ranks grid.now) askers }
     ensures exchanged { IfOk result (HasExchanged A.talk askers
@@ -80,8 +79,7 @@ pub fn thread_with<
     crews: usize,
     threads: usize,
 ) -> Result<Finished<A>, NoMemory>
-    requires cap { IsCap CAP }
-    requires hops { length grid.now ≡ HOPS }
+    requires fits { FitsGrid CAP HOPS grid.now }
     requires slots { IsSlots slots }
     requires askers { AreAskers A.talk (ranks grid.now) askers }
     ensures exchanged { IfOk result (HasExchanged A.talk askers

@@ -1,6 +1,6 @@
 //! The drive on one thread, by capacity and hops.
 
-ghost use Rattle.std.specs.Prelude.{◌≡◌, ◌+◌, ◌≤◌, false, length, IfOk};
+ghost use Rattle.std.specs.Prelude.{◌+◌, ◌≤◌, false, length, IfOk};
 ghost use Rattle.std.specs.List.{sum_by};
 ghost use Rattle.route_tensor.specs.Grid.{ranks};
 ghost use Rattle.port_bank.specs.Port.{IsSlots};

@@ -1,11 +1,11 @@
 //! Askers by hand, and on grids of one to three hops with every kind of buffer.
 
-ghost use Rattle.std.specs.Prelude.{◌≡◌, ◌<◌, ◌^◌, length, IfOk};
-ghost use Rattle.item_buffer.specs.Capacity.{IsCap};
+ghost use Rattle.std.specs.Prelude.{◌<◌, ◌^◌, IfOk};
 ghost use Rattle.std.specs.List.{All};
 ghost use Rattle.drive_tests.specs.Adders.{adder_talk};
 ghost use Rattle.biconvey.specs.Drives.{AreAskers};
 ghost use Rattle.rank_node.specs.Ledgers.{IsBlankOf};
+ghost use Rattle.rank_node.specs.Fits.{FitsGrid};
 
 use crate::adder::Adder;
 use crate::serial_tests::order_of;
@@ -83,8 +83,7 @@ fn ask<const CAP: usize, const HOPS: usize, L: Ledger>(
     steady: bool,
     steps: &mut Steps<L>,
 ) -> Result<Told, NoMemory>
-    requires cap { IsCap CAP }
-    requires hops { length grid.now ≡ HOPS }
+    requires fits { FitsGrid CAP HOPS grid.now }
 {
     let ranks = grid.ranks();
     let askers = adders_of(alloc, ranks, ranks)?;

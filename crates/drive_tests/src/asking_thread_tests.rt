@@ -1,8 +1,8 @@
 //! Askers on threads, by hand and on grids of one to three hops, and with every rank kept by the caller.
 
-ghost use Rattle.std.specs.Prelude.{◌≡◌, ◌<◌, length};
-ghost use Rattle.item_buffer.specs.Capacity.{IsCap};
+ghost use Rattle.std.specs.Prelude.{◌<◌};
 ghost use Rattle.item_buffer.specs.Capacity.{IsCapacity};
+ghost use Rattle.rank_node.specs.Fits.{FitsGrid};
 
 use crate::asking_tests::{Told, adders_of, have_heard};
 use crate::gates::TestGate;
@@ -65,8 +65,7 @@ fn ask_here<const CAP: usize, const HOPS: usize, R: Threads + Wait + Clock + Syn
     crews: usize,
     threads: usize,
 ) -> Result<Told, NoMemory>
-    requires cap { IsCap CAP }
-    requires hops { length grid.now ≡ HOPS }
+    requires fits { FitsGrid CAP HOPS grid.now }
 {
     let askers = adders_of(alloc, grid.ranks(), grid.ranks())?;
     let Finished { progs, rounds } = thread_with::<CAP, HOPS, R, _, TestGate<'_>>(

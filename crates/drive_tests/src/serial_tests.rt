@@ -7,6 +7,7 @@ ghost use Rattle.round_program.specs.Canonical.{InRound, items_at};
 ghost use Rattle.round_examples.specs.Counts.{count_rules};
 ghost use Rattle.rank_group.specs.Ranks.{IsOrder};
 ghost use Rattle.rank_node.specs.Ledgers.{IsBlankOf};
+ghost use Rattle.rank_node.specs.Fits.{FitsGrid};
 
 use bale_types::NoMemory;
 use rank_group::{Finished, Steps, Via, drive_serial};
@@ -100,8 +101,7 @@ fn count<const CAP: usize, const HOPS: usize, L: Ledger>(
     reversed: bool,
     steps: &mut Steps<L>,
 ) -> Result<Told, NoMemory>
-    requires cap { IsCap CAP }
-    requires hops { length grid.now ≡ HOPS }
+    requires fits { FitsGrid CAP HOPS grid.now }
     requires one_hop { via ≡ Via.Exstack → length grid.now ≡ 1 }
     ensures few_by_conveyor { via ≡ Via.Convey → grid.now ≡ 1 ∷ [] → steps.new ≤ steps.old + 26 }
     ensures few_by_exstack { via ≡ Via.Exstack → grid.now ≡ 1 ∷ [] → steps.new ≤ steps.old + 36 }

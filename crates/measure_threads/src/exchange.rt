@@ -4,6 +4,7 @@ ghost use Rattle.item_buffer.specs.Capacity.{IsCap};
 ghost use Rattle.std.specs.List.{All};
 ghost use Rattle.round_program.specs.Canonical.{InRound};
 ghost use Rattle.round_examples.specs.Traffics.{traffic_rules};
+ghost use Rattle.rank_node.specs.Fits.{FitsGrid};
 
 use crate::command::{Buffer, Command};
 use crate::stop_watch::{StopWatch, Timed};
@@ -71,8 +72,7 @@ fn measured<const CAP: usize, const HOPS: usize, R: Threads + Wait + Clock + Syn
     alloc: Global,
     command: &Command,
 ) -> Result<Rate, NoMemory>
-    requires cap { IsCap CAP }
-    requires hops { length command.now.grid ≡ HOPS }
+    requires fits { FitsGrid CAP HOPS command.now.grid }
 {
     let watch = StopWatch::new(rt);
     let ranks = command.grid.ranks();

@@ -1,12 +1,12 @@
 //! A rank that asks, answers and hears.
 
 ghost use Rattle.std.specs.Prelude.{◌≡◌, ◌≢◌, ℕ, ◌+◌, ◌<◌, ◌==◌, ◌&&◌, false, [], length, IfOk, OnOk, IsOk, Ok};
-ghost use Rattle.item_buffer.specs.Capacity.{IsCap};
 ghost use Rattle.route_tensor.specs.Grid.{ranks};
 ghost use Rattle.convey.specs.Buffers.{in_of, is_complete};
 ghost use Rattle.round_program.specs.Replies.{asks_of};
 ghost use Rattle.query_node.specs.States.{BiState, IsBiNode, IsFirst, IsPortOf, AdvancesOnce, HasAsked, HasAnswered};
 ghost use Rattle.query_node.specs.Still.{IsStuck};
+ghost use Rattle.rank_node.specs.Fits.{FitsGrid};
 
 use crate::answering::{answer_open, is_over};
 use crate::asking::push_queries;
@@ -52,8 +52,7 @@ impl<A, const CAP: usize, const HOPS: usize> Model for BiNode<A, CAP, HOPS> {
 impl<A: Asker, const CAP: usize, const HOPS: usize> BiNode<A, CAP, HOPS> {
     /// A rank that hasn't turned.
     pub fn new(alloc: Global, grid: &Grid, asker: A, steady: bool) -> Result<Self, NoMemory>
-        requires cap { IsCap CAP }
-        requires hops { length grid.now ≡ HOPS }
+        requires fits { FitsGrid CAP HOPS grid.now }
         requires rank { A.talk.rank asker < ranks grid.now }
         requires all_ranks { A.talk.ranks asker ≡ ranks grid.now }
         ensures node { IfOk result (λ n. IsBiNode A.talk asker n (λ l. []) (λ l. []) (λ l. []) (λ l. [])) }
@@ -207,8 +206,7 @@ fn begun<const CAP: usize, const HOPS: usize>(
     rank: u32,
     steady: bool,
 ) -> Result<Conveyor<CAP, HOPS>, NoMemory>
-    requires cap { IsCap CAP }
-    requires hops { length grid.now ≡ HOPS }
+    requires fits { FitsGrid CAP HOPS grid.now }
     requires rank { rank < ranks grid.now }
     ensures { IfOk result (λ c. IsFirst grid.now rank steady c) }
 {

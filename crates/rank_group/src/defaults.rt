@@ -1,6 +1,5 @@
 //! Drives of which a caller says no more than what is driven.
-ghost use Rattle.std.specs.Prelude.{◌≡◌, ◌<◌, true, length, IfOk};
-ghost use Rattle.item_buffer.specs.Capacity.{IsCap};
+ghost use Rattle.std.specs.Prelude.{◌≡◌, ◌<◌, true, IfOk};
 ghost use Rattle.std.specs.List.{range_with_len};
 ghost use Rattle.port_bank.specs.Port.{IsSlots};
 ghost use Rattle.rank_node.specs.Movers.{manner_of};
@@ -8,6 +7,7 @@ ghost use Rattle.rank_group.specs.Ranks.{IsOrder};
 ghost use Rattle.rank_group.specs.Driven.{MayRun, HasFinished};
 ghost use Rattle.rank_group.specs.Defaults.{count_of, usual, HasDriven};
 ghost use Rattle.rank_node.specs.Ledgers.{IsBlankOf};
+ghost use Rattle.rank_node.specs.Fits.{FitsGrid};
 
 use crate::drive::{Finished, drive_serial};
 use crate::threads::drive_threads;
@@ -80,8 +80,7 @@ pub fn drive_in_turn<const CAP: usize, const HOPS: usize, Q: Program>(
     settings: Settings,
     progs: Progs<Q>,
 ) -> Result<Finished<Q>, NoMemory>
-    requires cap { IsCap CAP }
-    requires hops { length grid.now ≡ HOPS }
+    requires fits { FitsGrid CAP HOPS grid.now }
     requires run { MayRun Q.rules grid.now settings.via progs }
     ensures { IfOk result (HasDriven Q.rules CAP grid.now settings progs) }
 {
@@ -181,8 +180,7 @@ pub fn drive_on_threads<
     settings: Settings,
     progs: Progs<Q>,
 ) -> Result<Finished<Q>, NoMemory>
-    requires cap { IsCap CAP }
-    requires hops { length grid.now ≡ HOPS }
+    requires fits { FitsGrid CAP HOPS grid.now }
     requires run { MayRun Q.rules grid.now settings.via progs }
     ensures { IfOk result (HasFinished Q.rules progs
         (record { dims = grid.now; cap = CAP; slots = count_of settings.slots; by_slots = true })

@@ -1,11 +1,11 @@
 //! One call that drives all ranks of a grid on one thread.
-ghost use Rattle.std.specs.Prelude.{◌≡◌, ◌<◌, false, length, IfOk};
-ghost use Rattle.item_buffer.specs.Capacity.{IsCap};
+ghost use Rattle.std.specs.Prelude.{◌<◌, false, IfOk};
 ghost use Rattle.route_tensor.specs.Grid.{ranks};
 ghost use Rattle.port_bank.specs.Port.{IsSlots};
 ghost use Rattle.rank_node.specs.Movers.{manner_of};
 ghost use Rattle.rank_group.specs.Ranks.{IsOrder};
 ghost use Rattle.rank_group.specs.Driven.{MayRun, HasFinished, HasSwept, WithinTurns};
+ghost use Rattle.rank_node.specs.Fits.{FitsGrid};
 
 use crate::closed_round::{ClosedRound, Rounds};
 use crate::closes::closes_laws;
@@ -42,8 +42,7 @@ pub fn drive_serial<const CAP: usize, const HOPS: usize, Q: Program, L: Ledger>(
     progs: Progs<Q>,
     steps: &mut Steps<L>,
 ) -> Result<Finished<Q>, NoMemory>
-    requires cap { IsCap CAP }
-    requires hops { length grid.now ≡ HOPS }
+    requires fits { FitsGrid CAP HOPS grid.now }
     requires slots { IsSlots slots }
     requires order { IsOrder (ranks grid.now) order.now }
     requires run { MayRun Q.rules grid.now via progs }

@@ -1,10 +1,10 @@
 //! The ranks of a drive, as it begins and ends.
 ghost use Rattle.std.specs.Prelude.{◌≡◌, ℕ, ◌<◌, List, length, IfOk};
-ghost use Rattle.item_buffer.specs.Capacity.{IsCap};
 ghost use Rattle.route_tensor.specs.Grid.{ranks};
 ghost use Rattle.round_program.specs.Canonical.{InRound};
 ghost use Rattle.rank_node.specs.Movers.{manner_of};
 ghost use Rattle.rank_group.specs.Drives.{progs_of, AreFresh};
+ghost use Rattle.rank_node.specs.Fits.{FitsGrid};
 
 use crate::list_parts::one_by_one;
 use crate::sweeping::Rank;
@@ -22,8 +22,7 @@ pub(crate) fn ranks_of<const CAP: usize, const HOPS: usize, Q: Program>(
     steady: bool,
     progs: Progs<Q>,
 ) -> Result<Vec<Rank<Q, CAP, HOPS>>, NoMemory>
-    requires cap { IsCap CAP }
-    requires hops { length grid.now ≡ HOPS }
+    requires fits { FitsGrid CAP HOPS grid.now }
     requires one_hop { via ≡ Via.Exstack → length grid.now ≡ 1 }
     requires begins { (shape : List ℕ) × (most : ℕ) × InRound Q.rules (ranks grid.now) 0 shape most progs }
     ensures fresh { IfOk result (λ all. AreFresh Q.rules grid.now CAP (manner_of via steady) progs all.items) }

@@ -1,9 +1,9 @@
 //! One call that drives all ranks of a grid on threads.
-ghost use Rattle.std.specs.Prelude.{◌≡◌, ◌<◌, true, length, IfOk, OnOk};
-ghost use Rattle.item_buffer.specs.Capacity.{IsCap};
+ghost use Rattle.std.specs.Prelude.{◌<◌, true, IfOk, OnOk};
 ghost use Rattle.port_bank.specs.Port.{IsSlots};
 ghost use Rattle.rank_node.specs.Movers.{manner_of};
 ghost use Rattle.rank_group.specs.Driven.{MayRun, HasFinished, ToldOfTurns};
+ghost use Rattle.rank_node.specs.Fits.{FitsGrid};
 
 use crate::closed_round::{ClosedRound, Rounds};
 use crate::closes::closes_laws;
@@ -49,8 +49,7 @@ pub fn drive_threads<
     progs: Progs<Q>,
     gate: &G,
 ) -> Result<Finished<Q>, NoMemory>
-    requires cap { IsCap CAP }
-    requires hops { length grid.now ≡ HOPS }
+    requires fits { FitsGrid CAP HOPS grid.now }
     requires slots { IsSlots slots }
     requires run { MayRun Q.rules grid.now via progs }
     ensures finished { IfOk result (HasFinished Q.rules progs
@@ -87,8 +86,7 @@ pub fn drive_with<
     crews: usize,
     threads: usize,
 ) -> Result<Finished<Q>, NoMemory>
-    requires cap { IsCap CAP }
-    requires hops { length grid.now ≡ HOPS }
+    requires fits { FitsGrid CAP HOPS grid.now }
     requires slots { IsSlots slots }
     requires run { MayRun Q.rules grid.now via progs }
     ensures finished { IfOk result (HasFinished Q.rules progs

@@ -1,5 +1,5 @@
 -- Calls of many items, as so many single ones.
-use Rattle.std.specs.Prelude.{◌≡◌, ◌≢◌, ◌<◌, ℕ, zero, suc, Bool, ⊤, List, [], ◌∷◌, ◌++◌, length, slice_index_or, nat_lt}
+use Rattle.std.specs.Prelude.{◌≡◌, ◌≢◌, ◌<◌, ℕ, zero, suc, Bool, ⊤, List, [], ◌∷◌, ◌++◌, length, drop, slice_index_or, nat_lt}
 use Rattle.std.specs.Prelude.{if◌then◌else◌}
 use Rattle.std.specs.Prelude.{Result, Ok, Err, ℤ, pos, negsuc}
 use Rattle.std.specs.List.{list_all}
@@ -29,6 +29,11 @@ steps_of make (suc n) (x ∷ items) (r ∷ to) = make r (item_of x) ∷ steps_of
 -- The step of the call that found no room, or no item, where fewer than all were moved.
 abbrev pub then_idle : ℕ → ℕ → List Step
 then_idle n most = if nat_lt n most then Idle ∷ [] else []
+
+-- Past the first n places, what items and senders a call was given is as it was.
+pub record SamePast (n : ℕ) (items items' : List BaleItem) (from from' : List ℕ) : Type 0 where
+  pub items_are : drop n items' ≡ drop n items
+  pub from_are : drop n from' ≡ drop n from
 
 -- What steps, one after the other, make of a rank's part, and whether it may make them.
 unfoldable pub after_all : List Step → Part → Part

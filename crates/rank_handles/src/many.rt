@@ -1,10 +1,10 @@
 //! Many items at a conveyor, as so many single calls.
-ghost use Rattle.std.specs.Prelude.{◌≡◌, ◌≢◌, ◌+◌, ◌<◌, ◌≤◌, ◌++◌, ◌∷◌, [], true, false, None, Some, length, drop, slice_index_or};
+ghost use Rattle.std.specs.Prelude.{◌≡◌, ◌≢◌, ◌+◌, ◌<◌, ◌≤◌, ◌++◌, ◌∷◌, [], true, false, None, Some, length, slice_index_or};
 ghost use Rattle.route_tensor.specs.Grid.{ranks};
 ghost use Rattle.port_bank.specs.Machine.Step.{Push, Pull, Idle};
 ghost use Rattle.hop_core.specs.State.{State, in_at, lowest_unread, pulls};
 ghost use Rattle.convey.specs.Conveyors.{standing_toward};
-ghost use Rattle.rank_handles.specs.Many.{steps_of, then_idle, all_ranks};
+ghost use Rattle.rank_handles.specs.Many.{steps_of, then_idle, all_ranks, SamePast};
 ghost use Rattle.rank_handles.specs.Kept.{RunOf};
 
 use crate::item::{BaleItem, bale_item_from, item_from};
@@ -63,8 +63,7 @@ pub(crate) fn pull_while_some<const CAP: usize, const HOPS: usize>(
         conveyor.old conveyor.new }
     ensures few { result ≤ length items.old }
     ensures none { result < length items.old → lowest_unread conveyor.new ≡ None }
-    ensures other_items { drop result items.new ≡ drop result items.old }
-    ensures other_from { drop result from.new ≡ drop result from.old }
+    ensures past { SamePast result items.old items.new from.old from.new }
 {
     let mut count = 0;
     while count < items.len() {
@@ -93,8 +92,7 @@ fn pull_batch<const CAP: usize, const HOPS: usize>(
     ensures from { length from.new ≡ length from.old }
     ensures more { start < result }
     ensures few { result ≤ length items.old }
-    ensures other_items { drop result items.new ≡ drop result items.old }
-    ensures other_from { drop result from.new ≡ drop result from.old }
+    ensures past { SamePast result items.old items.new from.old from.new }
     ensures pulled { (st : State) → RunOf (steps_of Pull start items.old from.old ++ Idle ∷ []) st conveyor.old
         → RunOf (steps_of Pull result items.new from.new) st conveyor.new }
 {
@@ -124,8 +122,7 @@ fn copy_batch<const CAP: usize, const HOPS: usize>(
     requires room { start + count ≤ length items.old }
     ensures items { length items.new ≡ length items.old }
     ensures from { length from.new ≡ length from.old }
-    ensures other_items { drop (start + count) items.new ≡ drop (start + count) items.old }
-    ensures other_from { drop (start + count) from.new ≡ drop (start + count) from.old }
+    ensures past { SamePast (start + count) items.old items.new from.old from.new }
     ensures pulled { (st : State) → RunOf (steps_of Pull start items.old from.old ++ Idle ∷ []) st conveyor.now
         → RunOf (steps_of Pull (start + count) items.new from.new ++ then_idle count 1) st (pulls count conveyor.now) }
 {

@@ -1,3 +1,4 @@
+pub mod Fits
 pub mod Sending
 pub mod Runs
 pub mod Movers

@@ -1,6 +1,5 @@
 //! A rank whose items travel by a conveyor.
-ghost use Rattle.std.specs.Prelude.{◌≡◌, ◌≢◌, ◌^◌, ◌<◌, false, length, IfOk, IsOk, OnOk, Ok};
-ghost use Rattle.item_buffer.specs.Capacity.{IsCap};
+ghost use Rattle.std.specs.Prelude.{◌≡◌, ◌≢◌, ◌^◌, ◌<◌, false, IfOk, IsOk, OnOk, Ok};
 ghost use Rattle.route_tensor.specs.Grid.{ranks};
 ghost use Rattle.rank_node.specs.Movers.{IsNew, GoesOn};
 ghost use Rattle.rank_node.specs.Movers.Manner.{ByConveyor};
@@ -8,6 +7,7 @@ ghost use Rattle.rank_node.specs.Movers.MoverState.{Conveying};
 ghost use Rattle.rank_node.specs.Runs.{running};
 ghost use Rattle.rank_node.specs.Moves.{MayTurn};
 ghost use Rattle.rank_node.specs.Turns.{Turns, TurnsInFull};
+ghost use Rattle.rank_node.specs.Fits.{FitsGrid};
 
 use crate::run::Run;
 use crate::sending::push_all;
@@ -66,8 +66,7 @@ pub(crate) fn new_conveyor<const CAP: usize, const HOPS: usize>(
     rank: u32,
     steady: bool,
 ) -> Result<Conveyor<CAP, HOPS>, NoMemory>
-    requires cap { IsCap CAP }
-    requires hops { length grid.now ≡ HOPS }
+    requires fits { FitsGrid CAP HOPS grid.now }
     requires rank { rank < ranks grid.now }
     ensures { IfOk result (λ c. IsNew grid.now rank (ByConveyor steady) (Conveying c)) }
 {

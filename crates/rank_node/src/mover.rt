@@ -1,11 +1,11 @@
 //! What carries the items of a rank.
 ghost use Rattle.std.specs.Prelude.{◌≡◌, ◌^◌, ◌<◌, true, false, length, IfOk, IsOk, OnOk, Ok};
-ghost use Rattle.item_buffer.specs.Capacity.{IsCap};
 ghost use Rattle.route_tensor.specs.Grid.{ranks};
 ghost use Rattle.rank_node.specs.Movers.{seen, epoch_in, manner_of, has_completed, IsNew, GoesOn};
 ghost use Rattle.rank_node.specs.Runs.{running};
 ghost use Rattle.rank_node.specs.Moves.{MayTurn};
 ghost use Rattle.rank_node.specs.Turns.{Turns, TurnsInFull};
+ghost use Rattle.rank_node.specs.Fits.{FitsGrid};
 
 use crate::conveying::{new_conveyor, reset_conveyor, turn_conveyor};
 use crate::run::Run;
@@ -36,8 +36,7 @@ impl<const CAP: usize, const HOPS: usize> Mover<CAP, HOPS> {
         rank: u32,
         steady: bool,
     ) -> Result<Self, NoMemory>
-        requires cap { IsCap CAP }
-        requires hops { length grid.now ≡ HOPS }
+        requires fits { FitsGrid CAP HOPS grid.now }
         requires one_hop { via ≡ Via.Exstack → length grid.now ≡ 1 }
         requires rank { rank < ranks grid.now }
         ensures { IfOk result (λ m. IsNew grid.now rank (manner_of via steady) (seen m)) }

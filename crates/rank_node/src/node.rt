@@ -2,7 +2,6 @@
 ghost use Rattle.std.specs.Prelude.{◌≡◌, ◌⊎◌, ℕ, ◌+◌, ◌-◌, ◌^◌, ◌<◌, ◌≤◌, [], length, IfOk, true, false, IsOk, IsErr, OnOk, Ok};
 ghost use Rattle.route_tensor.specs.Grid.{ranks};
 ghost use Rattle.port_bank.specs.Logs.{Logs};
-ghost use Rattle.item_buffer.specs.Capacity.{IsCap};
 ghost use Rattle.rank_node.specs.Sending.{is_voting, to_send};
 ghost use Rattle.rank_node.specs.Movers.{dims_of, rank_of, epoch_in, manner_in, manner_of, has_completed, HasCap, IsStarting, NoneUnread, SameUnread};
 ghost use Rattle.rank_node.specs.Moves.{MayTurn};
@@ -10,6 +9,7 @@ ghost use Rattle.rank_node.specs.Turns.{Turns, TurnsInFull};
 ghost use Rattle.rank_node.specs.Nodes.{IsNode};
 ghost use Rattle.rank_node.specs.Next.{extended, HasStopped};
 ghost use Rattle.rank_node.specs.Cycles.{IsInCycle};
+ghost use Rattle.rank_node.specs.Fits.{FitsGrid};
 
 use crate::ending::{Follows, end_prog, vote_of};
 use crate::mover::Mover;
@@ -59,8 +59,7 @@ impl<Q: Program, const CAP: usize, const HOPS: usize> Node<Q, CAP, HOPS> {
         prog: Q,
         steady: bool,
     ) -> Result<Self, NoMemory>
-        requires cap { IsCap CAP }
-        requires hops { length grid.now ≡ HOPS }
+        requires fits { FitsGrid CAP HOPS grid.now }
         requires one_hop { via ≡ Via.Exstack → length grid.now ≡ 1 }
         requires rank { Q.rules.rank prog < ranks grid.now }
         requires all_ranks { Q.rules.ranks prog ≡ ranks grid.now }

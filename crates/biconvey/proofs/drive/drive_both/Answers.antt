@@ -22,33 +22,33 @@ run_all-requires g c = (
     (
       subst (λ (b : Bank). IsOrder (ranks b.dims) c.args.order.now) (sym c.in_ok-banks.ensures.queries) c.requires.order,
       (
-        banks_first g.A.Asker.talk g.row.CAP c.args.grid.now c.args.slots c.args.steady c.args.askers c.in_ok-all.all.items c.in_ok-banks.banks.queries c.in_ok-banks.banks.replies c.in_ok-all.ensures c.requires.askers c.requires.cap.some c.in_ok-banks.ensures.queries c.in_ok-banks.ensures.replies c.in_ok-banks.ensures.lawful,
-        (c.args.steady, begins g.A.Asker.talk g.row.CAP c.args.grid.now c.args.slots c.args.steady c.args.askers c.in_ok-all.all.items c.in_ok-banks.banks.queries c.in_ok-banks.banks.replies c.in_ok-all.ensures c.requires.askers c.requires.cap.some c.in_ok-banks.ensures.queries c.in_ok-banks.ensures.replies c.in_ok-banks.ensures.lawful, world_first g.A.Asker.talk g.row.CAP c.args.grid.now c.args.slots c.args.steady c.args.askers c.in_ok-all.all.items c.in_ok-banks.banks.queries c.in_ok-banks.banks.replies c.in_ok-all.ensures c.requires.askers c.requires.cap.some c.in_ok-banks.ensures.queries c.in_ok-banks.ensures.replies c.in_ok-banks.ensures.lawful),
+        banks_first g.A.Asker.talk g.row.CAP c.args.grid.now c.args.slots c.args.steady c.args.askers c.in_ok-all.all.items c.in_ok-banks.banks.queries c.in_ok-banks.banks.replies c.in_ok-all.ensures c.requires.askers c.requires.fits.cap_is.some c.in_ok-banks.ensures.queries c.in_ok-banks.ensures.replies c.in_ok-banks.ensures.lawful,
+        (c.args.steady, begins g.A.Asker.talk g.row.CAP c.args.grid.now c.args.slots c.args.steady c.args.askers c.in_ok-all.all.items c.in_ok-banks.banks.queries c.in_ok-banks.banks.replies c.in_ok-all.ensures c.requires.askers c.requires.fits.cap_is.some c.in_ok-banks.ensures.queries c.in_ok-banks.ensures.replies c.in_ok-banks.ensures.lawful, world_first g.A.Asker.talk g.row.CAP c.args.grid.now c.args.slots c.args.steady c.args.askers c.in_ok-all.all.items c.in_ok-banks.banks.queries c.in_ok-banks.banks.replies c.in_ok-all.ensures c.requires.askers c.requires.fits.cap_is.some c.in_ok-banks.ensures.queries c.in_ok-banks.ensures.replies c.in_ok-banks.ensures.lawful),
       ),
     ),
   ),
 )
 
 pub returns-in_err-banks-2-clause-steps : goal.returns-in_err-banks-2-clause-steps
-returns-in_err-banks-2-clause-steps g c = steps_at g.A.Asker.talk g.row.CAP c.args.grid.now c.args.slots c.args.steady c.args.askers c.in_ok-all.all.items c.in_ok-banks.banks.queries c.in_ok-banks.banks.replies c.in_ok-all.ensures c.requires.askers c.requires.cap.some c.in_ok-banks.ensures.queries c.in_ok-banks.ensures.replies c.in_ok-banks.ensures.lawful c.args.steps.now c.run_all.new.steps c.run_all.ensures.steps
+returns-in_err-banks-2-clause-steps g c = steps_at g.A.Asker.talk g.row.CAP c.args.grid.now c.args.slots c.args.steady c.args.askers c.in_ok-all.all.items c.in_ok-banks.banks.queries c.in_ok-banks.banks.replies c.in_ok-all.ensures c.requires.askers c.requires.fits.cap_is.some c.in_ok-banks.ensures.queries c.in_ok-banks.ensures.replies c.in_ok-banks.ensures.lawful c.args.steps.now c.run_all.new.steps c.run_all.ensures.steps
 
 pub returns-clause-steps : goal.returns-clause-steps
-returns-clause-steps g c = steps_at g.A.Asker.talk g.row.CAP c.args.grid.now c.args.slots c.args.steady c.args.askers c.in_ok-all.all.items c.in_ok-banks.banks.queries c.in_ok-banks.banks.replies c.in_ok-all.ensures c.requires.askers c.requires.cap.some c.in_ok-banks.ensures.queries c.in_ok-banks.ensures.replies c.in_ok-banks.ensures.lawful c.args.steps.now c.run_all.new.steps c.run_all.ensures.steps
+returns-clause-steps g c = steps_at g.A.Asker.talk g.row.CAP c.args.grid.now c.args.slots c.args.steady c.args.askers c.in_ok-all.all.items c.in_ok-banks.banks.queries c.in_ok-banks.banks.replies c.in_ok-all.ensures c.requires.askers c.requires.fits.cap_is.some c.in_ok-banks.ensures.queries c.in_ok-banks.ensures.replies c.in_ok-banks.ensures.lawful c.args.steps.now c.run_all.new.steps c.run_all.ensures.steps
 
 pub returns-clause-exchanged : goal.returns-clause-exchanged
 returns-clause-exchanged g c =
     let T = g.A.Asker.talk in
     let ns = c.run_all.new.all.items in
     let b = c.in_ok-banks-2.banks in
-    let w = world_last g.A.Asker.talk g.row.CAP c.args.grid.now c.args.slots c.args.steady c.args.askers c.in_ok-all.all.items c.in_ok-banks.banks.queries c.in_ok-banks.banks.replies c.in_ok-all.ensures c.requires.askers c.requires.cap.some c.in_ok-banks.ensures.queries c.in_ok-banks.ensures.replies c.in_ok-banks.ensures.lawful ns b.queries b.replies c.in_ok-banks-2.ensures.world in
-    let banks = banks_last g.A.Asker.talk g.row.CAP c.args.grid.now c.args.slots c.args.steady c.args.askers c.in_ok-all.all.items c.in_ok-banks.banks.queries c.in_ok-banks.banks.replies c.in_ok-all.ensures c.requires.askers c.requires.cap.some c.in_ok-banks.ensures.queries c.in_ok-banks.ensures.replies c.in_ok-banks.ensures.lawful b.queries b.replies c.in_ok-banks-2.ensures.banks in
+    let w = world_last g.A.Asker.talk g.row.CAP c.args.grid.now c.args.slots c.args.steady c.args.askers c.in_ok-all.all.items c.in_ok-banks.banks.queries c.in_ok-banks.banks.replies c.in_ok-all.ensures c.requires.askers c.requires.fits.cap_is.some c.in_ok-banks.ensures.queries c.in_ok-banks.ensures.replies c.in_ok-banks.ensures.lawful ns b.queries b.replies c.in_ok-banks-2.ensures.world in
+    let banks = banks_last g.A.Asker.talk g.row.CAP c.args.grid.now c.args.slots c.args.steady c.args.askers c.in_ok-all.all.items c.in_ok-banks.banks.queries c.in_ok-banks.banks.replies c.in_ok-all.ensures c.requires.askers c.requires.fits.cap_is.some c.in_ok-banks.ensures.queries c.in_ok-banks.ensures.replies c.in_ok-banks.ensures.lawful b.queries b.replies c.in_ok-banks-2.ensures.banks in
     if_ok_from (HasExchanged T c.args.askers (record { dims = c.args.grid.now; cap = g.row.CAP; slots = c.args.slots; by_slots = false }) c.args.steady) c.finish.result
     (λ f e.
     let x = if_ok_is (λ f. (q : ClosedRound) × (r : ClosedRound) × (f.rounds ≡ q ∷ r ∷ []) × (round_of q ≡ closed g.row.CAP b.queries) × IsRound (round_of q) × (round_of r ≡ closed g.row.CAP b.replies) × IsRound (round_of r)) c.finish.result f e c.finish.ensures.rounds in
     record {
-      heard = have_heard T g.met.A.Asker.laws c.closes_law.ensures g.row.CAP c.args.grid.now c.args.slots c.args.steady c.args.askers (first g.A.Asker.talk g.row.CAP c.args.grid.now c.args.slots c.args.steady c.args.askers c.in_ok-all.all.items c.in_ok-banks.banks.queries c.in_ok-banks.banks.replies c.in_ok-all.ensures c.requires.askers c.requires.cap.some c.in_ok-banks.ensures.queries c.in_ok-banks.ensures.replies c.in_ok-banks.ensures.lawful).0 ns b.queries b.replies c.requires.askers banks w c.in_ok-banks-2.ensures.over f.progs
+      heard = have_heard T g.met.A.Asker.laws c.closes_law.ensures g.row.CAP c.args.grid.now c.args.slots c.args.steady c.args.askers (first g.A.Asker.talk g.row.CAP c.args.grid.now c.args.slots c.args.steady c.args.askers c.in_ok-all.all.items c.in_ok-banks.banks.queries c.in_ok-banks.banks.replies c.in_ok-all.ensures c.requires.askers c.requires.fits.cap_is.some c.in_ok-banks.ensures.queries c.in_ok-banks.ensures.replies c.in_ok-banks.ensures.lawful).0 ns b.queries b.replies c.requires.askers banks w c.in_ok-banks-2.ensures.over f.progs
           (if_ok_is (λ f. f.progs ≡ askers_of ns) c.finish.result f e c.finish.ensures.progs);
-      rounds = (x.0, x.1, x.2, told T g.met.A.Asker.laws c.closes_law.ensures g.row.CAP c.args.grid.now c.args.slots c.args.steady c.args.askers (first g.A.Asker.talk g.row.CAP c.args.grid.now c.args.slots c.args.steady c.args.askers c.in_ok-all.all.items c.in_ok-banks.banks.queries c.in_ok-banks.banks.replies c.in_ok-all.ensures c.requires.askers c.requires.cap.some c.in_ok-banks.ensures.queries c.in_ok-banks.ensures.replies c.in_ok-banks.ensures.lawful).0 ns b.queries b.replies c.requires.askers banks w c.in_ok-banks-2.ensures.over (round_of x.0) (round_of x.1) x.3 x.4 x.5 x.6);
+      rounds = (x.0, x.1, x.2, told T g.met.A.Asker.laws c.closes_law.ensures g.row.CAP c.args.grid.now c.args.slots c.args.steady c.args.askers (first g.A.Asker.talk g.row.CAP c.args.grid.now c.args.slots c.args.steady c.args.askers c.in_ok-all.all.items c.in_ok-banks.banks.queries c.in_ok-banks.banks.replies c.in_ok-all.ensures c.requires.askers c.requires.fits.cap_is.some c.in_ok-banks.ensures.queries c.in_ok-banks.ensures.replies c.in_ok-banks.ensures.lawful).0 ns b.queries b.replies c.requires.askers banks w c.in_ok-banks-2.ensures.over (round_of x.0) (round_of x.1) x.3 x.4 x.5 x.6);
     })
 
 pub returns-clause-swept : goal.returns-clause-swept
@@ -58,7 +58,7 @@ returns-clause-swept g c =
     (λ f e.
     let x = if_ok_is (λ f. (q : ClosedRound) × (r : ClosedRound) × (f.rounds ≡ q ∷ r ∷ []) × (round_of q ≡ closed g.row.CAP b.queries) × IsRound (round_of q) × (round_of r ≡ closed g.row.CAP b.replies) × IsRound (round_of r)) c.finish.result f e c.finish.ensures.rounds in
     record {
-      fewest = fewest_at g.A.Asker.talk g.row.CAP c.args.grid.now c.args.slots c.args.steady c.args.askers c.in_ok-all.all.items c.in_ok-banks.banks.queries c.in_ok-banks.banks.replies c.in_ok-all.ensures c.requires.askers c.requires.cap.some c.in_ok-banks.ensures.queries c.in_ok-banks.ensures.replies c.in_ok-banks.ensures.lawful
+      fewest = fewest_at g.A.Asker.talk g.row.CAP c.args.grid.now c.args.slots c.args.steady c.args.askers c.in_ok-all.all.items c.in_ok-banks.banks.queries c.in_ok-banks.banks.replies c.in_ok-all.ensures c.requires.askers c.requires.fits.cap_is.some c.in_ok-banks.ensures.queries c.in_ok-banks.ensures.replies c.in_ok-banks.ensures.lawful
           c.args.steps.now c.run_all.new.steps c.in_ok-banks-2.ensures.fewest;
       posted = λ q r is l below.
           let same : x.0 ∷ x.1 ∷ [] ≡ q ∷ r ∷ [] = sym x.2 ∙ is in

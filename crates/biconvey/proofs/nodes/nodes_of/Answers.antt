@@ -9,7 +9,7 @@ new-requires g c =
     let here = next_asker g.A.Asker.talk c.args.grid.now c.args.steady c.args.askers c.loop-asker.askers c.loop-asker.all.items c.loop-asker.invariant.making c.in-Some.asker (sym c.in-Some.ensures.first) in
     let all = c.requires.askers in
     let m = all.each (length c.loop-asker.all.items) c.in-Some.asker here in
-    (search rules, (c.requires.cap, (c.requires.hops, (omega (arith, m.0, within c.args.askers (length c.loop-asker.all.items) c.in-Some.asker here, all.size), m.1))))
+    (search rules, (c.requires.fits, ((omega (arith, m.0, within c.args.askers (length c.loop-asker.all.items) c.in-Some.asker here, all.size), m.1))))
 
 pub loop-asker-init : goal.loop-asker-init
 loop-asker-init g c = record {

@@ -21,7 +21,7 @@ run_all-requires g c = (
       subst (λ (b : Bank). IsOrder (ranks b.dims) c.args.order.now) (sym c.in_ok-bank.ensures.made) c.requires.order,
       (
         c.in_ok-bank.ensures.lawful,
-        run_needs g.Q.Program.rules g.met.Q.Program.laws g.row.CAP c.args.grid.now c.args.slots (manner_of c.args.via c.args.steady) c.args.progs c.requires.run.begins.0 c.requires.run.begins.1 c.requires.run.begins.2 c.requires.run.begins.3 c.in_ok-all.all.items c.in_ok-all.ensures.fresh c.requires.cap.some
+        run_needs g.Q.Program.rules g.met.Q.Program.laws g.row.CAP c.args.grid.now c.args.slots (manner_of c.args.via c.args.steady) c.args.progs c.requires.run.begins.0 c.requires.run.begins.1 c.requires.run.begins.2 c.requires.run.begins.3 c.in_ok-all.all.items c.in_ok-all.ensures.fresh c.requires.fits.cap_is.some
             c.in_ok-bank.bank c.in_ok-bank.ensures.made c.in_ok-bank.ensures.lawful,
       ),
     ),
@@ -30,27 +30,27 @@ run_all-requires g c = (
 
 pub returns-in_err-bank-2-clause-steps : goal.returns-in_err-bank-2-clause-steps
 returns-in_err-bank-2-clause-steps g c =
-    steps_at g.Q.Program.rules g.met.Q.Program.laws g.row.CAP c.args.grid.now c.args.slots (manner_of c.args.via c.args.steady) c.args.progs c.requires.run.begins.0 c.requires.run.begins.1 c.requires.run.begins.2 c.requires.run.begins.3 c.in_ok-all.all.items c.in_ok-all.ensures.fresh c.requires.cap.some
+    steps_at g.Q.Program.rules g.met.Q.Program.laws g.row.CAP c.args.grid.now c.args.slots (manner_of c.args.via c.args.steady) c.args.progs c.requires.run.begins.0 c.requires.run.begins.1 c.requires.run.begins.2 c.requires.run.begins.3 c.in_ok-all.all.items c.in_ok-all.ensures.fresh c.requires.fits.cap_is.some
     c.in_ok-bank.bank c.in_ok-bank.ensures.made c.in_ok-bank.ensures.lawful c.args.steps.now c.run_all.new.steps c.run_all.ensures.steps
 
 pub returns-in_err-add-clause-steps : goal.returns-in_err-add-clause-steps
 returns-in_err-add-clause-steps g c =
-    steps_at g.Q.Program.rules g.met.Q.Program.laws g.row.CAP c.args.grid.now c.args.slots (manner_of c.args.via c.args.steady) c.args.progs c.requires.run.begins.0 c.requires.run.begins.1 c.requires.run.begins.2 c.requires.run.begins.3 c.in_ok-all.all.items c.in_ok-all.ensures.fresh c.requires.cap.some
+    steps_at g.Q.Program.rules g.met.Q.Program.laws g.row.CAP c.args.grid.now c.args.slots (manner_of c.args.via c.args.steady) c.args.progs c.requires.run.begins.0 c.requires.run.begins.1 c.requires.run.begins.2 c.requires.run.begins.3 c.in_ok-all.all.items c.in_ok-all.ensures.fresh c.requires.fits.cap_is.some
     c.in_ok-bank.bank c.in_ok-bank.ensures.made c.in_ok-bank.ensures.lawful c.args.steps.now c.run_all.new.steps c.run_all.ensures.steps
 
 pub returns-in_err-progs-clause-steps : goal.returns-in_err-progs-clause-steps
 returns-in_err-progs-clause-steps g c =
-    steps_at g.Q.Program.rules g.met.Q.Program.laws g.row.CAP c.args.grid.now c.args.slots (manner_of c.args.via c.args.steady) c.args.progs c.requires.run.begins.0 c.requires.run.begins.1 c.requires.run.begins.2 c.requires.run.begins.3 c.in_ok-all.all.items c.in_ok-all.ensures.fresh c.requires.cap.some
+    steps_at g.Q.Program.rules g.met.Q.Program.laws g.row.CAP c.args.grid.now c.args.slots (manner_of c.args.via c.args.steady) c.args.progs c.requires.run.begins.0 c.requires.run.begins.1 c.requires.run.begins.2 c.requires.run.begins.3 c.in_ok-all.all.items c.in_ok-all.ensures.fresh c.requires.fits.cap_is.some
     c.in_ok-bank.bank c.in_ok-bank.ensures.made c.in_ok-bank.ensures.lawful c.args.steps.now c.run_all.new.steps c.run_all.ensures.steps
 
 pub returns-clause-steps : goal.returns-clause-steps
 returns-clause-steps g c =
-    steps_at g.Q.Program.rules g.met.Q.Program.laws g.row.CAP c.args.grid.now c.args.slots (manner_of c.args.via c.args.steady) c.args.progs c.requires.run.begins.0 c.requires.run.begins.1 c.requires.run.begins.2 c.requires.run.begins.3 c.in_ok-all.all.items c.in_ok-all.ensures.fresh c.requires.cap.some
+    steps_at g.Q.Program.rules g.met.Q.Program.laws g.row.CAP c.args.grid.now c.args.slots (manner_of c.args.via c.args.steady) c.args.progs c.requires.run.begins.0 c.requires.run.begins.1 c.requires.run.begins.2 c.requires.run.begins.3 c.in_ok-all.all.items c.in_ok-all.ensures.fresh c.requires.fits.cap_is.some
     c.in_ok-bank.bank c.in_ok-bank.ensures.made c.in_ok-bank.ensures.lawful c.args.steps.now c.run_all.new.steps c.run_all.ensures.steps
 
 pub returns-clause-finished : goal.returns-clause-finished
 returns-clause-finished g c =
-    let w = world_after g.Q.Program.rules g.met.Q.Program.laws g.row.CAP c.args.grid.now c.args.slots (manner_of c.args.via c.args.steady) c.args.progs c.requires.run.begins.0 c.requires.run.begins.1 c.requires.run.begins.2 c.requires.run.begins.3 c.in_ok-all.all.items c.in_ok-all.ensures.fresh c.requires.cap.some
+    let w = world_after g.Q.Program.rules g.met.Q.Program.laws g.row.CAP c.args.grid.now c.args.slots (manner_of c.args.via c.args.steady) c.args.progs c.requires.run.begins.0 c.requires.run.begins.1 c.requires.run.begins.2 c.requires.run.begins.3 c.in_ok-all.all.items c.in_ok-all.ensures.fresh c.requires.fits.cap_is.some
     c.in_ok-bank.bank c.in_ok-bank.ensures.made c.in_ok-bank.ensures.lawful c.run_all.new.all.items c.in_ok-bank-2.bank c.in_ok-bank-2.ensures.world in
     let ed = c.in_ok-bank-2.ensures.bank.same_dims ∙ ap (λ (b : Bank). b.dims) c.in_ok-bank.ensures.made in
     let es = c.in_ok-bank-2.ensures.bank.same_slots ∙ ap (λ (b : Bank). b.slots) c.in_ok-bank.ensures.made in
@@ -70,7 +70,7 @@ returns-clause-swept g c =
     let first = c.in_ok-all.all.items in
     let last : Scene g.row.Q.Denot = record { ranks = c.run_all.new.all.items; sent = sent_of c.in_ok-bank-2.bank; got = got_of c.in_ok-bank-2.bank } in
     let made = c.in_ok-bank.ensures.made in
-    let w = world_after g.Q.Program.rules g.met.Q.Program.laws g.row.CAP c.args.grid.now c.args.slots (manner_of c.args.via c.args.steady) c.args.progs c.requires.run.begins.0 c.requires.run.begins.1 c.requires.run.begins.2 c.requires.run.begins.3 first c.in_ok-all.ensures.fresh c.requires.cap.some
+    let w = world_after g.Q.Program.rules g.met.Q.Program.laws g.row.CAP c.args.grid.now c.args.slots (manner_of c.args.via c.args.steady) c.args.progs c.requires.run.begins.0 c.requires.run.begins.1 c.requires.run.begins.2 c.requires.run.begins.3 first c.in_ok-all.ensures.fresh c.requires.fits.cap_is.some
     c.in_ok-bank.bank made c.in_ok-bank.ensures.lawful c.run_all.new.all.items c.in_ok-bank-2.bank c.in_ok-bank-2.ensures.world in
     let ed = c.in_ok-bank-2.ensures.bank.same_dims ∙ ap (λ (b : Bank). b.dims) made in
     let es = c.in_ok-bank-2.ensures.bank.same_slots ∙ ap (λ (b : Bank). b.slots) made in

@@ -16,8 +16,8 @@ loop-count-preserved g c =
       omega (arith, fit.few, fit.items),
       fit.items ∙ inv.1,
       fit.from ∙ (inv.2 ∙ sym fit.items),
-      fit.other_items ∙ past_more n m c.loop-count.items c.args.items.now less inv.3,
-      fit.other_from ∙ past_more n m c.loop-count.from c.args.from.now less inv.4,
+      fit.past.items_are ∙ past_more n m c.loop-count.items c.args.items.now less inv.3,
+      fit.past.from_are ∙ past_more n m c.loop-count.from c.args.from.now less inv.4,
       fit.pulled c.args.conveyor.now (run_more (steps_of Pull n c.loop-count.items c.loop-count.from) Idle c.args.conveyor.now b d inv.5 c.unread.ensures.step c.unread.ensures.kept (calm_same b d c.unread.ensures.state)),
     )
 

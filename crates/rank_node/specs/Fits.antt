@@ -1,0 +1,8 @@
+-- What a rank's buffers and its grid have in common.
+use Rattle.std.specs.Prelude.{◌≡◌, ℕ, List, length}
+use Rattle.item_buffer.specs.Capacity.{IsCap}
+
+-- Parcels can hold cap entries, and the grid has so many hops.
+pub record FitsGrid (cap hops : ℕ) (dims : List ℕ) : Type 0 where
+  pub cap_is : IsCap cap
+  pub hops_are : length dims ≡ hops

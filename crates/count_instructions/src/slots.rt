@@ -1,11 +1,12 @@
 //! All ranks of a grid, over slot links, in turn on one thread.
-ghost use Rattle.std.specs.Prelude.{◌<◌};
+ghost use Rattle.std.specs.Prelude.{◌≡◌, ◌<◌, ℕ, true, false, slice_index_or};
+ghost use Rattle.route_tensor.specs.Grid.{ranks};
 
 use crate::rows::Job;
 use crate::shape::Shape;
 use crate::side::Side;
 use bale_types::NoMemory;
-use link_slots::{SlotBank, SlotPort};
+use link_slots::{GatherSeat, SlotBank, SlotPort};
 use std::alloc::Global;
 use std::marker::Model;
 
@@ -38,17 +39,32 @@ pub(crate) fn over_slots<const CAP: usize, const HOPS: usize>(
     shape: &Shape<CAP, HOPS>,
 ) -> Result<u64, NoMemory> {
     let (bank, mut gather) = SlotBank::<CAP>::new(alloc, &shape.grid, 2)?;
-    let mut sides = Vec::new(alloc);
-    for rank in 0..shape.grid.ranks() {
-        let port = bank.port(bank.seat(&mut gather, rank));
-        let side = Side::new(alloc, shape, rank)?;
-        let at = AtSeat { side, port };
-        sides.push(at)?;
-    }
+    let mut sides = sides_of(alloc, shape, &bank, &mut gather)?;
     for _ in 0..job.epochs {
         run_epoch(&mut sides, job.items)?;
     }
     Ok(sum_of(&sides))
+}
+
+/// The conveyors of all ranks, over the ports of their seats, none of which was given out.
+fn sides_of<'a, const CAP: usize, const HOPS: usize>(
+    alloc: Global,
+    shape: &Shape<CAP, HOPS>,
+    bank: &'a SlotBank<CAP>,
+    gather: &mut GatherSeat<CAP>,
+) -> Result<Vec<AtSeat<'a, CAP, HOPS>>, NoMemory>
+    requires { (bank.now.shape.dims ≡ shape.now.grid) × (gather.old.id ≡ bank.now.id)
+        × (gather.old.shape ≡ bank.now.shape)
+        × ((k : ℕ) → k < ranks shape.now.grid → slice_index_or gather.old.given k true ≡ false) }
+{
+    let mut sides = Vec::new(alloc);
+    for rank in 0..shape.grid.ranks() {
+        let port = bank.port(bank.seat(gather, rank));
+        let side = Side::new(alloc, shape, rank)?;
+        let at = AtSeat { side, port };
+        sides.push(at)?;
+    }
+    Ok(sides)
 }
 
 /// Begins an epoch for each rank, and turns each in order, sweep after sweep, until the epoch is over for each.

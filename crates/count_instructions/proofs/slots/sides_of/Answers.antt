@@ -9,7 +9,7 @@ use Rattle.link_slots.specs.Shape.{shipped_all}
 use Rattle.link_slots.specs.Seen.{posted_on, collected_from}
 use Rattle.link_slots.proofs.Opening.{no_sent, no_got}
 use Rattle.convey.specs.Conveyors.{AgreesWith}
-use Rattle.count_instructions.proofs.slots.over_slots.Goals as goal
+use Rattle.count_instructions.proofs.slots.sides_of.Goals as goal
 
 pub loop-rank-preserved : goal.loop-rank-preserved
 loop-rank-preserved g c =
@@ -26,7 +26,7 @@ loop-rank-preserved g c =
 pub invariant_of-at : goal.invariant_of-at
 invariant_of-at g c =
     let made = c.port-port.ensures.seat ∙ c.seat.ensures.seat in
-    let none = links c.in_ok-bank.bank.shape.dims in
+    let none = links c.args.bank.now.shape.dims in
     let sent = ap posted_on made ∙ ap shipped_all (no_sent Contents none) in
     let got = ap collected_from made ∙ ap shipped_all (no_got Contents none) in (
       search rules,

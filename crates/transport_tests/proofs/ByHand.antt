@@ -11,6 +11,7 @@ use Rattle.route_tensor.specs.Ends.{hop_at}
 use Rattle.port_bank.specs.Logs.{Logs, lasts, added}
 use Rattle.port_bank.specs.Relay.{HasFairTags, RelayLaw}
 use Rattle.port_bank.proofs.Segments.{lasts-append, lasts_first}
+use Rattle.port_bank.proofs.Closing.{law_nothing}
 use Rattle.port_bank.proofs.Posts.{may_post_first, law_posted}
 
 abbrev pub no_digits : Tag
@@ -59,3 +60,12 @@ none_ended logs logs' l p more open' none m =
 
 pub still_none : (logs logs' : Logs) → logs' ≡ logs → ((m : ℕ) → lasts (logs m) ≡ 0) → (m : ℕ) → lasts (logs' m) ≡ 0
 still_none logs logs' same none m = ap (λ (f : Logs). lasts (f m)) same ∙ none m
+
+-- what holds of a port on which nothing was done
+pub begins : (dims : List ℕ) (r : ℕ) (sent got : Logs) → sent ≡ (λ l. []) → got ≡ (λ l. [])
+    → RelayLaw dims r sent got × ((l : ℕ) → lasts (sent l) ≡ 0) × ((l : ℕ) → lasts (got l) ≡ 0)
+begins dims r sent got s g = (
+  subst (λ (f : Logs). RelayLaw dims r f got) (sym s) (law_nothing dims r got),
+  λ l. ap (λ (f : Logs). lasts (f l)) s,
+  λ l. ap (λ (f : Logs). lasts (f l)) g,
+)

@@ -1,5 +1,6 @@
 -- Calls of many items, as so many single ones.
-use Rattle.std.specs.Prelude.{◌≡◌, ◌≢◌, ◌<◌, ℕ, zero, suc, Bool, ⊤, List, [], ◌∷◌, ◌++◌, length, drop, slice_index_or, nat_lt}
+use Rattle.std.specs.Prelude.{◌≡◌, ◌≢◌, ◌<◌, ℕ, zero, suc, Bool, ⊤, List, [], ◌∷◌, ◌++◌, length, drop, slice_index_or}
+use Rattle.std.specs.Prelude.{nat_lt}
 use Rattle.std.specs.Prelude.{if◌then◌else◌}
 use Rattle.std.specs.Prelude.{Result, Ok, Err, ℤ, pos, negsuc}
 use Rattle.std.specs.List.{list_all}

@@ -1,6 +1,6 @@
 -- The laws of permute.
 use Rattle.std.proofs.Common.{ℕ, ◌+◌, ◌-◌, ◌/◌, ◌%◌, ◌^◌, ◌<◌, ◌≡◌, ◌==◌, ◌&&◌, min, Bool, true, false, List, [], ◌∷◌}
-use Rattle.std.proofs.Common.{map, cond, get_or, arith, refl, sym, ap, ◌∙◌, subst, inl, inr, lit<}
+use Rattle.std.proofs.Common.{map, get_or, arith, refl, sym, ap, ◌∙◌, subst, inl, inr, lit<}
 use Rattle.std.specs.Prelude.{nat_lt, int_lt, if◌then◌else◌}
 use Rattle.std.specs.List.{All}
 use Rattle.std.proofs.lemmas.Bool.{cases_Bool, cases_eq, cases_lt, cond-true, cond-false, eq-eqb, ne_eqb, lt-ltb}

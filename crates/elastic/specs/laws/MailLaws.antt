@@ -1,5 +1,6 @@
 -- A mailer over a lawful letter program is a lawful program.
-use Rattle.std.proofs.Common.{ℕ, zero, suc, ◌/◌, ◌^◌, ◌<◌, ◌≤◌, ◌≡◌, ◌≢◌, Bool, true, false, cond, List, [], ◌∷◌, ◌++◌}
+use Rattle.std.proofs.Common.{ℕ, zero, suc, ◌/◌, ◌^◌, ◌<◌, ◌≤◌, ◌≡◌, ◌≢◌, Bool, true, false, if◌then◌else◌, List, []}
+use Rattle.std.proofs.Common.{◌∷◌, ◌++◌}
 use Rattle.std.proofs.Common.{map, length, get_or, set, take, drop, All, arith, refl, sym, ap, ◌∙◌, subst, lit<, lit≤}
 use Rattle.std.specs.Int.{w64, to_le_bytes, byte_at, bytes_low_first}
 use Rattle.std.specs.List.{flat_map}

@@ -21,14 +21,14 @@ pub returns-clause-room : goal.returns-clause-room
 returns-clause-room g c =
     let now : State = c.args.self.now in
     let s : IsState now = subst IsState c.self.view_is c.known.ensures.standing in
-    let cap : now.cap ≡ g.row.CAP = subst (λ (t : State). t.cap ≡ g.row.CAP) c.self.view_is c.known.ensures.cap_is in
+    let cap : now.cap ≡ g.row.CAP = subst (λ (t : State). t.cap ≡ g.row.CAP) c.self.view_is c.known.ensures.cap in
     λ r. subst (λ n. standing_toward now c.args.to < n) cap (subst (λ n. n < now.cap) (standing_index now c.args.to c.args.item s c.requires.to) (subst (λ (t : State). length (out_at t (coord t.dims c.args.to 1)).parcel.untaken < t.cap) c.self.view_is (c.push.ensures.room r)))
 
 pub returns-clause-full : goal.returns-clause-full
 returns-clause-full g c =
     let now : State = c.args.self.now in
     let s : IsState now = subst IsState c.self.view_is c.known.ensures.standing in
-    let cap : now.cap ≡ g.row.CAP = subst (λ (t : State). t.cap ≡ g.row.CAP) c.self.view_is c.known.ensures.cap_is in
+    let cap : now.cap ≡ g.row.CAP = subst (λ (t : State). t.cap ≡ g.row.CAP) c.self.view_is c.known.ensures.cap in
     λ r. sym (standing_index now c.args.to c.args.item s c.requires.to) ∙ subst (λ (t : State). length (out_at t (coord t.dims c.args.to 1)).parcel.untaken ≡ t.cap) c.self.view_is (c.push.ensures.full r) ∙ cap
 
 pub returns-clause-kept : goal.returns-clause-kept

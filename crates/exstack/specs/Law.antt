@@ -6,7 +6,7 @@ use Rattle.route_tensor.specs.Link.{links}
 use Rattle.port_bank.specs.Logs.{Logs, starting_at, ending_at, starting_elsewhere, ending_elsewhere}
 use Rattle.port_bank.specs.Link.{LinkLaw}
 use Rattle.port_bank.specs.Machine.{Step, after, NamesRank, IsOwnStep, IsStep, EpochsClose}
-use Rattle.port_bank.specs.Machine.{Stack as Ranks}
+use Rattle.port_bank.specs.Machine.{Ranks}
 use Rattle.exstack.specs.State.{Stack}
 use Rattle.exstack.specs.Cycles.{proceed_parcel, exchange_parcel}
 use Rattle.exstack.specs.Agreement.{AgreesWith}

@@ -21,7 +21,7 @@ use Rattle.atomic_table.specs.Table.{Me}
 use Rattle.item_buffer.specs.Contents.{Contents, shipped, Shipped}
 use Rattle.route_tensor.specs.Link.{links}
 use Rattle.route_tensor.specs.Ends.{hop_at, sender_at, reader_at}
-use Rattle.port_bank.specs.Logs.{Lists as Posts, lasts, added}
+use Rattle.port_bank.specs.Logs.{Logs as Posts, lasts, added}
 use Rattle.port_bank.specs.Relay.{RelayLaw, HasFairTags}
 use Rattle.link_slots.specs.declared.seat.ends.OutEnd.{OutEnd}
 use Rattle.link_slots.specs.declared.seat.ends.InEnd.{InEnd}

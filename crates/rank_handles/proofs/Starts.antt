@@ -1,7 +1,7 @@
 -- A rank that was just made.
 use Rattle.std.proofs.Common.{◌≡◌, ℕ, Bool, List, [], sym, ap, ◌∙◌, subst}
 use Rattle.route_tensor.specs.Link.{links}
-use Rattle.port_bank.specs.Logs.{Lists as Posts}
+use Rattle.port_bank.specs.Logs.{Logs as Posts}
 use Rattle.item_buffer.specs.Contents.{Contents}
 use Rattle.link_slots.specs.Logs.{Lists, sent_of, got_of}
 use Rattle.link_slots.specs.View.{no_logs}

@@ -31,7 +31,8 @@ fn hear_if_due<const CAP: usize>(
     wire: &Wire,
     link: u32,
 )
-    requires reads { ReadsLink top.now.key top.now.table_id place.old.table_id place.old.me link end.now wire.now ear.old }
+    requires reads { ReadsLink top.now.key top.now.table_id place.old.table_id place.old.me link end.now wire.now
+        ear.old }
     ensures left { HasRead top.now.key place.old.table_id place.new.table_id place.old.me place.new.me link end.now
         ear.new }
     ensures seen { (in_of (own_logs place.new.me.0) link).seen ≡ (in_of (own_logs place.old.me.0) link).seen }
@@ -61,7 +62,8 @@ fn look_if_marked<const CAP: usize>(
     wire: &Wire,
     link: u32,
 ) -> u32
-    requires reads { ReadsLink top.now.key top.now.table_id place.old.table_id place.old.me link end.old wire.now ear.old }
+    requires reads { ReadsLink top.now.key top.now.table_id place.old.table_id place.old.me link end.old wire.now
+        ear.old }
     requires none { end.old.waiting ≡ 0 }
     requires good { AreGood CAP top.now.key link (in_of (own_logs place.old.me.0) link) }
     ensures left { HasRead top.now.key place.old.table_id place.new.table_id place.old.me place.new.me link end.new
@@ -98,7 +100,8 @@ fn find_parcel<const CAP: usize>(
     wire: &Wire,
     link: u32,
 ) -> u32
-    requires reads { ReadsLink top.now.key top.now.table_id place.old.table_id place.old.me link end.old wire.now ear.old }
+    requires reads { ReadsLink top.now.key top.now.table_id place.old.table_id place.old.me link end.old wire.now
+        ear.old }
     requires good { AreGood CAP top.now.key link (in_of (own_logs place.old.me.0) link) }
     ensures left { HasRead top.now.key place.old.table_id place.new.table_id place.old.me place.new.me link end.new
         ear.new }
@@ -145,7 +148,8 @@ pub(crate) fn collect_on<const CAP: usize>(
     link: u32,
     parcel: &mut Parcel<CAP>,
 ) -> Collected
-    requires reads { ReadsLink top.now.key top.now.table_id place.old.table_id place.old.me link end.old wire.now ear.old }
+    requires reads { ReadsLink top.now.key top.now.table_id place.old.table_id place.old.me link end.old wire.now
+        ear.old }
     requires slots { slots ≡ top.now.key.slots }
     requires good { AreGood CAP top.now.key link (in_of (own_logs place.old.me.0) link) }
     requires empty { IsBlank parcel.old }

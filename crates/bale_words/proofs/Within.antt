@@ -6,8 +6,8 @@ use Rattle.std.proofs.lemmas.Option.{option_and_then_some, none-some, same_Some}
 use Rattle.std.proofs.lemmas.Bool.{cases_Bool, false≢true}
 use Rattle.std.proofs.lemmas.Bool.Decides.{nat_tests}
 use Rattle.std.specs.Str.{bytes_eq}
-use Rattle.item_buffer.specs.declared.capacity.TheConstants.{MOST_ENTRIES, CAPACITIES}
-use Rattle.item_buffer.specs.Capacity.{is_capacity, IsCapacity}
+use Rattle.item_buffer.specs.declared.capacity.TheConstants.{MOST_ENTRIES}
+use Rattle.item_buffer.specs.Capacity.{capacities, is_capacity, IsCapacity}
 use Rattle.bale_words.specs.declared.task.TaskName.{TaskName}
 use Rattle.bale_words.specs.declared.task.TaskName.TheVariants as application
 use Rattle.bale_words.specs.declared.command.Command.{Command}
@@ -65,7 +65,7 @@ slots_are (Some text) m e = option_and_then_some (one_of slot_counts) (number_in
 buffer_is : (o : Option (List ℕ)) (m : ℕ) → or_default 64 buffer_of o ≡ Some m → IsCapacity m
 unfolding buffer_of IsCapacity
 buffer_is None m e = subst (λ k. is_capacity k ≡ true) (same_Some 64 m e) refl
-buffer_is (Some text) m e = option_and_then_some (one_of CAPACITIES) (number_in 1 MOST_ENTRIES text) m e (λ n f g. one_is CAPACITIES n m g)
+buffer_is (Some text) m e = option_and_then_some (one_of capacities) (number_in 1 MOST_ENTRIES text) m e (λ n f g. one_is capacities n m g)
 
 can_generate : (parts : List (List ℕ)) (g : Generated) → generated_by parts ≡ Some g → CanGenerate g
 can_generate [] g e = absurd (none-some g e)

@@ -5,7 +5,8 @@ use Rattle.std.specs.Prelude.{None, is_some, codes}
 use Rattle.std.specs.List.{list_any, slice_split}
 use Rattle.std.specs.Option.{option_map, option_and_then}
 use Rattle.std.specs.Str.{bytes_eq}
-use Rattle.item_buffer.specs.declared.capacity.TheConstants.{MOST_ENTRIES, CAPACITIES}
+use Rattle.item_buffer.specs.declared.capacity.TheConstants.{MOST_ENTRIES}
+use Rattle.item_buffer.specs.Capacity.{capacities}
 use Rattle.route_tensor.specs.Refusal.{refusal}
 use Rattle.bale_words.specs.declared.task.TaskName.{TaskName}
 use Rattle.bale_words.specs.declared.task.TaskName.TheVariants as application
@@ -57,7 +58,7 @@ unfoldable pub slots_of : List ℕ → Option ℕ
 slots_of text = number_in 1 8 text >>= one_of slot_counts
 
 unfoldable pub buffer_of : List ℕ → Option ℕ
-buffer_of text = number_in 1 MOST_ENTRIES text >>= one_of CAPACITIES
+buffer_of text = number_in 1 MOST_ENTRIES text >>= one_of capacities
 
 -- `yes` or `no`.
 unfoldable pub steady_of : List ℕ → Option Bool

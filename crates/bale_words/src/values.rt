@@ -11,7 +11,7 @@ use crate::command::{Driving, Generated, Transport};
 use crate::fault::WordsFault;
 use crate::numbers::{first_part, number_between, numbers_between};
 use crate::task::TaskName;
-use item_buffer::{CAPACITIES, MOST_ENTRIES};
+use item_buffer::{MOST_ENTRIES, is_capacity};
 use route_tensor::Grid;
 use std::alloc::Global;
 
@@ -79,11 +79,7 @@ fn buffer_from(text: &[u8]) -> Option<u32>
     ensures { result ≡ buffer_of text.now }
 {
     let n = number_between(1, MOST_ENTRIES as u64, text)? as u32;
-    if CAPACITIES.contains(&n) {
-        Some(n)
-    } else {
-        None
-    }
+    if is_capacity(n) { Some(n) } else { None }
 }
 
 #[tactic(auto, unfolding(crate::specs::Values::is_text))]

@@ -6,7 +6,7 @@ use Rattle.list_laws.specs.Lists.{Begins}
 use Rattle.route_tensor.specs.Link.{links}
 use Rattle.route_tensor.specs.Ends.{sender_at, reader_at}
 use Rattle.port_bank.specs.Logs.{starting_at, ending_at}
-use Rattle.port_bank.specs.Port.{Rest}
+use Rattle.port_bank.specs.Port.{Others}
 use Rattle.port_bank.specs.Shapes.{IsConveyorShape}
 use Rattle.port_bank.specs.Plain.{Bank, sent_of, got_of, others_of, crowded_of, idle_of}
 use Rattle.convey.specs.Buffers.{in_of}
@@ -67,8 +67,8 @@ after_turn T dims cap slots number n n' q a q' a' r b r' b' qd qs rd rs qd' qs' 
     (subst (λ k. PortTurns T cap n n' q number q' k r b r' b') (ea' ∙ ea) (subst (λ k. PortTurns T cap n n' q k q' a' r b r' b') ea told))))))) in
     record {
       queries = record {
-        sent_elsewhere = ap (λ (x : Rest). x.sent) t.queries_rest;
-        got_elsewhere = ap (λ (x : Rest). x.got) t.queries_rest;
+        sent_elsewhere = ap (λ (x : Others). x.sent) t.queries_rest;
+        got_elsewhere = ap (λ (x : Others). x.got) t.queries_rest;
         sent_grows = t.queries_sent;
         got_grows = t.queries_got;
         once = λ l below from. t.queries_once l (subst (λ (d : List ℕ). l < links d) (sym nd) below) (subst (λ (d : List ℕ). sender_at d l ≡ n.queries.rank) (sym nd) (from ∙ sym nr));
@@ -77,8 +77,8 @@ after_turn T dims cap slots number n n' q a q' a' r b r' b' qd qs rd rs qd' qs' 
         lies = λ l more below to. t.queries_lie l more (subst (λ (d : List ℕ). l < links d) (sym nd) below) (subst (λ (d : List ℕ). reader_at d l ≡ n.queries.rank) (sym nd) (to ∙ sym nr));
       };
       replies = record {
-        sent_elsewhere = ap (λ (x : Rest). x.sent) t.replies_rest;
-        got_elsewhere = ap (λ (x : Rest). x.got) t.replies_rest;
+        sent_elsewhere = ap (λ (x : Others). x.sent) t.replies_rest;
+        got_elsewhere = ap (λ (x : Others). x.got) t.replies_rest;
         sent_grows = t.replies_sent;
         got_grows = t.replies_got;
         once = λ l below from. t.replies_once l (subst (λ (d : List ℕ). l < links d) (sym md) below) (subst (λ (d : List ℕ). sender_at d l ≡ n.replies.rank) (sym md) (from ∙ sym mr));

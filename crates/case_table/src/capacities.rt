@@ -1,6 +1,6 @@
 //! One case for each capacity.
 
-/// The drive for a capacity, one of item_buffer's `CAPACITIES`: each case hands the values on.
+/// The drive for a capacity, one that item_buffer's `is_capacity` tells: each case hands the values on.
 #[macro_export]
 macro_rules! by_capacity {
     ($cap:expr, $drive:ident::<$hops:tt, $($param:ty),*>, ($($value:expr),*)) => {

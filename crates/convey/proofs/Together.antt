@@ -6,7 +6,7 @@ use Rattle.route_tensor.specs.Grid.{ranks, IsGrid}
 use Rattle.route_tensor.specs.Link.{links}
 use Rattle.port_bank.specs.Logs.{Logs, starting_at, ending_at, starting_elsewhere, ending_elsewhere}
 use Rattle.port_bank.specs.Link.{LinkLaw}
-use Rattle.port_bank.specs.Port.{Rest}
+use Rattle.port_bank.specs.Port.{Others}
 use Rattle.port_bank.specs.Plain.{Bank, IsBank, sent_of, got_of, others_of, empty_bank}
 use Rattle.port_bank.proofs.Closing.{empty_links, none_sent, none_got}
 use Rattle.hop_core.specs.State.{State}
@@ -114,8 +114,8 @@ together_advance cap r old new st st' b p p' b' q q' law t h c same same_rank a 
     let rest : others_of r p' ≡ others_of r b = ap (λ n. others_of n p') (sym rank) ∙ (a.rest ∙ (ap (λ n. others_of n p) same_rank ∙ ap (others_of r) same)) in
     let agrees : AgreesWith st' (starting_at b.dims r (sent_of p')) (ending_at b.dims r (got_of p')) =
     subst (λ ds. AgreesWith st' (starting_at ds r (sent_of p')) (ending_at ds r (got_of p'))) dims (subst (λ n. AgreesWith st' (starting_at p'.dims n (sent_of p')) (ending_at p'.dims n (got_of p'))) rank a.agrees) in
-    let apart : starting_elsewhere b.dims r (sent_of p') ≡ starting_elsewhere b.dims r (sent_of b) = ap (λ ds. starting_elsewhere ds r (sent_of p')) (sym dims) ∙ ap (λ (x : Rest). x.sent) rest in
-    let apart' : ending_elsewhere b.dims r (got_of p') ≡ ending_elsewhere b.dims r (got_of b) = ap (λ ds. ending_elsewhere ds r (got_of p')) (sym dims) ∙ ap (λ (x : Rest). x.got) rest in
+    let apart : starting_elsewhere b.dims r (sent_of p') ≡ starting_elsewhere b.dims r (sent_of b) = ap (λ ds. starting_elsewhere ds r (sent_of p')) (sym dims) ∙ ap (λ (x : Others). x.sent) rest in
+    let apart' : ending_elsewhere b.dims r (got_of p') ≡ ending_elsewhere b.dims r (got_of b) = ap (λ ds. ending_elsewhere ds r (got_of p')) (sym dims) ∙ ap (λ (x : Others). x.got) rest in
     let keep : (l : ℕ) → l < links b.dims → LinkLaw cap b.slots (sent_of p' l) (got_of p' l) =
     subst (λ ds. (l : ℕ) → l < links ds → LinkLaw cap b.slots (sent_of p' l) (got_of p' l)) dims (subst (λ n. (l : ℕ) → l < links p'.dims → LinkLaw cap n (sent_of p' l) (got_of p' l)) slots a.lawful.each_link) in
     let done : AgreeTogether b.dims cap b.slots (λ x. buffers_of (new x)) (sent_of p') (got_of p') =

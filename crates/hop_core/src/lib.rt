@@ -29,6 +29,9 @@
 //!
 //! No call after `RankState::new` takes memory.
 //!
+//! A rank's calls name a link by the number of the neighbour at its other end, ports by its number in the grid:
+//! route_tensor's `specs/Neighbour` leads from one to the other (`link_to`, `link_from`) and back (`out_index`, `in_index`).
+//!
 //! The definitions, in the order in which to read them: `Link` and `State` (what contracts see of a rank), `Relay` (what it passes on).
 //! `Standing` is what the code keeps up.
 #![tactic(auto)]

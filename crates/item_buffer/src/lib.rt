@@ -19,11 +19,11 @@
 //! | `len()`, `is_full()`, `cap()` | | of the untaken entries, and `CAP` |
 //! | `last()`, `set_last(on)`, `epoch()`, `set_epoch(e)` | | the marks |
 //!
-//! `specs/Contents` says what contracts see of a parcel, and `specs/Capacity` what `CAP` may be.
+//! `is_capacity(cap)` tells for which capacities the product is compiled. `specs/Contents` says what contracts see of a parcel, and `specs/Capacity` what `CAP` may be.
 #![tactic(auto)]
 
 mod capacity;
 mod parcel;
 
-pub use capacity::{CAPACITIES, MOST_ENTRIES};
+pub use capacity::{MOST_ENTRIES, is_capacity};
 pub use parcel::Parcel;

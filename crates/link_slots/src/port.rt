@@ -91,7 +91,7 @@ impl<'a, const CAP: usize> Port<CAP> for SlotPort<'a, CAP> {
 
     ghost noted = { λ p l. noted_at p.seat l };
 
-    ghost rest = { λ p. record { bank = named p.seat.id; sent = λ l. []; got = λ l. [] } };
+    ghost others = { λ p. record { bank = named p.seat.id; sent = λ l. []; got = λ l. [] } };
 
     ghost post_does = { λ old l p result new. DidPost old.seat new.seat l p result };
 

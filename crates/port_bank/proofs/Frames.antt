@@ -1,15 +1,15 @@
 -- What stays stays over several calls.
 use Rattle.std.proofs.Common.{ℕ, List, refl, ◌∙◌}
 use Rattle.port_bank.specs.Logs.{Logs}
-use Rattle.port_bank.specs.Port.{Rest, PortStays, OutsStay, InsStay}
+use Rattle.port_bank.specs.Port.{Others, PortStays, OutsStay, InsStay}
 
-module _ {P : Type 0} {rank_of : P → ℕ} {dims_of : P → List ℕ} {slots_of : P → ℕ} {rest_of : P → Rest} where
-  pub port_at_first : {p : P} → PortStays rank_of dims_of slots_of rest_of p p
-  port_at_first = record { rank = refl; dims = refl; slots = refl; rest = refl }
+module _ {P : Type 0} {rank_of : P → ℕ} {dims_of : P → List ℕ} {slots_of : P → ℕ} {others_of : P → Others} where
+  pub port_at_first : {p : P} → PortStays rank_of dims_of slots_of others_of p p
+  port_at_first = record { rank = refl; dims = refl; slots = refl; others = refl }
 
-  pub port_then : {old mid new : P} → PortStays rank_of dims_of slots_of rest_of old mid → PortStays rank_of dims_of slots_of rest_of mid new
-      → PortStays rank_of dims_of slots_of rest_of old new
-  port_then a b = record { rank = b.rank ∙ a.rank; dims = b.dims ∙ a.dims; slots = b.slots ∙ a.slots; rest = b.rest ∙ a.rest }
+  pub port_then : {old mid new : P} → PortStays rank_of dims_of slots_of others_of old mid → PortStays rank_of dims_of slots_of others_of mid new
+      → PortStays rank_of dims_of slots_of others_of old new
+  port_then a b = record { rank = b.rank ∙ a.rank; dims = b.dims ∙ a.dims; slots = b.slots ∙ a.slots; others = b.others ∙ a.others }
 
 module _ {P : Type 0} {sent_of : P → Logs} {posts_of looks_of : P → ℕ → ℕ} where
   pub outs_at_first : {p : P} → OutsStay sent_of posts_of looks_of p p

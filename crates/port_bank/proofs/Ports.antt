@@ -11,7 +11,7 @@ use Rattle.route_tensor.specs.Link.{links}
 use Rattle.list_laws.specs.Lists.{Begins, changed}
 use Rattle.port_bank.specs.Logs.{Logs, added, starting_at, ending_at, starting_elsewhere, ending_elsewhere}
 use Rattle.port_bank.specs.Relay.{RelayLaw}
-use Rattle.port_bank.specs.Port.{Rest}
+use Rattle.port_bank.specs.Port.{Others}
 use Rattle.port_bank.specs.declared.port.Posted.{Posted}
 use Rattle.port_bank.specs.declared.port.Posted.TheVariants.{Sent, NoRoom}
 use Rattle.port_bank.specs.declared.port.Collected.{Collected}
@@ -94,8 +94,8 @@ apart b l some crowded idle =
 pub after_post : (b b' : Bank) (r r' l : ℕ) (p : Shipped) → b'.dims ≡ b.dims → r' ≡ r → sender_at b.dims l ≡ r → starting_at b'.dims r' (sent_of b') ≡ added (starting_at b.dims r (sent_of b)) l p
     → ending_at b'.dims r' (got_of b') ≡ ending_at b.dims r (got_of b) → others_of r' b' ≡ others_of r b → (sent_of b' ≡ added (sent_of b) l p) × (got_of b' ≡ got_of b)
 after_post b b' r r' l p same rank from sent got rest =
-    let elsewhere : starting_elsewhere b'.dims r' (sent_of b') ≡ starting_elsewhere b.dims r (sent_of b) = ap (λ (x : Rest). x.sent) rest in
-    let others : ending_elsewhere b'.dims r' (got_of b') ≡ ending_elsewhere b.dims r (got_of b) = ap (λ (x : Rest). x.got) rest in (
+    let elsewhere : starting_elsewhere b'.dims r' (sent_of b') ≡ starting_elsewhere b.dims r (sent_of b) = ap (λ (x : Others). x.sent) rest in
+    let others : ending_elsewhere b'.dims r' (got_of b') ≡ ending_elsewhere b.dims r (got_of b) = ap (λ (x : Others). x.got) rest in (
       sent_more_rejoined b.dims r (sent_of b) (sent_of b') l p from
           (subst (λ x. starting_at x r (sent_of b') ≡ added (starting_at b.dims r (sent_of b)) l p) same (subst (λ q. starting_at b'.dims q (sent_of b') ≡ added (starting_at b.dims r (sent_of b)) l p) rank sent))
           (subst (λ x. starting_elsewhere x r (sent_of b') ≡ starting_elsewhere b.dims r (sent_of b)) same (subst (λ q. starting_elsewhere b'.dims q (sent_of b') ≡ starting_elsewhere b.dims r (sent_of b)) rank elsewhere)),
@@ -107,8 +107,8 @@ after_post b b' r r' l p same rank from sent got rest =
 pub after_collect : (b b' : Bank) (r r' l : ℕ) (p : Shipped) → b'.dims ≡ b.dims → r' ≡ r → reader_at b.dims l ≡ r → starting_at b'.dims r' (sent_of b') ≡ starting_at b.dims r (sent_of b)
     → ending_at b'.dims r' (got_of b') ≡ added (ending_at b.dims r (got_of b)) l p → others_of r' b' ≡ others_of r b → (sent_of b' ≡ sent_of b) × (got_of b' ≡ added (got_of b) l p)
 after_collect b b' r r' l p same rank to sent got rest =
-    let elsewhere : starting_elsewhere b'.dims r' (sent_of b') ≡ starting_elsewhere b.dims r (sent_of b) = ap (λ (x : Rest). x.sent) rest in
-    let others : ending_elsewhere b'.dims r' (got_of b') ≡ ending_elsewhere b.dims r (got_of b) = ap (λ (x : Rest). x.got) rest in (
+    let elsewhere : starting_elsewhere b'.dims r' (sent_of b') ≡ starting_elsewhere b.dims r (sent_of b) = ap (λ (x : Others). x.sent) rest in
+    let others : ending_elsewhere b'.dims r' (got_of b') ≡ ending_elsewhere b.dims r (got_of b) = ap (λ (x : Others). x.got) rest in (
       sent_rejoined b.dims r (sent_of b) (sent_of b')
           (subst (λ x. starting_at x r (sent_of b') ≡ starting_at b.dims r (sent_of b)) same (subst (λ q. starting_at b'.dims q (sent_of b') ≡ starting_at b.dims r (sent_of b)) rank sent))
           (subst (λ x. starting_elsewhere x r (sent_of b') ≡ starting_elsewhere b.dims r (sent_of b)) same (subst (λ q. starting_elsewhere b'.dims q (sent_of b') ≡ starting_elsewhere b.dims r (sent_of b)) rank elsewhere)),

@@ -5,7 +5,7 @@ use Rattle.port_bank.specs.Port.{PortStays, OutsStay, InsStay}
 
 -- What no call on a port changes.
 abbrev pub SamePort : {P : Type 0} {cap : ℕ} {M : Type 0} → Ghosts P cap M → P → P → Type 0
-SamePort G old new = PortStays G.rank G.dims G.slots G.rest old new
+SamePort G old new = PortStays G.rank G.dims G.slots G.others old new
 
 -- What a collect leaves of a port's links out, and a post of its links in.
 abbrev pub SameOuts : {P : Type 0} {cap : ℕ} {M : Type 0} → Ghosts P cap M → P → P → Type 0

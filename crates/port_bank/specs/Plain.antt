@@ -14,7 +14,7 @@ use Rattle.port_bank.specs.declared.port.Collected.{Collected}
 use Rattle.port_bank.specs.declared.port.Collected.TheVariants.{Got, Nothing}
 use Rattle.port_bank.specs.Link.{LinkLaw}
 use Rattle.port_bank.specs.Relay.{RelayLaw}
-use Rattle.port_bank.specs.Port.{Rest, IsSlots}
+use Rattle.port_bank.specs.Port.{Others, IsSlots}
 use Rattle.port_bank.specs.Round.{Round}
 
 -- One link: the parcels posted and those collected, how often its sender looked for room and its reader looked,
@@ -66,7 +66,7 @@ abbrev pub got_of : Bank → Logs
 got_of b = λ l. (channel_at b l).got
 
 -- What the ranks other than r sent and got.
-abbrev pub others_of : ℕ → Bank → Rest
+abbrev pub others_of : ℕ → Bank → Others
 others_of r b =
     record { bank = []; sent = starting_elsewhere b.dims r (sent_of b); got = ending_elsewhere b.dims r (got_of b) }
 

@@ -16,18 +16,18 @@ CollectDoes P = P → ℕ → Contents → Collected → P → Type 0
 
 -- Plain data that no call on a port changes. On the plain port it is what the other ranks sent and got, on a
 -- slot port the bank that its seat belongs to, and no logs.
-pub record Rest : Type 0 where
+pub record Others : Type 0 where
   pub bank : List ℕ
   pub sent : Logs
   pub got : Logs
 
 -- What no call on a port changes: its rank, its grid, its number of slots, and what belongs to others.
-pub record PortStays {P : Type 0} (rank_of : P → ℕ) (dims_of : P → List ℕ) (slots_of : P → ℕ) (rest_of : P → Rest)
+pub record PortStays {P : Type 0} (rank_of : P → ℕ) (dims_of : P → List ℕ) (slots_of : P → ℕ) (others_of : P → Others)
     (old new : P) : Type 0 where
   pub rank : rank_of new ≡ rank_of old
   pub dims : dims_of new ≡ dims_of old
   pub slots : slots_of new ≡ slots_of old
-  pub rest : rest_of new ≡ rest_of old
+  pub others : others_of new ≡ others_of old
 
 -- What a collect leaves of the links out: what was posted there, and how often the port was asked and looked.
 pub record OutsStay {P : Type 0} (sent_of : P → Logs) (posts_of looks_of : P → ℕ → ℕ) (old new : P) : Type 0 where

@@ -91,7 +91,7 @@ impl<const CAP: usize> Port<CAP> for PlainPort<CAP> {
 
     ghost noted = { λ p l. (channel_at p.bank l).noted };
 
-    ghost rest = { λ p. others_of p.rank p.bank };
+    ghost others = { λ p. others_of p.rank p.bank };
 
     ghost post_does = { λ old l p result new. DidPost old.bank new.bank l (shipped p) result };
 

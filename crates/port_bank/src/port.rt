@@ -9,7 +9,7 @@ ghost use Rattle.route_tensor.specs.Ends.{hop_at, sender_at, reader_at};
 ghost use Rattle.port_bank.specs.Logs.{Logs, lasts, added};
 ghost use Rattle.list_laws.specs.Lists.{Begins, changed};
 ghost use Rattle.port_bank.specs.Relay.{RelayLaw};
-ghost use Rattle.port_bank.specs.Port.{Rest, PortStays, OutsStay, InsStay, IsSlots, PostDoes, CollectDoes};
+ghost use Rattle.port_bank.specs.Port.{Others, PortStays, OutsStay, InsStay, IsSlots, PostDoes, CollectDoes};
 
 use crate::memory::Memory;
 use bale_types::NoMemory;
@@ -44,7 +44,7 @@ pub enum Collected {
 /// | `posts`, `collects` | each link: how often `post` was called and had memory, and how often `collect` |
 /// | `looks_out`, `looks_in` | each link: how often `post` looked for room, and how often `collect` looked |
 /// | `listens`, `noted` | each link in: how often the port listened for it, and as of the end of its latest collect |
-/// | `rest` | what belongs to others, which no call changes |
+/// | `others` | what belongs to others, which no call changes |
 /// | `post_does`, `collect_does` | what a port says of itself, beyond what holds of all ports |
 ///
 /// The counts but the first two are kept in 64 bits and stand still at the last number.
@@ -82,7 +82,7 @@ pub trait Port<const CAP: usize>: Drop {
 
     ghost noted: { Self → ℕ → ℕ };
 
-    ghost rest: { Self → Rest };
+    ghost others: { Self → Others };
 
     ghost post_does: { PostDoes Self };
 
@@ -137,7 +137,7 @@ pub trait Port<const CAP: usize>: Drop {
         ensures looks_out { (l : ℕ) → looks_out self.old l ≤ looks_out self.new l }
         ensures looks_here { looks_out self.new ≡ changed (looks_out self.old) link (looks_out self.new link) }
         ensures same_ins { InsStay got collects looks_in listens noted self.old self.new }
-        ensures same_port { PortStays rank dims slots rest self.old self.new };
+        ensures same_port { PortStays rank dims slots others self.old self.new };
 
     /// Collects the next parcel of a link in, in place of the empty one at hand, which is of the epoch that the
     /// link is in.
@@ -179,7 +179,7 @@ pub trait Port<const CAP: usize>: Drop {
         ensures crowded_here { crowded self.new ≡ changed (crowded self.old) link (crowded self.new link) }
         ensures idle_here { idle self.new ≡ changed (idle self.old) link (idle self.new link) }
         ensures same_outs { OutsStay sent posts looks_out self.old self.new }
-        ensures same_port { PortStays rank dims slots rest self.old self.new };
+        ensures same_port { PortStays rank dims slots others self.old self.new };
 
     ghost crowded_is: { (p : Self) (l : ℕ) → crowded p l ≡ (length (sent p l) == freed p l + slots p) };
 

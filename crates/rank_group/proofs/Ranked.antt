@@ -8,7 +8,7 @@ use Rattle.route_tensor.specs.Link.{links}
 use Rattle.route_tensor.specs.Ends.{sender_at, reader_at}
 use Rattle.port_bank.specs.Logs.{Logs, starting_at, ending_at}
 use Rattle.port_bank.specs.Flow.{Begins}
-use Rattle.port_bank.specs.Port.{Rest}
+use Rattle.port_bank.specs.Port.{Others}
 use Rattle.port_bank.specs.Plain.{Bank, sent_of, got_of, others_of, crowded_of, idle_of}
 use Rattle.round_program.specs.Rules.{Rules}
 use Rattle.rank_node.specs.declared.turn.Turn.{Turn}
@@ -78,8 +78,8 @@ after_turn R cap r turn n n' b b' q q' own same nd nr told =
     let t : PortTurn R cap turn n n' b r b'' r =
     subst (λ (x : Bank). PortTurn R cap turn n n' b r x r) e (subst (λ k. PortTurn R cap turn n n' b r b' k) (same ∙ own) (subst (λ k. PortTurn R cap turn n n' b k b' q') own told)) in
     record {
-      sent_elsewhere = ap (λ (x : Rest). x.sent) t.rest;
-      got_elsewhere = ap (λ (x : Rest). x.got) t.rest;
+      sent_elsewhere = ap (λ (x : Others). x.sent) t.rest;
+      got_elsewhere = ap (λ (x : Others). x.got) t.rest;
       node_dims = t.node_dims;
       node_rank = t.node_rank;
       node_manner = t.node_manner;

@@ -101,7 +101,7 @@ impl<'a, const CAP: usize> Port<CAP> for NotingPort<'a, CAP> {
     ghost noted = { λ p l. noted_at p.port.seat l };
 
     // What it had at the latest `watch` no call changes.
-    ghost rest = { λ p. record {
+    ghost others = { λ p. record {
       bank = named p.port.seat.id;
       sent = posted_on p.first.value.seat;
       got = collected_from p.first.value.seat;

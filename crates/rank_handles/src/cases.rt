@@ -1,6 +1,5 @@
 //! A rank and a group of any capacity: here and in `specs/Cases` stands what there is once for each capacity.
 ghost use Rattle.std.specs.Prelude.{◌≡◌, ◌≢◌, Some, Ok, Err, IfOk, IfErr, OnOk, OnErr, true};
-ghost use Rattle.item_buffer.specs.Capacity.{is_capacity};
 ghost use Rattle.route_tensor.specs.Grid.{ranks};
 ghost use Rattle.port_bank.specs.Port.{IsSlots};
 ghost use Rattle.rank_handles.specs.Grouped.{IsNewGroup, IsNewRank, with_given, rank_answer, answer_with, is_slots, group_answer};
@@ -13,7 +12,7 @@ use crate::item::BaleItem;
 use crate::rank::Rank;
 use bale_types::{Item, NoMemory};
 use hop_core::Phase;
-use item_buffer::CAPACITIES;
+use item_buffer::is_capacity;
 use route_tensor::Grid;
 use std::alloc::Global;
 use std::marker::Model;
@@ -238,7 +237,7 @@ impl AnyGroup {
         if !has_slots(slots) {
             return Err(Answer::BadNumbers);
         }
-        if !has_capacity(buffer) {
+        if !is_capacity(buffer) {
             return Err(Answer::BadNumbers);
         }
         match group_of(alloc, &grid, buffer, slots, steady) {
@@ -292,13 +291,6 @@ fn has_slots(slots: u32) -> bool
     ensures slots { result ≡ true → IsSlots slots }
 {
     slots == 1 || slots == 2 || slots == 4 || slots == 8
-}
-
-/// Whether there are parcels of so many entries.
-fn has_capacity(buffer: u32) -> bool
-    ensures { result ≡ is_capacity buffer }
-{
-    CAPACITIES.contains(&buffer)
 }
 
 /// The group of a capacity.

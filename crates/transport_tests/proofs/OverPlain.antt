@@ -6,7 +6,7 @@ use Rattle.route_tensor.specs.Grid.{ranks, IsGrid}
 use Rattle.route_tensor.specs.Link.{links}
 use Rattle.port_bank.specs.Logs.{Logs, starting_at, ending_at, starting_elsewhere, ending_elsewhere}
 use Rattle.port_bank.specs.Link.{LinkLaw}
-use Rattle.port_bank.specs.Port.{Rest}
+use Rattle.port_bank.specs.Port.{Others}
 use Rattle.port_bank.specs.Plain.{Bank, IsBank, sent_of, got_of, others_of, empty_bank}
 use Rattle.port_bank.proofs.Closing.{empty_links, none_sent, none_got}
 use Rattle.exstack.specs.State.{Stack, dims_of}
@@ -113,9 +113,9 @@ together_poll n cap r old new st st' b p p' b' q q' law dims t h c same same_ran
     let agrees : AgreesWith st' (starting_at (n ∷ []) r (sent_of p')) (ending_at (n ∷ []) r (got_of p')) =
     subst (λ (ds : List ℕ). AgreesWith st' (starting_at ds r (sent_of p')) (ending_at ds r (got_of p'))) one (subst (λ m. AgreesWith st' (starting_at p'.dims m (sent_of p')) (ending_at p'.dims m (got_of p'))) rank a.agrees) in
     let apart : starting_elsewhere (n ∷ []) r (sent_of p') ≡ starting_elsewhere (n ∷ []) r (sent_of b) =
-    ap (λ (ds : List ℕ). starting_elsewhere ds r (sent_of p')) (sym one) ∙ (ap (λ (x : Rest). x.sent) rest ∙ ap (λ (ds : List ℕ). starting_elsewhere ds r (sent_of b)) dims) in
+    ap (λ (ds : List ℕ). starting_elsewhere ds r (sent_of p')) (sym one) ∙ (ap (λ (x : Others). x.sent) rest ∙ ap (λ (ds : List ℕ). starting_elsewhere ds r (sent_of b)) dims) in
     let apart' : ending_elsewhere (n ∷ []) r (got_of p') ≡ ending_elsewhere (n ∷ []) r (got_of b) =
-    ap (λ (ds : List ℕ). ending_elsewhere ds r (got_of p')) (sym one) ∙ (ap (λ (x : Rest). x.got) rest ∙ ap (λ (ds : List ℕ). ending_elsewhere ds r (got_of b)) dims) in
+    ap (λ (ds : List ℕ). ending_elsewhere ds r (got_of p')) (sym one) ∙ (ap (λ (x : Others). x.got) rest ∙ ap (λ (ds : List ℕ). ending_elsewhere ds r (got_of b)) dims) in
     let keep : (l : ℕ) → l < links (n ∷ []) → LinkLaw cap b.slots (sent_of p' l) (got_of p' l) =
     subst (λ (ds : List ℕ). (l : ℕ) → l < links ds → LinkLaw cap b.slots (sent_of p' l) (got_of p' l)) one (subst (λ m. (l : ℕ) → l < links p'.dims → LinkLaw cap m (sent_of p' l) (got_of p' l)) slots a.lawful.each_link) in
     let done : AgreeTogether n cap b.slots new (sent_of p') (got_of p') =

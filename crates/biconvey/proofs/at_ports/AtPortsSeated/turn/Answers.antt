@@ -1,5 +1,5 @@
 use Rattle.std.proofs.Common.{◌≡◌, ◌==◌, ◌+◌, true, not, ◌||◌, ap, sym, subst, ◌∙◌, arith}
-use Rattle.port_bank.specs.Port.{Rest}
+use Rattle.port_bank.specs.Port.{Others}
 use Rattle.rank_crews.proofs.Crewed.{neither}
 use Rattle.biconvey.specs.Seats.{SeatedState, HasWay, Ran, HaveSame}
 use Rattle.biconvey.proofs.OnPorts.{one_seat, has_way, turned, none_moved}
@@ -18,8 +18,8 @@ invariant_of-self g c =
     let heard = subst (λ k. g.G.Gate.told c.args.gate.now k i.turns ≡ true) (sym (ap (λ k. k.seat.rank) c.watch.ensures.port)) (subst (λ k. g.G.Gate.told c.args.gate.now k i.turns ≡ true) c.rank.ensures.value c.turn.ensures.told) in
     has_way g.A.Asker.talk g.row.CAP (g.G.Gate.told c.args.gate.now) x _ (subst (HasWay g.A.Asker.talk g.row.CAP) (sym at) c.self.invariant)
     (turned g.A.Asker.talk g.row.CAP (g.G.Gate.told c.args.gate.now) i.node n.self q n.queries.port.seat p n.replies.port.seat i.turns heard
-    (one_seat q n.queries.port.seat (ap (λ (r : Rest). r.bank) t.queries.same_port.rest) t.queries.same_port.dims t.queries.same_port.slots t.queries.same_port.rank)
-    (one_seat p n.replies.port.seat (ap (λ (r : Rest). r.bank) t.replies.same_port.rest) t.replies.same_port.dims t.replies.same_port.slots t.replies.same_port.rank)
+    (one_seat q n.queries.port.seat (ap (λ (r : Others). r.bank) t.queries.same_port.others) t.queries.same_port.dims t.queries.same_port.slots t.queries.same_port.rank)
+    (one_seat p n.replies.port.seat (ap (λ (r : Others). r.bank) t.replies.same_port.others) t.replies.same_port.dims t.replies.same_port.slots t.replies.same_port.rank)
     t.dims t.rank t.queries.steady t.replies.steady t.kept t.queries.grows.shape t.replies.grows.shape)
 
 pub returns : goal.returns
@@ -37,8 +37,8 @@ returns g c =
     record {
       ran = subst (λ (z : SeatedState g.row.A.Denot). Ran g.A.Asker.talk g.row.CAP (g.G.Gate.told c.args.gate.now) z y) (at ∙ c.self.view_is)
           (turned g.A.Asker.talk g.row.CAP (g.G.Gate.told c.args.gate.now) i.node n.self q n.queries.port.seat p n.replies.port.seat i.turns heard
-          (one_seat q n.queries.port.seat (ap (λ (r : Rest). r.bank) t.queries.same_port.rest) t.queries.same_port.dims t.queries.same_port.slots t.queries.same_port.rank)
-          (one_seat p n.replies.port.seat (ap (λ (r : Rest). r.bank) t.replies.same_port.rest) t.replies.same_port.dims t.replies.same_port.slots t.replies.same_port.rank)
+          (one_seat q n.queries.port.seat (ap (λ (r : Others). r.bank) t.queries.same_port.others) t.queries.same_port.dims t.queries.same_port.slots t.queries.same_port.rank)
+          (one_seat p n.replies.port.seat (ap (λ (r : Others). r.bank) t.replies.same_port.others) t.replies.same_port.dims t.replies.same_port.slots t.replies.same_port.rank)
           t.dims t.rank t.queries.steady t.replies.steady t.kept t.queries.grows.shape t.replies.grows.shape);
       counted = omega (arith, ap (λ (x : SeatedState g.row.A.Denot). x.turns) c.self.view_is, t.steps);
       still = λ none.
@@ -48,8 +48,8 @@ returns g c =
           subst (λ (z : SeatedState g.row.A.Denot). HaveSame z y) c.self.view_is
           record {
             queries = none_moved i.queries.port.seat c.watch.new.self.first.value.seat n.queries.first.value.seat n.queries.port.seat (c.moved.ensures first.1)
-                (ap (λ (r : Rest). r.sent) t.queries.same_port.rest) (ap (λ (r : Rest). r.got) t.queries.same_port.rest) (ap (λ k. k.seat) c.watch.ensures.first);
+                (ap (λ (r : Others). r.sent) t.queries.same_port.others) (ap (λ (r : Others). r.got) t.queries.same_port.others) (ap (λ k. k.seat) c.watch.ensures.first);
             replies = none_moved i.replies.port.seat c.watch-2.new.self.first.value.seat n.replies.first.value.seat n.replies.port.seat (c.moved-2.ensures last.1)
-                (ap (λ (r : Rest). r.sent) t.replies.same_port.rest) (ap (λ (r : Rest). r.got) t.replies.same_port.rest) (ap (λ k. k.seat) c.watch-2.ensures.first);
+                (ap (λ (r : Others). r.sent) t.replies.same_port.others) (ap (λ (r : Others). r.got) t.replies.same_port.others) (ap (λ k. k.seat) c.watch-2.ensures.first);
           };
     }

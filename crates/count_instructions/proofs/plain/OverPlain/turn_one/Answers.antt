@@ -27,7 +27,7 @@ invariant_of-result-2 g c =
       port_dims = c.turn.ensures.keeps.same_port.dims;
       port_rank = c.turn.ensures.keeps.same_port.rank;
       port_slots = c.turn.ensures.keeps.same_port.slots;
-      rest = c.turn.ensures.keeps.same_port.rest;
+      rest = c.turn.ensures.keeps.same_port.others;
       lawful = subst (IsBank g.row.CAP) c.into_bank-bank.ensures.bank c.into_bank-bank.ensures.lawful;
     } in
     let advanced = λ (d : Side g.row.CAP g.row.HOPS). together_advance g.row.CAP c.args.rank _ _ _ _ c.self.inside.bank c.port-port.result.bank c.turn.new.port.bank c.into_bank-bank.result c.port-port.result.rank c.turn.new.port.rank

@@ -1,5 +1,5 @@
 use Rattle.std.proofs.Common.{rules, ◌≡◌, ◌+◌, ◌||◌, true, true≢false, refl, sym, ap, subst, ◌∙◌, arith}
-use Rattle.port_bank.specs.Port.{Rest}
+use Rattle.port_bank.specs.Port.{Others}
 use Rattle.rank_group.specs.Seats.{SeatedState, HasWay, Ran}
 use Rattle.rank_crews.proofs.Crewed.{neither}
 use Rattle.rank_group.proofs.OnWay.{turned, gave_up, has_way, one_place, going_progress}
@@ -29,7 +29,7 @@ returns-after-got_on-clause-ran g c =
     let t = c.turn_over.ensures in
     let seat = c.turn_over.new.port.port.seat in
     let heard = subst (λ k. g.G.Gate.told c.args.gate.now k i.turns ≡ true) (sym (ap (λ p. p.seat.rank) c.watch.ensures.port)) (subst (λ k. g.G.Gate.told c.args.gate.now k i.turns ≡ true) c.rank.ensures.value c.turn.ensures.told) in
-    let same = one_place x seat (ap (λ (r : Rest). r.bank) t.same_port.rest) t.same_port.dims t.same_port.slots in
+    let same = one_place x seat (ap (λ (r : Others). r.bank) t.same_port.others) t.same_port.dims t.same_port.slots in
     let y : SeatedState g.row.Q.Denot = record { rank = c.turn_over.new.rank; seat = seat; turns = i.turns + 1; lost = i.lost } in
     subst (λ (z : SeatedState g.row.Q.Denot). Ran R g.row.CAP (g.G.Gate.told c.args.gate.now) z y) (at ∙ c.self.view_is) (turned R g.row.CAP x c.turn_over.new.rank seat same t.same_port.rank (g.G.Gate.told c.args.gate.now) heard n.1 n.0 c.in-Ok.ensures.epoch c.in-Ok.ensures.kept)
 
@@ -46,7 +46,7 @@ returns-in-Err g c =
     let t = c.turn_over.ensures in
     let seat = c.turn_over.new.port.port.seat in
     let heard = subst (λ k. g.G.Gate.told c.args.gate.now k i.turns ≡ true) (sym (ap (λ p. p.seat.rank) c.watch.ensures.port)) (subst (λ k. g.G.Gate.told c.args.gate.now k i.turns ≡ true) c.rank.ensures.value c.turn.ensures.told) in
-    let same = one_place x seat (ap (λ (r : Rest). r.bank) t.same_port.rest) t.same_port.dims t.same_port.slots in
+    let same = one_place x seat (ap (λ (r : Others). r.bank) t.same_port.others) t.same_port.dims t.same_port.slots in
     let y : SeatedState g.row.Q.Denot = record { rank = c.turn_over.new.rank; seat = seat; turns = i.turns + 1; lost = true } in
     record {
       ran = subst (λ (z : SeatedState g.row.Q.Denot). Ran R g.row.CAP (g.G.Gate.told c.args.gate.now) z y) (at ∙ c.self.view_is) (gave_up R g.row.CAP x c.turn_over.new.rank seat same t.same_port.rank (g.G.Gate.told c.args.gate.now) heard);
@@ -65,7 +65,7 @@ invariant_of-self g c =
     let t = c.turn_over.ensures in
     let seat = c.turn_over.new.port.port.seat in
     let heard = subst (λ k. g.G.Gate.told c.args.gate.now k i.turns ≡ true) (sym (ap (λ p. p.seat.rank) c.watch.ensures.port)) (subst (λ k. g.G.Gate.told c.args.gate.now k i.turns ≡ true) c.rank.ensures.value c.turn.ensures.told) in
-    let same = one_place x seat (ap (λ (r : Rest). r.bank) t.same_port.rest) t.same_port.dims t.same_port.slots in
+    let same = one_place x seat (ap (λ (r : Others). r.bank) t.same_port.others) t.same_port.dims t.same_port.slots in
     has_way R g.row.CAP (g.G.Gate.told c.args.gate.now) x _ (subst (HasWay R g.row.CAP) (sym at) c.self.invariant) (turned R g.row.CAP x c.turn_over.new.rank seat same t.same_port.rank (g.G.Gate.told c.args.gate.now) heard n.1 n.0 c.in-Ok.ensures.epoch c.in-Ok.ensures.kept)
 
 pub invariant_of-self-in-Err : goal.invariant_of-self-in-Err
@@ -78,5 +78,5 @@ invariant_of-self-in-Err g c =
     let t = c.turn_over.ensures in
     let seat = c.turn_over.new.port.port.seat in
     let heard = subst (λ k. g.G.Gate.told c.args.gate.now k i.turns ≡ true) (sym (ap (λ p. p.seat.rank) c.watch.ensures.port)) (subst (λ k. g.G.Gate.told c.args.gate.now k i.turns ≡ true) c.rank.ensures.value c.turn.ensures.told) in
-    let same = one_place x seat (ap (λ (r : Rest). r.bank) t.same_port.rest) t.same_port.dims t.same_port.slots in
+    let same = one_place x seat (ap (λ (r : Others). r.bank) t.same_port.others) t.same_port.dims t.same_port.slots in
     has_way R g.row.CAP (g.G.Gate.told c.args.gate.now) x _ (subst (HasWay R g.row.CAP) (sym at) c.self.invariant) (gave_up R g.row.CAP x c.turn_over.new.rank seat same t.same_port.rank (g.G.Gate.told c.args.gate.now) heard)

@@ -35,7 +35,7 @@ invariant_of-result-2 g c =
       port_dims = c.in_ok-answer.ensures.keeps.same_port.dims;
       port_rank = c.in_ok-answer.ensures.keeps.same_port.rank;
       port_slots = c.in_ok-answer.ensures.keeps.same_port.slots;
-      rest = c.in_ok-answer.ensures.keeps.same_port.rest;
+      rest = c.in_ok-answer.ensures.keeps.same_port.others;
       lawful = subst (IsBank g.row.CAP) c.into_bank-bank.ensures.bank c.into_bank-bank.ensures.lawful;
     } in
     let count : length (set sides c.args.rank c.make.new.self) ≡ length sides = length-set sides c.args.rank c.make.new.self in

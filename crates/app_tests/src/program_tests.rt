@@ -4,7 +4,6 @@ ghost use Rattle.app_tests.specs.SmallTable.{SmallCount};
 
 use crate::rig::run;
 use bale_types::NoMemory;
-use either::{Either, Left, Right};
 use round_examples::{Ask, Count, Lookup};
 use round_program::{Asker, Progs};
 use std::alloc::Global;
@@ -70,30 +69,6 @@ fn answers_of_a_small_table(rt: HostRuntime) -> Result<(), Fail> {
         ended
             .get(1)
             .is_some_and(|rank| rank.answers() == [10, 20, 20].as_slice())
-    );
-    Ok(())
-}
-
-/// Either of the two programs.
-type CountOrAsk = Either<Count, Ask>;
-
-/// Both runs once more, with each program one of two.
-#[test]
-fn either_of_two_programs(rt: HostRuntime) -> Result<(), Fail> {
-    let (zero, one) = counts(rt.alloc())?;
-    let progs: Progs<CountOrAsk> = two(rt.alloc(), Left(zero), Left(one))?;
-    let (ended, votes) = run(rt.alloc(), progs, 4)?;
-    assert!(rt; votes.len() == 1);
-    assert!(rt; matches!(ended.get(0), Some(Left(rank)) if rank.counts() == [1, 0, 1].as_slice()));
-    assert!(rt; matches!(ended.get(1), Some(Left(rank)) if rank.counts() == [0, 3, 0].as_slice()));
-
-    let (zero, one) = asks(rt.alloc())?;
-    let progs: Progs<CountOrAsk> = two(rt.alloc(), Right(zero), Right(one))?;
-    let (ended, votes) = run(rt.alloc(), progs, 4)?;
-    assert!(rt; votes.len() == 2);
-    assert!(rt; matches!(ended.get(0), Some(Right(rank)) if rank.answers() == [20, 30].as_slice()));
-    assert!(rt;
-        matches!(ended.get(1), Some(Right(rank)) if rank.answers() == [10, 20, 20].as_slice())
     );
     Ok(())
 }

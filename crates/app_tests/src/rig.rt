@@ -1,8 +1,6 @@
 //! The canonical run by hand: in each round every rank absorbs what all ranks sent it, sender by sender, and ends the round
 //! with the sum of the votes.
 
-ghost use Rattle.std.specs.Prelude.{◌≡◌, ◌/◌, length, IfSome};
-
 use bale_types::{Item, NoMemory};
 use round_program::{Program, Progs};
 use std::alloc::Global;
@@ -92,18 +90,4 @@ fn ended<Q: Program>(
         }
     }
     Ok((later, goes_on))
-}
-
-/// The rank that has number `x` of those that are dealt out in turn, and the place at which it has it.
-pub(crate) fn owner_of<Q: Program>(p: &Progs<Q>, x: usize) -> Option<(&Q, usize)>
-    ensures { IfSome result (λ found. found.1 ≡ x / length p.now) }
-{
-    let ranks = p.len();
-    if ranks == 0 {
-        return None;
-    }
-    match p.get(x % ranks) {
-        Some(owner) => Some((owner, x / ranks)),
-        None => None,
-    }
 }

@@ -87,3 +87,44 @@ fn faults_of_ig_over_biconvey(rt: HostRuntime) -> Result<(), Fail> {
     is_wanted(&rt, words, got, written);
     Ok(())
 }
+
+/// Five lines, of which two are equal and one is empty.
+const LINES: &[u8] = b"b\na\nb\n\na b\n";
+
+#[test]
+fn lines_of_a_source_that_fails(rt: HostRuntime) -> Result<(), Fail> {
+    let alloc = rt.alloc();
+    for call in 1..=5 {
+        let want = if call < 5 {
+            READ_FAULT
+        } else {
+            "0 1 \n1 a\n1 a b\n2 b\n"
+        };
+        let got = read_alone(alloc, "tally", LINES, 5, &[call])?;
+        is_wanted(&rt, "tally", got, want);
+        let got = read_as_asked(&rt, alloc, "tally", LINES, 5, &[call])?;
+        is_wanted(&rt, "tally", got, want);
+    }
+    Ok(())
+}
+
+/// The call of the sink that fails, and the answer.
+const TALLIES: [(u64, &str); 5] = [
+    (1, "4 bale: write fault\n"),
+    (2, "4 1 \n1 bale: write fault\n"),
+    (3, "4 1 \n1 a\n1 abale: write fault\n"),
+    (4, "4 1 \n1 a\n1 a b\n2 bale: write fault\n"),
+    (5, "0 1 \n1 a\n1 a b\n2 b\n"),
+];
+
+#[test]
+fn tallies_to_a_sink_that_fails(rt: HostRuntime) -> Result<(), Fail> {
+    let alloc = rt.alloc();
+    for (call, want) in &TALLIES {
+        let got = written_alone(alloc, "tally", LINES, 5, &[*call])?;
+        is_wanted(&rt, "tally", got, want);
+        let got = written_as_asked(&rt, alloc, "tally", LINES, 5, &[*call])?;
+        is_wanted(&rt, "tally", got, want);
+    }
+    Ok(())
+}

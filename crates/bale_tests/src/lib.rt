@@ -1,5 +1,6 @@
-//! Runs through the top calls of the program: every case and setting, texts that are no matrix, faults of sources and sinks, and a gate that
-//! holds a rank. Its worked runs are rows of checks/runs.txt, since each text here is one more to be compared with all types of the program.
+//! Runs through the top calls of the program that need more than its streams: faults of sources and sinks at each call, a gate that holds
+//! a rank, and the rounds that a run tells. Its worked runs are made by the program itself (checks/worked_runs), since each text here is
+//! one more to be compared with all types of the program.
 //! It has tests alone: they stand above the crates that they run, so that proving one does not prove the other again.
 #![tactic(auto)]
 
@@ -8,10 +9,6 @@ mod fault_tests;
 #[cfg(test)]
 mod gate_tests;
 #[cfg(test)]
-mod line_tests;
-#[cfg(test)]
 mod rig;
 #[cfg(test)]
-mod run_tests;
-#[cfg(test)]
-mod text_tests;
+mod round_tests;

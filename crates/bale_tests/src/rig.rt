@@ -21,10 +21,6 @@ use std::time::Clock;
 pub(crate) const ONE: &[u8] =
     b"%%MatrixMarket matrix coordinate pattern general\n3 3 4\n1 1\n1 3\n2 3\n3 3\n";
 
-pub(crate) const PATTERN: &str = "%%MatrixMarket matrix coordinate pattern general\n";
-
-pub(crate) const INTEGER: &str = "%%MatrixMarket matrix coordinate integer general\n";
-
 pub(crate) fn words(alloc: Global, text: &str) -> Result<Vec<String>, Fail> {
     let mut words = Vec::new(alloc);
     for word in text.split_whitespace() {
@@ -216,60 +212,7 @@ pub(crate) fn written_as_asked<R: Threads + Wait + Clock + Sync>(
     told_as_asked(rt, alloc, words, &mut source, &mut out)
 }
 
-/// The answer of a serial run.
-pub(crate) fn answer_alone(alloc: Global, words: &str, text: &[u8]) -> Result<String, Fail> {
-    read_alone(alloc, words, text, 65_536, &[])
-}
-
-/// The answer of a run as the words ask for it.
-pub(crate) fn answer_as_asked<R: Threads + Wait + Clock + Sync>(
-    rt: &R,
-    alloc: Global,
-    words: &str,
-    text: &[u8],
-) -> Result<String, Fail> {
-    read_as_asked(rt, alloc, words, text, 65_536, &[])
-}
-
 /// An answer is the one that is wanted of these words.
 pub(crate) fn is_wanted<R: Abort>(rt: &R, words: &str, got: String, want: &str) {
     assert_eq!(rt; got.as_str(), want, "{words}");
-}
-
-/// A serial run has this answer.
-pub(crate) fn wants_alone<R: Abort>(
-    rt: &R,
-    alloc: Global,
-    words: &str,
-    text: &[u8],
-    want: &str,
-) -> Result<(), Fail> {
-    let got = answer_alone(alloc, words, text)?;
-    is_wanted(rt, words, got, want);
-    Ok(())
-}
-
-/// A run as the words ask for it has this answer.
-pub(crate) fn wants_as_asked<R: Threads + Wait + Clock + Sync + Abort>(
-    rt: &R,
-    alloc: Global,
-    words: &str,
-    text: &[u8],
-    want: &str,
-) -> Result<(), Fail> {
-    let got = answer_as_asked(rt, alloc, words, text)?;
-    is_wanted(rt, words, got, want);
-    Ok(())
-}
-
-/// Both have it.
-pub(crate) fn wants<R: Threads + Wait + Clock + Sync + Abort>(
-    rt: &R,
-    alloc: Global,
-    words: &str,
-    text: &[u8],
-    want: &str,
-) -> Result<(), Fail> {
-    wants_alone(rt, alloc, words, text, want)?;
-    wants_as_asked(rt, alloc, words, text, want)
 }

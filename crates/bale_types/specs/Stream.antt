@@ -1,7 +1,7 @@
 -- What a source has still to give, what a sink has taken, and what one call moves between them and a
 -- buffer. Where an object doesn't tell its bytes, they are None before and after each call.
 use Rattle.std.specs.Prelude.{◌≡◌, ◌<◌, ◌≤◌, ◌^◌, ◌-◌, ◌⊎◌, ℕ, zero, suc, ◌+◌, min, List, [], ◌++◌, Option, None, Some}
-use Rattle.std.specs.Prelude.{Result, Ok, Err, OnErr, OnOk, IfOk, take}
+use Rattle.std.specs.Prelude.{Result, Ok, Err, OnErr, OnOk, IfOk, IsSome, length, take, drop}
 
 -- what is taken once these bytes were appended
 -- after (Some taken) bytes = Some (taken ++ bytes)
@@ -84,3 +84,18 @@ next_count n = min (n + 1) (2 ^ 64 - 1)
 pub record IsFront (taken all : Option (List ℕ)) : Type 0 where
   pub rest : List ℕ
   pub whole : after taken rest ≡ all
+
+-- what is left of a text, of which at most so many bytes were taken from the front
+-- end: the rest ends the text
+-- few: no more is missing
+-- `2` is behind `1 1 2`, of which at most 5 bytes were taken
+pub record IsBehind (limit : ℕ) (text rest : List ℕ) : Type 0 where
+  pub end : rest ≡ drop (length text - length rest) text
+  pub few : length text ≤ length rest + limit
+
+-- a reader takes at most so many bytes of a source, where that tells them
+-- behind: what is left stands behind what was taken
+-- told: and the source still tells it
+pub record TakesUpTo (limit : ℕ) (left left' : Option (List ℕ)) : Type 0 where
+  pub behind : (text rest : List ℕ) → left ≡ Some text → left' ≡ Some rest → IsBehind limit text rest
+  pub told : (text : List ℕ) → left ≡ Some text → IsSome left'

@@ -7,6 +7,7 @@
 //! | `Triple` | one entry of a sparse matrix |
 //! | `NoMemory`, `Failed` | an allocation was refused; a read or a write failed |
 //! | `Source`, `Sink` | gives bytes; takes bytes; both count their failures |
+//! | `read_text` | the text of a source, up to so many bytes |
 //! | `MemSource`, `MemSink` | a source and a sink in memory, which fail at the calls named |
 //! | `StdinSource`, `StdoutSink`, `StderrSink` | the standard streams |
 //! | `Line` | a line of an answer before it is written |
@@ -35,6 +36,7 @@ mod memory;
 mod out;
 mod standard;
 mod stream;
+mod text;
 mod triple;
 
 pub use bits::{bits_of, value_of};
@@ -47,4 +49,5 @@ pub use memory::{MemSink, MemSource};
 pub use out::Out;
 pub use standard::{StderrSink, StdinSource, StdoutSink};
 pub use stream::{Sink, Source};
+pub use text::{Unread, read_text};
 pub use triple::Triple;

@@ -1,7 +1,6 @@
-//! Askers on threads, by hand and on grids of one to three hops, and with every rank kept by the caller.
+//! Askers on threads, by hand, and with ranks that have no thread.
 
 ghost use Rattle.std.specs.Prelude.{◌<◌};
-ghost use Rattle.item_buffer.specs.Capacity.{IsCapacity};
 ghost use Rattle.rank_node.specs.Fits.{FitsGrid};
 
 use crate::asking_tests::{Told, adders_of, have_heard};
@@ -16,45 +15,18 @@ use std::test::Fail;
 use std::thread::Threads;
 use std::time::Clock;
 
-/// The first `asking` ranks ask, each on a thread.
-fn ask_side_by_side<R: Threads + Wait + Clock + Sync, G: Gate + Sync>(
-    rt: &R,
-    alloc: Global,
-    dims: &[u32],
-    cap: u32,
-    asking: u32,
-    gate: &G,
-) -> Result<Option<Told>, NoMemory>
-    requires { IsCapacity cap }
-{
-    let Ok(grid) = Grid::new(dims) else {
-        return Ok(None);
-    };
-    let askers = adders_of(alloc, grid.ranks(), asking)?;
-    let Finished { progs, rounds } = bi_threads(rt, alloc, &grid, cap, 1, false, askers, gate)?;
-    Ok(Some((have_heard(&progs), rounds.len())))
-}
-
-/// Rank 0 asks rank 1.
+/// Rank 0 asks rank 1, each on a thread.
 pub(crate) fn by_hand<R: Threads + Wait + Clock + Sync, G: Gate + Sync>(
     rt: &R,
     alloc: Global,
     gate: &G,
 ) -> Result<Option<Told>, NoMemory> {
-    ask_side_by_side(rt, alloc, &[2], 1, 1, gate)
-}
-
-/// All ranks ask, with buffers of 1, 2 and 64.
-fn on_buffers<R: Threads + Wait + Clock + Sync>(
-    rt: &R,
-    alloc: Global,
-    dims: &[u32],
-) -> Result<[Option<Told>; 3], NoMemory> {
-    Ok([
-        ask_side_by_side(rt, alloc, dims, 1, 64, &TestGate::Open)?,
-        ask_side_by_side(rt, alloc, dims, 2, 64, &TestGate::Open)?,
-        ask_side_by_side(rt, alloc, dims, 64, 64, &TestGate::Open)?,
-    ])
+    let Ok(grid) = Grid::new(&[2]) else {
+        return Ok(None);
+    };
+    let askers = adders_of(alloc, grid.ranks(), 1)?;
+    let Finished { progs, rounds } = bi_threads(rt, alloc, &grid, 1, 1, false, askers, gate)?;
+    Ok(Some((have_heard(&progs), rounds.len())))
 }
 
 /// All ranks ask, in so many crews, of which the caller turns those from the number `threads` on.
@@ -93,33 +65,11 @@ fn askers_by_hand_on_threads(rt: HostRuntime) -> Result<(), Fail> {
 }
 
 #[test]
-fn askers_on_threads_on_every_grid(rt: HostRuntime) -> Result<(), Fail> {
-    let alloc = rt.alloc();
-    assert_eq!(rt; on_buffers(&rt, alloc, &[1])?, [Some((1, 2)); 3]);
-    assert_eq!(rt; on_buffers(&rt, alloc, &[2])?, [Some((2, 2)); 3]);
-    assert_eq!(rt; on_buffers(&rt, alloc, &[2, 2])?, [Some((4, 2)); 3]);
-    assert_eq!(rt; on_buffers(&rt, alloc, &[2, 2, 2])?, [Some((8, 2)); 3]);
-    Ok(())
-}
-
-#[test]
 fn askers_kept_by_the_caller(rt: HostRuntime) -> Result<(), Fail> {
-    let alloc = rt.alloc();
-    if let Ok(grid) = Grid::new(&[2]) {
-        assert_eq!(rt;
-            ask_here::<1, 1, HostRuntime>(&rt, alloc, &grid, 2, 0)?,
-            (2, 2)
-        );
-    }
-    if let Ok(grid) = Grid::new(&[2, 2, 2]) {
-        assert_eq!(rt;
-            ask_here::<2, 3, HostRuntime>(&rt, alloc, &grid, 1, 0)?,
-            (8, 2)
-        );
-        assert_eq!(rt;
-            ask_here::<64, 3, HostRuntime>(&rt, alloc, &grid, 3, 2)?,
-            (8, 2)
-        );
-    }
+    let Ok(grid) = Grid::new(&[2, 2, 2]) else {
+        return Err(Fail::new("no grid"));
+    };
+    let told = ask_here::<64, 3, HostRuntime>(&rt, rt.alloc(), &grid, 3, 2)?;
+    assert_eq!(rt; told, (8, 2));
     Ok(())
 }

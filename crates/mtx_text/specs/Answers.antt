@@ -1,5 +1,5 @@
 -- What a reader answers, beside the definition that it is held to. Want of memory is free.
-use Rattle.std.specs.Prelude.{◌≡◌, ℕ, ◌+◌, ◌-◌, ◌≤◌, List, length, drop, Option, Some, IsSome, Result, Ok, Err}
+use Rattle.std.specs.Prelude.{◌≡◌, Result, Ok, Err}
 use Rattle.mtx_text.specs.declared.refusal.BadLine.{BadLine}
 use Rattle.mtx_text.specs.declared.refusal.ParseFault.{ParseFault}
 use Rattle.mtx_text.specs.declared.refusal.ParseFault.TheVariants as fault
@@ -28,15 +28,3 @@ OnDecided (Ok m) P = P
 OnDecided (Err (stop.Bad b)) P = P
 OnDecided (Err stop.Source) P = Unit {0}
 OnDecided (Err stop.NoMemory) P = Unit {0}
-
--- What is left of a text, of which at most `limit` bytes were read from the front: the rest ends the text.
-pub record IsBehind (limit : ℕ) (text rest : List ℕ) : Type 0 where
-  pub end : rest ≡ drop (length text - length rest) text
-  pub few : length text ≤ length rest + limit
-
--- A reader takes at most `limit` bytes of a source, where that tells them.
--- behind: what is left stands behind what was taken
--- told: and the source still tells it
-pub record TakesUpTo (limit : ℕ) (left left' : Option (List ℕ)) : Type 0 where
-  pub behind : (text rest : List ℕ) → left ≡ Some text → left' ≡ Some rest → IsBehind limit text rest
-  pub told : (text : List ℕ) → left ≡ Some text → IsSome left'

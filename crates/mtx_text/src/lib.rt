@@ -7,7 +7,6 @@
 //! |---|---|---|
 //! | [`parse_matrix`] | a text in memory | its matrix, or its first bad line |
 //! | [`read_matrix`] | the text of a source | the same, or that a read failed |
-//! | [`read_text`] | the text of a source, up to so many bytes | its front, or that a read failed |
 //! | [`write_matrix`] | a matrix as text | that text is read as the same matrix |
 //! | [`EntryLine`] | the line of one entry after another, as `write_matrix` writes them | |
 //! | [`Matrix::rows`], [`Matrix::cols`], [`Matrix::kind`] | the parts | |
@@ -63,7 +62,7 @@ pub use generate::gen_matrix;
 pub use kind::Kind;
 pub use matrix::Matrix;
 pub use parse::parse_matrix;
-pub use read::{Unread, read_matrix, read_text};
+pub use read::read_matrix;
 pub use refusal::{BadLine, ParseFault, ReadFault, Reason};
 pub use seeds::Words;
 pub use write::write_matrix;

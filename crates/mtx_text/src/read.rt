@@ -1,43 +1,14 @@
-//! The text that a source gives, and the matrix of it.
-ghost use Rattle.std.specs.Prelude.{◌≡◌, ℕ, ◌+◌, ◌<◌, List, Some, Ok, Err, take, drop, vec_len, IfOk};
-ghost use Rattle.bale_types.specs.Stream.{Blames};
-ghost use Rattle.mtx_text.specs.declared.read.Unread.TheVariants as Unread;
+//! The matrix of the text that a source gives.
+ghost use Rattle.std.specs.Prelude.{◌≡◌, ℕ, List, Some, Err, drop};
+ghost use Rattle.bale_types.specs.Stream.{Blames, TakesUpTo};
 ghost use Rattle.mtx_text.specs.Grammar.{matrix_of};
-ghost use Rattle.mtx_text.specs.Answers.{ReadGives, OnDecided, TakesUpTo};
+ghost use Rattle.mtx_text.specs.Answers.{ReadGives, OnDecided};
 
 use crate::matrix::Matrix;
 use crate::parse::{MOST_BYTES, parse_matrix};
 use crate::refusal::{ParseFault, ReadFault};
-use bale_types::{Failed, Source};
-use std::alloc::{AllocError, Global};
-
-/// Bytes that one read asks for at most.
-const PIECE: usize = 65_536;
-
-/// Why a text couldn't be read to its end.
-#[derive(Clone, Copy)]
-pub enum Unread {
-    /// A read failed.
-    Source,
-    /// An allocation was refused.
-    NoMemory,
-}
-
-impl From<Failed> for Unread {
-    ghost from_gives = { λ _ e. e ≡ Unread.Source };
-
-    fn from(_e: Failed) -> Unread {
-        Unread::Source
-    }
-}
-
-impl From<AllocError> for Unread {
-    ghost from_gives = { λ _ e. e ≡ Unread.NoMemory };
-
-    fn from(_e: AllocError) -> Unread {
-        Unread::NoMemory
-    }
-}
+use bale_types::{Source, Unread, read_text};
+use std::alloc::Global;
 
 /// The matrix of the text that a source still has to give, or its first bad line.
 ///
@@ -65,34 +36,4 @@ pub fn read_matrix<S: Source>(alloc: Global, source: &mut S) -> Result<Matrix, R
         Err(ParseFault::Bad(b)) => Err(ReadFault::Bad(b)),
         Err(ParseFault::NoMemory) => Err(ReadFault::NoMemory),
     }
-}
-
-/// The text of a source, up to `limit` bytes.
-pub fn read_text<S: Source>(alloc: Global, source: &mut S, limit: usize) -> Result<Vec<u8>, Unread>
-    ensures text { (text : List ℕ) → S.left source.old ≡ Some text
-        → IfOk result (λ read. read.items ≡ take limit text) }
-    ensures left { (text : List ℕ) → S.left source.old ≡ Some text
-        → IfOk result (λ read. S.left source.new ≡ Some (drop limit text)) }
-    ensures takes { TakesUpTo limit (S.left source.old) (S.left source.new) }
-    ensures faults { Blames (result ≡ Err Unread.Source) (S.faults source.old) (S.faults source.new) }
-{
-    let mut text = Vec::new(alloc);
-    let mut buffer = room_for(alloc, PIECE)?;
-    while text.len() < limit {
-        let room = PIECE.min(limit - text.len());
-        let piece = &mut buffer[..room];
-        let count = source.read(piece)?;
-        if count == 0 {
-            return Ok(text);
-        }
-        text.extend_from_slice(&piece[..count])?;
-    }
-    Ok(text)
-}
-
-/// A buffer of so many bytes.
-fn room_for(alloc: Global, len: usize) -> Result<Vec<u8>, AllocError>
-    ensures { IfOk result (λ buffer. vec_len buffer ≡ len) }
-{
-    vec![in alloc; 0u8; len]
 }

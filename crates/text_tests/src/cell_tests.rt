@@ -1,7 +1,7 @@
-//! Worked matrices written, made of cells and of seeds, and that calls succeed with ample memory.
+//! Matrices made of cells and of seeds, and that calls succeed with ample memory.
 
 use bale_types::{MemSink, Out, Triple};
-use mtx_text::{Cells, Kind, Matrix, Words, gen_matrix, parse_matrix, write_matrix};
+use mtx_text::{Cells, Kind, Matrix, Words, gen_matrix, write_matrix};
 use std::alloc::Global;
 use std::test::Fail;
 
@@ -12,26 +12,6 @@ fn written(alloc: Global, m: &Matrix) -> Result<Vec<u8>, Fail> {
     write_matrix(m, &mut out)?;
     out.flush()?;
     Ok(Vec::from_slice(alloc, sink.taken())?)
-}
-
-#[test]
-fn texts_written(rt: HostRuntime) -> Result<(), Fail> {
-    let rows = [
-        // transpose, permute_by_lists, permute_by_seed: what goes in and what comes out
-        "%%MatrixMarket matrix coordinate integer general\n2 3 2\n1 3 -7\n2 1 4\n",
-        "%%MatrixMarket matrix coordinate integer general\n3 2 2\n1 2 4\n3 1 -7\n",
-        "%%MatrixMarket matrix coordinate integer general\n3 3 1\n2 1 9\n",
-        "%%MatrixMarket matrix coordinate integer general\n3 3 2\n1 3 6\n3 2 5\n",
-        "%%MatrixMarket matrix coordinate integer general\n1 1 1\n1 1 -1000000000000\n",
-        "%%MatrixMarket matrix coordinate pattern general\n3 3 4\n1 1\n1 3\n2 3\n3 3\n",
-        "%%MatrixMarket matrix coordinate pattern general\n0 0 0\n",
-    ];
-    for text in rows {
-        let m = parse_matrix(rt.alloc(), text.as_bytes())?;
-        let again = written(rt.alloc(), &m)?;
-        assert!(rt; again.as_slice() == text.as_bytes(), "{text}");
-    }
-    Ok(())
 }
 
 #[test]

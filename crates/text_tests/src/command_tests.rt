@@ -295,34 +295,3 @@ fn refused_lines(rt: HostRuntime) -> Result<(), Fail> {
     }
     Ok(())
 }
-
-#[test]
-fn long_lines(rt: HostRuntime) -> Result<(), Fail> {
-    let alloc = rt.alloc();
-    // A number of a thousand digits is read to its end, and lies in a range only where the others are zeros.
-    let mut zeros = String::from_str(alloc, "histo --grid ")?;
-    let mut nines = String::from_str(alloc, "histo --grid ")?;
-    for _ in 0..999 {
-        zeros.push('0')?;
-        nines.push('9')?;
-    }
-    zeros.push('4')?;
-    nines.push('9')?;
-    assert!(rt; told(alloc, zeros.as_str())?.as_str() == "histo 1/4 Convey 2 false 64 Threads");
-    assert!(rt; told(alloc, nines.as_str())?.as_str() == "usage");
-    // A permutation of 16,384 numbers.
-    let mut line = String::from_str(alloc, "--rperm=1")?;
-    for n in 2..16_385 {
-        line.push_str(format!(in alloc; ",{n}")?.as_str())?;
-    }
-    let mut words = Vec::new(alloc);
-    words.push(String::from_str(alloc, "permute")?)?;
-    words.push(line)?;
-    let command = read_command(alloc, words.as_slice())?;
-    let Task::Permute(Permutations::Lists(Some(rows), None)) = &command.task else {
-        return Err(Fail::new("no list"));
-    };
-    assert!(rt; rows.as_slice().len() == 16_384 && rows.as_slice()[16_383] == 16_384);
-    assert!(rt; Numbers::of(Vec::new(alloc)).as_slice().is_empty());
-    Ok(())
-}

@@ -1,10 +1,8 @@
 //! Worked texts with their matrices or bad lines, and that calls succeed with ample memory.
 ghost use Rattle.std.specs.Prelude.{None};
 
-use bale_types::{Failed, MemSink, MemSource, Out, Source, Triple};
-use mtx_text::{
-    BadLine, EntryLine, Kind, Matrix, ParseFault, ReadFault, Reason, parse_matrix, read_matrix,
-};
+use bale_types::{Failed, MemSink, Out, Source, Triple};
+use mtx_text::{EntryLine, Kind, Matrix, ParseFault, Reason, parse_matrix, read_matrix};
 use std::alloc::{AllocError, Global};
 use std::test::Fail;
 
@@ -236,58 +234,6 @@ fn texts_with_a_bad_line(rt: HostRuntime) -> Result<(), Fail> {
     Ok(())
 }
 
-#[test]
-fn a_text_cut_short(rt: HostRuntime) -> Result<(), Fail> {
-    let text = b"%%MatrixMarket matrix coordinate pattern general\n3 3 4\n1 1\n1 3\n2 3\n3 3\n";
-    // from this many bytes on
-    let rows = [
-        (0, 1, Reason::Banner),
-        (42, 1, Reason::Unsupported),
-        (48, 2, Reason::SizeLine),
-        (54, 3, Reason::TooFew),
-        (56, 3, Reason::EntryLine),
-        (58, 4, Reason::TooFew),
-        (60, 4, Reason::EntryLine),
-        (62, 5, Reason::TooFew),
-        (64, 5, Reason::EntryLine),
-        (66, 6, Reason::TooFew),
-        (68, 6, Reason::EntryLine),
-        (70, 0, Reason::TooLong),
-    ];
-    for n in 0..70 {
-        let mut wanted = rows[0];
-        for row in rows {
-            if row.0 <= n {
-                wanted = row;
-            }
-        }
-        let bad = BadLine {
-            line: wanted.1,
-            reason: wanted.2,
-        };
-        let read = parse_matrix(rt.alloc(), &text[..n]);
-        assert!(rt;
-            matches!(read, Err(ParseFault::Bad(b)) if b == bad),
-            "{n} bytes"
-        );
-    }
-    assert!(rt; parse_matrix(rt.alloc(), &text[..70]).is_ok());
-    Ok(())
-}
-
-#[test]
-fn texts_from_a_source(rt: HostRuntime) -> Result<(), Fail> {
-    let text = b"%%MatrixMarket matrix coordinate pattern general\n1 1 1\n1 1\n";
-    for (fails, whole) in [([10].as_slice(), true), (&[9], false), (&[1], false)] {
-        let mut source = MemSource::new(rt.alloc(), text, 8, fails)?;
-        match read_matrix(rt.alloc(), &mut source) {
-            Ok(m) => assert!(rt; whole && m.entries() == [Triple { i: 0, j: 0, v: 1 }].as_slice()),
-            Err(fault) => assert!(rt; !whole && fault == ReadFault::Source),
-        }
-    }
-    Ok(())
-}
-
 /// A source of three pieces of LF, the last of which is empty. It counts how often it was asked, and keeps the least room that it was
 /// offered.
 #[derive(Drop)]
@@ -321,35 +267,6 @@ fn a_read_asks_for_many_bytes(rt: HostRuntime) {
     assert!(rt; read_matrix(rt.alloc(), &mut source).is_err());
     assert_eq!(rt; source.calls, 3);
     assert_eq!(rt; source.least, 65_536);
-}
-
-#[test]
-fn hostile_lengths(rt: HostRuntime) -> Result<(), Fail> {
-    let mut text = Vec::new(rt.alloc());
-    for _ in 0..16_777_217 {
-        text.push(b'\n')?;
-    }
-    let bad = BadLine {
-        line: 16_777_217,
-        reason: Reason::TooLong,
-    };
-    let mut source = MemSource::new(rt.alloc(), text.as_slice(), 65_536, &[])?;
-    assert!(rt; matches!(read_matrix(rt.alloc(), &mut source), Err(ReadFault::Bad(b)) if b == bad));
-    let mut text = Vec::from_slice(
-        rt.alloc(),
-        b"%%MatrixMarket matrix coordinate integer general\n1 1 1\n1 1 ",
-    )?;
-    for _ in 0..1_000_000 {
-        text.push(b'9')?;
-    }
-    let bad = BadLine {
-        line: 3,
-        reason: Reason::Value,
-    };
-    assert!(rt;
-        matches!(parse_matrix(rt.alloc(), text.as_slice()), Err(ParseFault::Bad(b)) if b == bad)
-    );
-    Ok(())
 }
 
 #[test]

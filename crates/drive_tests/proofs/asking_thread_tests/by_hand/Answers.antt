@@ -1,7 +1,12 @@
-use Rattle.std.proofs.Common.{rules, refl}
+use Rattle.std.proofs.Common.{refl}
+use Rattle.port_bank.specs.Port.{IsSlots}
 use Rattle.item_buffer.specs.Capacity.{IsCapacity}
 use Rattle.drive_tests.proofs.asking_thread_tests.by_hand.Goals as goal
 
-pub ask_side_by_side-requires : goal.ask_side_by_side-requires
+pub bi_threads-requires-clause-capacity : goal.bi_threads-requires-clause-capacity
 unfolding IsCapacity
-ask_side_by_side-requires g c = (search rules, (search rules, refl))
+bi_threads-requires-clause-capacity g c κs within = refl
+
+pub bi_threads-requires-clause-slots : goal.bi_threads-requires-clause-slots
+unfolding IsSlots
+bi_threads-requires-clause-slots g c κs within = refl

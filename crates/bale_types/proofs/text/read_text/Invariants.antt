@@ -1,6 +1,6 @@
 use Rattle.std.proofs.Common.{◌≡◌, ◌-◌, ◌≤◌, vec_len}
 use Rattle.bale_types.specs.Stream.{before}
-use Rattle.mtx_text.proofs.read.read_text.Given as goal
+use Rattle.bale_types.proofs.text.read_text.Given as goal
 
 abbrev pub invariant-loop-text : goal.invariant-loop-text
 invariant-loop-text g l =

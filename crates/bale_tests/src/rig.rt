@@ -1,5 +1,4 @@
 //! What the tests of the top calls share: runs of both, and their answers as texts.
-ghost use Rattle.std.specs.Prelude.{◌<◌};
 ghost use Rattle.rank_node.specs.Ledgers.{IsBlankOf};
 
 use bale_cli::{Outcome, run, run_serial};
@@ -150,6 +149,22 @@ pub(crate) fn told_as_asked<R: Threads + Wait + Clock + Sync>(
     Ok(format!(in alloc; "{status} {written}{said}")?)
 }
 
+/// A source that gives `most` bytes at a call and fails at these calls.
+fn source_of(alloc: Global, text: &[u8], most: usize, fails: &[u64]) -> Result<MemSource, Fail> {
+    if most == 0 {
+        return Err(Fail::new("no byte at a call"));
+    }
+    Ok(MemSource::new(alloc, text, most, fails)?)
+}
+
+/// A sink that takes `most` bytes at a call and fails at these calls.
+fn sink_of(alloc: Global, most: usize, fails: &[u64]) -> Result<MemSink, Fail> {
+    if most == 0 {
+        return Err(Fail::new("no byte at a call"));
+    }
+    Ok(MemSink::new(alloc, 100, most, fails)?)
+}
+
 /// The answer of a serial run, of a source that gives `most` bytes at a call and fails at these calls.
 pub(crate) fn read_alone(
     alloc: Global,
@@ -157,10 +172,8 @@ pub(crate) fn read_alone(
     text: &[u8],
     most: usize,
     fails: &[u64],
-) -> Result<String, Fail>
-    requires { 0 < most }
-{
-    let mut source = MemSource::new(alloc, text, most, fails)?;
+) -> Result<String, Fail> {
+    let mut source = source_of(alloc, text, most, fails)?;
     let mut out = MemSink::new(alloc, 1 << 20, 1 << 20, &[])?;
     told_alone(alloc, words, &mut source, &mut out)
 }
@@ -173,10 +186,8 @@ pub(crate) fn read_as_asked<R: Threads + Wait + Clock + Sync>(
     text: &[u8],
     most: usize,
     fails: &[u64],
-) -> Result<String, Fail>
-    requires { 0 < most }
-{
-    let mut source = MemSource::new(alloc, text, most, fails)?;
+) -> Result<String, Fail> {
+    let mut source = source_of(alloc, text, most, fails)?;
     let mut out = MemSink::new(alloc, 1 << 20, 1 << 20, &[])?;
     told_as_asked(rt, alloc, words, &mut source, &mut out)
 }
@@ -188,11 +199,9 @@ pub(crate) fn written_alone(
     text: &[u8],
     most: usize,
     fails: &[u64],
-) -> Result<String, Fail>
-    requires { 0 < most }
-{
+) -> Result<String, Fail> {
     let mut source = MemSource::new(alloc, text, 65_536, &[])?;
-    let mut out = MemSink::new(alloc, 100, most, fails)?;
+    let mut out = sink_of(alloc, most, fails)?;
     told_alone(alloc, words, &mut source, &mut out)
 }
 
@@ -204,11 +213,9 @@ pub(crate) fn written_as_asked<R: Threads + Wait + Clock + Sync>(
     text: &[u8],
     most: usize,
     fails: &[u64],
-) -> Result<String, Fail>
-    requires { 0 < most }
-{
+) -> Result<String, Fail> {
     let mut source = MemSource::new(alloc, text, 65_536, &[])?;
-    let mut out = MemSink::new(alloc, 100, most, fails)?;
+    let mut out = sink_of(alloc, most, fails)?;
     told_as_asked(rt, alloc, words, &mut source, &mut out)
 }
 

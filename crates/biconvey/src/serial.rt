@@ -1,6 +1,6 @@
 //! The drive on one thread, by capacity and hops.
 
-ghost use Rattle.std.specs.Prelude.{◌+◌, ◌≤◌, false, length, IfOk};
+ghost use Rattle.std.specs.Prelude.{◌≡◌, ◌+◌, ◌≤◌, false, length, IfOk};
 ghost use Rattle.std.specs.List.{sum_by};
 ghost use Rattle.route_tensor.specs.Grid.{ranks};
 ghost use Rattle.port_bank.specs.Port.{IsSlots};
@@ -25,7 +25,6 @@ use std::sync::ledger::Ledger;
 ///
 /// # Errors
 /// `NoMemory` where a rank, a bank or the result found none. The askers are dropped.
-#[tactic(auto, unfolding(item_buffer::specs::Capacity::IsCapacity))]
 pub fn bi_serial<A: Asker, L: Ledger>(
     alloc: Global,
     grid: &Grid,
@@ -48,20 +47,37 @@ pub fn bi_serial<A: Asker, L: Ledger>(
     ensures steps { steps.new ≤ steps.old + turns_of grid.now (sum_by (λ s. length (A.talk.queries s)) askers) }
 {
     match grid.hops() {
-        1 => by_capacity!(
-            cap,
-            drive_both::<1, A, L>,
-            (alloc, grid, slots, steady, order, askers, steps)
-        ),
-        2 => by_capacity!(
-            cap,
-            drive_both::<2, A, L>,
-            (alloc, grid, slots, steady, order, askers, steps)
-        ),
-        _ => by_capacity!(
-            cap,
-            drive_both::<3, A, L>,
-            (alloc, grid, slots, steady, order, askers, steps)
-        ),
+        1 => over_hops::<1, A, L>(alloc, grid, cap, slots, steady, order, askers, steps),
+        2 => over_hops::<2, A, L>(alloc, grid, cap, slots, steady, order, askers, steps),
+        _ => over_hops::<3, A, L>(alloc, grid, cap, slots, steady, order, askers, steps),
     }
+}
+
+/// The cases of so many hops.
+#[tactic(auto, unfolding(item_buffer::specs::Capacity::IsCapacity))]
+fn over_hops<const HOPS: usize, A: Asker, L: Ledger>(
+    alloc: Global,
+    grid: &Grid,
+    cap: u32,
+    slots: u32,
+    steady: bool,
+    order: &[u32],
+    askers: Progs<A>,
+    steps: &mut Steps<L>,
+) -> Result<Finished<A>, NoMemory>
+    requires hops { length grid.now ≡ HOPS }
+    requires capacity { IsCapacity cap }
+    requires slots { IsSlots slots }
+    requires order { IsOrder (ranks grid.now) order.now }
+    requires askers { AreAskers A.talk (ranks grid.now) askers }
+    ensures exchanged { IfOk result (HasExchanged A.talk askers
+        (record { dims = grid.now; cap = cap; slots = slots; by_slots = false }) steady) }
+    ensures swept { IfOk result (HasSweptBoth grid.now steps.old steps.new) }
+    ensures steps { steps.new ≤ steps.old + turns_of grid.now (sum_by (λ s. length (A.talk.queries s)) askers) }
+{
+    by_capacity!(
+        cap,
+        drive_both::<HOPS, A, L>,
+        (alloc, grid, slots, steady, order, askers, steps)
+    )
 }

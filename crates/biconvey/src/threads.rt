@@ -1,6 +1,6 @@
 //! The drive on threads, by capacity and hops.
 
-ghost use Rattle.std.specs.Prelude.{◌≡◌, ℕ, ◌<◌, true, IfOk, OnOk};
+ghost use Rattle.std.specs.Prelude.{◌≡◌, ℕ, ◌<◌, true, length, IfOk, OnOk};
 ghost use Rattle.route_tensor.specs.Grid.{ranks};
 ghost use Rattle.port_bank.specs.Port.{IsSlots};
 ghost use Rattle.item_buffer.specs.Capacity.{IsCapacity};
@@ -23,7 +23,6 @@ use std::time::Clock;
 ///
 /// # Errors
 /// `NoMemory` where a rank, a bank or the result found none. The askers are dropped.
-#[tactic(auto, unfolding(item_buffer::specs::Capacity::IsCapacity))]
 pub fn bi_threads<R: Threads + Wait + Clock + Sync, A: Asker + Send, G: Gate + Sync>(
     rt: &R,
     alloc: Global,
@@ -44,20 +43,35 @@ pub fn bi_threads<R: Threads + Wait + Clock + Sync, A: Asker + Send, G: Gate + S
     ensures told { OnOk result ((r : ℕ) → r < ranks grid.now → G.told gate.now r 0 ≡ true) }
 {
     match grid.hops() {
-        1 => by_capacity!(
-            cap,
-            thread_both::<1, R, A, G>,
-            (rt, alloc, grid, slots, steady, askers, gate)
-        ),
-        2 => by_capacity!(
-            cap,
-            thread_both::<2, R, A, G>,
-            (rt, alloc, grid, slots, steady, askers, gate)
-        ),
-        _ => by_capacity!(
-            cap,
-            thread_both::<3, R, A, G>,
-            (rt, alloc, grid, slots, steady, askers, gate)
-        ),
+        1 => over_hops::<1, R, A, G>(rt, alloc, grid, cap, slots, steady, askers, gate),
+        2 => over_hops::<2, R, A, G>(rt, alloc, grid, cap, slots, steady, askers, gate),
+        _ => over_hops::<3, R, A, G>(rt, alloc, grid, cap, slots, steady, askers, gate),
     }
+}
+
+/// The cases of so many hops.
+#[tactic(auto, unfolding(item_buffer::specs::Capacity::IsCapacity))]
+fn over_hops<const HOPS: usize, R: Threads + Wait + Clock + Sync, A: Asker + Send, G: Gate + Sync>(
+    rt: &R,
+    alloc: Global,
+    grid: &Grid,
+    cap: u32,
+    slots: u32,
+    steady: bool,
+    askers: Progs<A>,
+    gate: &G,
+) -> Result<Finished<A>, NoMemory>
+    requires hops { length grid.now ≡ HOPS }
+    requires capacity { IsCapacity cap }
+    requires slots { IsSlots slots }
+    requires askers { AreAskers A.talk (ranks grid.now) askers }
+    ensures exchanged { IfOk result (HasExchanged A.talk askers
+        (record { dims = grid.now; cap = cap; slots = slots; by_slots = true }) steady) }
+    ensures told { OnOk result ((r : ℕ) → r < ranks grid.now → G.told gate.now r 0 ≡ true) }
+{
+    by_capacity!(
+        cap,
+        thread_both::<HOPS, R, A, G>,
+        (rt, alloc, grid, slots, steady, askers, gate)
+    )
 }

@@ -1,5 +1,6 @@
 //! A rank and a group of any capacity: here and in `specs/Cases` stands what there is once for each capacity.
 ghost use Rattle.std.specs.Prelude.{◌≡◌, ◌≢◌, Some, Ok, Err, IfOk, IfErr, OnOk, OnErr, true};
+ghost use Rattle.item_buffer.specs.Capacity.{is_capacity};
 ghost use Rattle.route_tensor.specs.Grid.{ranks};
 ghost use Rattle.port_bank.specs.Port.{IsSlots};
 ghost use Rattle.rank_handles.specs.Grouped.{IsNewGroup, IsNewRank, with_given, rank_answer, answer_with, is_slots, group_answer};

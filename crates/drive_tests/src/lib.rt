@@ -15,8 +15,6 @@ mod gates;
 #[cfg(test)]
 mod home_tests;
 #[cfg(test)]
-mod order_tests;
-#[cfg(test)]
 mod refused_tests;
 #[cfg(test)]
 mod serial_tests;

@@ -1,56 +1,8 @@
-//! Runs on threads in a row, by both transports, and ranks that have no thread.
+//! Runs on threads by both transports, and ranks that have no thread.
 use crate::gates::TestGate;
-use crate::watched::{Deed, Hands, Watch, drive_on, run_watched};
-use bale_types::NoMemory;
+use crate::watched::{Deed, Hands, Watch, drive_on};
 use rank_group::Via;
-use route_tensor::Grid;
-use std::alloc::Global;
-use std::sync::Wait;
 use std::test::Fail;
-use std::thread::Threads;
-use std::time::Clock;
-
-/// The closed rounds of two runs in a row: how many there are, and the ranks of the second.
-fn rounds_of_two_runs<R: Threads + Wait + Clock + Sync>(
-    rt: &R,
-    alloc: Global,
-) -> Result<(usize, Option<u32>), NoMemory> {
-    let Ok(grid) = Grid::new(&[2]) else {
-        return Ok((0, None));
-    };
-    let watch = Watch::new();
-    let one = run_watched(
-        rt,
-        alloc,
-        &grid,
-        &[],
-        &watch,
-        Deed::Counts,
-        &TestGate::Open,
-        Hands::Threads,
-        Via::Convey,
-    )?;
-    let two = run_watched(
-        rt,
-        alloc,
-        &grid,
-        &[],
-        &watch,
-        Deed::Counts,
-        &TestGate::Open,
-        Hands::Threads,
-        Via::Exstack,
-    )?;
-    let mut rounds = one.rounds;
-    rounds.append(two.rounds)?;
-    Ok((rounds.len(), rounds.get(1).map(|round| round.ranks())))
-}
-
-#[test]
-fn rounds_in_a_row(rt: HostRuntime) -> Result<(), Fail> {
-    assert_eq!(rt; rounds_of_two_runs(&rt, rt.alloc())?, (2, Some(2)));
-    Ok(())
-}
 
 /// Ranks that each name every column, kept by the caller or not.
 #[test]

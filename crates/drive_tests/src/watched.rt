@@ -12,16 +12,13 @@ use route_tensor::Grid;
 use std::alloc::Global;
 use std::marker::Model;
 use std::sync::Wait;
-use std::sync::atomic::{AtomicBool, AtomicU64, Ordering};
+use std::sync::atomic::{AtomicBool, Ordering};
 use std::thread;
 use std::thread::Threads;
 use std::time::Clock;
 
 /// How often a hold looks before it gives up.
 const TRIES: u64 = 1_000_000_000;
-
-/// A log of six digits is full.
-const LOGGED: u64 = 0x10_0000;
 
 /// What the ranks and the gate of a test tell each other.
 #[derive(Drop)]
@@ -37,8 +34,6 @@ pub(crate) struct Watch {
     one_asked: AtomicBool,
     /// Something was not as it should be.
     pub(crate) noted: AtomicBool,
-    /// Which ranks were turned, one after the other on one thread: each hexadecimal digit is one more than a rank.
-    turns: AtomicU64,
 }
 
 impl Watch {
@@ -50,22 +45,7 @@ impl Watch {
             zero_asked: AtomicBool::new(false),
             one_asked: AtomicBool::new(false),
             noted: AtomicBool::new(false),
-            turns: AtomicU64::new(0),
         }
-    }
-
-    /// Logs that a rank is turned, where another was before it, for the first few turns.
-    fn log(&self, rank: u32) {
-        let turns = self.turns.load(Ordering::SeqCst);
-        let digit = u64::from(rank).saturating_add(1);
-        if turns < LOGGED && turns % 16 != digit {
-            self.turns.store(turns * 16 + digit, Ordering::SeqCst);
-        }
-    }
-
-    /// The log.
-    pub(crate) fn turns(&self) -> u64 {
-        self.turns.load(Ordering::SeqCst)
     }
 
     /// Waits for a flag; notes where it gives up.
@@ -110,8 +90,6 @@ pub(crate) enum Deed {
     Looks,
     /// Rank 2 refuses each absorb.
     Refuses,
-    /// Logs each turn.
-    Logs,
 }
 
 /// A counting program that is watched.
@@ -159,9 +137,6 @@ impl<'a> Program for Watched<'a> {
     }
 
     fn count(&self) -> u64 {
-        if self.deed == Deed::Logs {
-            self.watch.log(self.inner.rank());
-        }
         self.inner.count()
     }
 
@@ -245,7 +220,7 @@ pub(crate) enum Hands {
 }
 
 /// Drives watched programs over parcels of one entry.
-pub(crate) fn run_watched<'a, R: Threads + Wait + Clock + Sync, G: Gate + Sync>(
+fn run_watched<'a, R: Threads + Wait + Clock + Sync, G: Gate + Sync>(
     rt: &R,
     alloc: Global,
     grid: &Grid,
@@ -269,36 +244,6 @@ pub(crate) fn run_watched<'a, R: Threads + Wait + Clock + Sync, G: Gate + Sync>(
     }
 }
 
-/// The same, and how often each column was named, and the epochs.
-fn drive_watched<R: Threads + Wait + Clock + Sync, G: Gate + Sync>(
-    rt: &R,
-    alloc: Global,
-    grid: &Grid,
-    lists: &[&[u32]],
-    watch: &Watch,
-    deed: Deed,
-    gate: &G,
-    hands: Hands,
-    via: Via,
-) -> Result<(Vec<u64>, u64), NoMemory>
-    requires hops { length grid.now ≡ 1 }
-{
-    let Finished { progs, rounds } = run_watched(
-        rt, alloc, grid, lists, watch, deed, gate, hands, via,
-    )?;
-    let mut all = vec![in alloc; 0u64; grid.ranks() as usize]?;
-    for r in 0..progs.len() {
-        if let Some(prog) = progs.get(r) {
-            add_counts(&mut all, prog.inner.counts());
-        }
-    }
-    let epochs = match rounds.get(0) {
-        Some(round) => round.epochs(),
-        None => 0,
-    };
-    Ok((all, epochs))
-}
-
 /// Adds the counts of a rank.
 fn add_counts(all: &mut Vec<u64>, counts: &[u64]) {
     for j in 0..all.len() {
@@ -308,7 +253,7 @@ fn add_counts(all: &mut Vec<u64>, counts: &[u64]) {
     }
 }
 
-/// The same on a grid of one number; `None` where there is no such grid.
+/// The same on a grid of one number: how often each column was named, and the epochs. `None` where there is no such grid.
 pub(crate) fn drive_on<R: Threads + Wait + Clock + Sync, G: Gate + Sync>(
     rt: &R,
     alloc: Global,
@@ -323,6 +268,18 @@ pub(crate) fn drive_on<R: Threads + Wait + Clock + Sync, G: Gate + Sync>(
     let Ok(grid) = Grid::new(&[ranks]) else {
         return Ok(None);
     };
-    let told = drive_watched(rt, alloc, &grid, lists, watch, deed, gate, hands, via)?;
-    Ok(Some(told))
+    let Finished { progs, rounds } = run_watched(
+        rt, alloc, &grid, lists, watch, deed, gate, hands, via,
+    )?;
+    let mut all = vec![in alloc; 0u64; grid.ranks() as usize]?;
+    for r in 0..progs.len() {
+        if let Some(prog) = progs.get(r) {
+            add_counts(&mut all, prog.inner.counts());
+        }
+    }
+    let epochs = match rounds.get(0) {
+        Some(round) => round.epochs(),
+        None => 0,
+    };
+    Ok(Some((all, epochs)))
 }

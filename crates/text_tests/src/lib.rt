@@ -1,12 +1,10 @@
-//! Texts and what they are made of: sources and sinks, command lines, and Matrix Market texts with their matrices or bad lines,
-//! written, made of cells and of seeds.
+//! Texts and what they are made of: sources and sinks, and Matrix Market texts with their matrices or bad lines, written, made of
+//! cells and of seeds.
 //! It has tests alone: they stand above the crates that they run, so that proving one does not prove the others again.
 #![tactic(auto)]
 
 #[cfg(test)]
 mod cell_tests;
-#[cfg(test)]
-mod command_tests;
 #[cfg(test)]
 mod reading_tests;
 #[cfg(test)]

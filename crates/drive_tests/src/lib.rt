@@ -15,6 +15,8 @@ mod gates;
 #[cfg(test)]
 mod home_tests;
 #[cfg(test)]
+mod order_tests;
+#[cfg(test)]
 mod refused_tests;
 #[cfg(test)]
 mod serial_tests;

@@ -12,13 +12,16 @@ use route_tensor::Grid;
 use std::alloc::Global;
 use std::marker::Model;
 use std::sync::Wait;
-use std::sync::atomic::{AtomicBool, Ordering};
+use std::sync::atomic::{AtomicBool, AtomicU64, Ordering};
 use std::thread;
 use std::thread::Threads;
 use std::time::Clock;
 
 /// How often a hold looks before it gives up.
 const TRIES: u64 = 1_000_000_000;
+
+/// A log of six digits is full.
+const LOGGED: u64 = 0x10_0000;
 
 /// What the ranks and the gate of a test tell each other.
 #[derive(Drop)]
@@ -34,6 +37,8 @@ pub(crate) struct Watch {
     one_asked: AtomicBool,
     /// Something was not as it should be.
     pub(crate) noted: AtomicBool,
+    /// Which ranks were turned, one after the other on one thread: each hexadecimal digit is one more than a rank.
+    turns: AtomicU64,
 }
 
 impl Watch {
@@ -45,7 +50,22 @@ impl Watch {
             zero_asked: AtomicBool::new(false),
             one_asked: AtomicBool::new(false),
             noted: AtomicBool::new(false),
+            turns: AtomicU64::new(0),
         }
+    }
+
+    /// Logs that a rank is turned, where another was before it, for the first few turns.
+    fn log(&self, rank: u32) {
+        let turns = self.turns.load(Ordering::SeqCst);
+        let digit = u64::from(rank).saturating_add(1);
+        if turns < LOGGED && turns % 16 != digit {
+            self.turns.store(turns * 16 + digit, Ordering::SeqCst);
+        }
+    }
+
+    /// The log.
+    pub(crate) fn turns(&self) -> u64 {
+        self.turns.load(Ordering::SeqCst)
     }
 
     /// Waits for a flag; notes where it gives up.
@@ -90,6 +110,8 @@ pub(crate) enum Deed {
     Looks,
     /// Rank 2 refuses each absorb.
     Refuses,
+    /// Logs each turn.
+    Logs,
 }
 
 /// A counting program that is watched.
@@ -137,6 +159,9 @@ impl<'a> Program for Watched<'a> {
     }
 
     fn count(&self) -> u64 {
+        if self.deed == Deed::Logs {
+            self.watch.log(self.inner.rank());
+        }
         self.inner.count()
     }
 

@@ -1,68 +1,30 @@
 //! Ranks on threads turn side by side, and the gate is told of them.
-use crate::rig::{ONE, Watch, words};
-use bale_cli::run;
-use bale_types::{MemSink, MemSource};
+use crate::rig::{ONE, Watch, ample, make};
 use std::sync::atomic::Ordering;
 use std::test::Fail;
 
 /// And rank 1: a body that turns one rank after the other waits in vain at one of them, whichever it turns first.
-#[test]
-fn gate_holds_rank_0(rt: HostRuntime) -> Result<(), Fail> {
-    for (text, held) in [
-        ("histo --grid 2", 0),
-        ("histo --grid 2", 1),
-        ("histo --grid 2 --via exstack", 0),
-        ("histo --grid 2 --via exstack", 1),
-    ] {
-        let words = words(rt.alloc(), text)?;
-        let gate = Watch::new(Some(held));
-        let mut source = MemSource::new(rt.alloc(), ONE, 65_536, &[])?;
-        let mut out = MemSink::new(rt.alloc(), 100, 100, &[])?;
-        let mut err = MemSink::new(rt.alloc(), 100, 100, &[])?;
-        let outcome = run(
-            &rt,
-            rt.alloc(),
-            words.as_slice(),
-            &mut source,
-            &mut out,
-            &mut err,
-            &gate,
-        );
-        assert_eq!(rt; outcome.status, 0, "{text}");
-        assert_eq!(rt; out.taken(), b"1 1\n2 0\n3 3\n".as_slice(), "{text}");
-        assert!(rt; gate.announced.load(Ordering::SeqCst), "{text}");
-        assert!(rt; !gate.gave_up.load(Ordering::SeqCst), "{text}");
-    }
-    Ok(())
-}
-
 /// `ig` by biconvey is two runs: the columns are summed, and then asked for.
 #[test]
-fn the_gate_is_told_of_each_run(rt: HostRuntime) -> Result<(), Fail> {
-    for (text, runs) in [
-        ("histo --grid 2", 1),
-        ("histo --grid 2 --via exstack", 1),
-        ("ig --grid 2", 1),
-        ("ig --grid 2 --via biconvey", 2),
-        ("topo --grid 2", 1),
-    ] {
-        let words = words(rt.alloc(), text)?;
-        let gate = Watch::new(None);
-        let mut source = MemSource::new(rt.alloc(), ONE, 65_536, &[])?;
-        let mut out = MemSink::new(rt.alloc(), 100, 100, &[])?;
-        let mut err = MemSink::new(rt.alloc(), 100, 100, &[])?;
-        let outcome = run(
-            &rt,
-            rt.alloc(),
-            words.as_slice(),
-            &mut source,
-            &mut out,
-            &mut err,
-            &gate,
-        );
-        assert!(rt; outcome.status <= 1, "{text}");
-        assert_eq!(rt; gate.of_0.load(Ordering::SeqCst), runs, "{text}");
-        assert_eq!(rt; gate.of_1.load(Ordering::SeqCst), runs, "{text}");
+fn gate_holds_rank_0(rt: HostRuntime) -> Result<(), Fail> {
+    // The words, whose turn 0 is held, and how many runs the gate is told of.
+    let rows = [
+        ("histo --grid 2", Some(0), 1),
+        ("histo --grid 2", Some(1), 1),
+        ("histo --grid 2 --via exstack", Some(0), 1),
+        ("histo --grid 2 --via exstack", Some(1), 1),
+        ("ig --grid 2", None, 1),
+        ("ig --grid 2 --via biconvey", None, 2),
+        ("topo --grid 2", None, 1),
+    ];
+    for (words, held, runs) in rows {
+        let gate = Watch::new(held);
+        let got = make(&rt, rt.alloc(), ample(words, ONE), Some(&gate))?;
+        let is_whole = held.is_none() || got.text.as_str() == "0 1 1\n2 0\n3 3\n";
+        assert!(rt; is_whole, "{words}");
+        assert!(rt; !gate.gave_up.load(Ordering::SeqCst), "{words}");
+        assert_eq!(rt; gate.of_0.load(Ordering::SeqCst), runs, "{words}");
+        assert_eq!(rt; gate.of_1.load(Ordering::SeqCst), runs, "{words}");
     }
     Ok(())
 }

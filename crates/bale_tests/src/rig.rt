@@ -1,4 +1,4 @@
-//! What the tests of the top calls share: runs of both, and their answers as texts.
+//! What the tests of the top calls share: a run with its source, its sinks and its gate, and what it tells.
 ghost use Rattle.rank_node.specs.Ledgers.{IsBlankOf};
 
 use bale_cli::{Outcome, run, run_serial};
@@ -6,7 +6,6 @@ use bale_types::{MemSink, MemSource};
 use rank_group::{Gate, Steps};
 use std::alloc::Global;
 use std::marker::Brand;
-use std::process::Abort;
 use std::string::ToString;
 use std::sync::Wait;
 use std::sync::atomic::{AtomicBool, AtomicU64, Ordering};
@@ -20,12 +19,37 @@ use std::time::Clock;
 pub(crate) const ONE: &[u8] =
     b"%%MatrixMarket matrix coordinate pattern general\n3 3 4\n1 1\n1 3\n2 3\n3 3\n";
 
-pub(crate) fn words(alloc: Global, text: &str) -> Result<Vec<String>, Fail> {
-    let mut words = Vec::new(alloc);
-    for word in text.split_whitespace() {
-        words.push(word.to_string(alloc)?)?;
+/// The program's words, its source and its sinks.
+#[derive(Clone, Copy)]
+pub(crate) struct Call {
+    pub(crate) words: &'static str,
+    pub(crate) text: &'static [u8],
+    /// The most bytes of a read, and the read that fails: none is number 0.
+    pub(crate) read: (usize, u64),
+    /// The same of a write to out.
+    pub(crate) write: (usize, u64),
+    /// The write to err that fails.
+    pub(crate) say: u64,
+}
+
+/// A call at which nothing fails.
+pub(crate) const fn ample(words: &'static str, text: &'static [u8]) -> Call {
+    Call {
+        words,
+        text,
+        read: (65_536, 0),
+        write: (4_096, 0),
+        say: 0,
     }
-    Ok(words)
+}
+
+/// What a run tells.
+#[derive(Drop)]
+pub(crate) struct Told {
+    /// The status, out and err.
+    pub(crate) text: String,
+    /// How many closed rounds, and the epochs of the first of them.
+    pub(crate) rounds: (usize, u64),
 }
 
 /// How often a hold looks before it gives up.
@@ -38,7 +62,7 @@ pub(crate) struct Watch {
     held: Option<u32>,
     pub(crate) of_0: AtomicU64,
     pub(crate) of_1: AtomicU64,
-    pub(crate) announced: AtomicBool,
+    announced: AtomicBool,
     pub(crate) gave_up: AtomicBool,
 }
 
@@ -52,16 +76,6 @@ impl Watch {
             gave_up: AtomicBool::new(false),
         }
     }
-
-    fn hold(&self) {
-        for _ in 0..TRIES {
-            if self.announced.load(Ordering::SeqCst) {
-                return;
-            }
-            thread::yield_now();
-        }
-        self.gave_up.store(true, Ordering::SeqCst);
-    }
 }
 
 impl Gate for Watch {
@@ -71,11 +85,17 @@ impl Gate for Watch {
         }
         let begun = if rank == 0 { &self.of_0 } else { &self.of_1 };
         begun.fetch_add(1, Ordering::SeqCst);
-        if self.held == Some(rank) {
-            self.hold();
-        } else {
+        if self.held != Some(rank) {
             self.announced.store(true, Ordering::SeqCst);
+            return;
         }
+        for _ in 0..TRIES {
+            if self.announced.load(Ordering::SeqCst) {
+                return;
+            }
+            thread::yield_now();
+        }
+        self.gave_up.store(true, Ordering::SeqCst);
     }
 
     fn holds(&self) -> bool {
@@ -98,7 +118,7 @@ fn run_counted<L: Ledger>(
     run_serial(alloc, words, source, out, err, &mut steps)
 }
 
-pub(crate) fn run_alone(
+fn run_alone(
     alloc: Global,
     words: &[String],
     source: &mut MemSource,
@@ -108,118 +128,46 @@ pub(crate) fn run_alone(
     run_counted::<Brand>(alloc, words, source, out, err, Blank::new(1))
 }
 
-/// Status, out and err of a serial run, as one text.
-pub(crate) fn told_alone(
-    alloc: Global,
-    text: &str,
-    source: &mut MemSource,
-    out: &mut MemSink,
-) -> Result<String, Fail> {
-    let words = words(alloc, text)?;
-    let mut err = MemSink::new(alloc, 4096, 4096, &[])?;
-    let outcome = run_alone(alloc, words.as_slice(), source, out, &mut err);
-    let status = outcome.status;
-    let said = str::from_utf8(err.taken())?;
-    let written = str::from_utf8(out.taken())?;
-    Ok(format!(in alloc; "{status} {written}{said}")?)
-}
-
-/// The same of a run as the words ask for it.
-pub(crate) fn told_as_asked<R: Threads + Wait + Clock + Sync>(
+/// Makes a call: as its words ask for it, with this gate, or serially.
+pub(crate) fn make<R: Threads + Wait + Clock + Sync>(
     rt: &R,
     alloc: Global,
-    text: &str,
-    source: &mut MemSource,
-    out: &mut MemSink,
-) -> Result<String, Fail> {
-    let words = words(alloc, text)?;
-    let mut err = MemSink::new(alloc, 4096, 4096, &[])?;
-    let outcome = run(
-        rt,
-        alloc,
-        words.as_slice(),
-        source,
-        out,
-        &mut err,
-        &Watch::new(None),
-    );
-    let status = outcome.status;
-    let said = str::from_utf8(err.taken())?;
-    let written = str::from_utf8(out.taken())?;
-    Ok(format!(in alloc; "{status} {written}{said}")?)
-}
-
-/// A source that gives `most` bytes at a call and fails at these calls.
-fn source_of(alloc: Global, text: &[u8], most: usize, fails: &[u64]) -> Result<MemSource, Fail> {
-    if most == 0 {
+    call: Call,
+    gate: Option<&Watch>,
+) -> Result<Told, Fail> {
+    let mut words = Vec::new(alloc);
+    for word in call.words.split_whitespace() {
+        words.push(word.to_string(alloc)?)?;
+    }
+    let (most_read, read_fails) = call.read;
+    let (most_written, write_fails) = call.write;
+    if most_read == 0 || most_written == 0 {
         return Err(Fail::new("no byte at a call"));
     }
-    Ok(MemSource::new(alloc, text, most, fails)?)
-}
-
-/// A sink that takes `most` bytes at a call and fails at these calls.
-fn sink_of(alloc: Global, most: usize, fails: &[u64]) -> Result<MemSink, Fail> {
-    if most == 0 {
-        return Err(Fail::new("no byte at a call"));
-    }
-    Ok(MemSink::new(alloc, 100, most, fails)?)
-}
-
-/// The answer of a serial run, of a source that gives `most` bytes at a call and fails at these calls.
-pub(crate) fn read_alone(
-    alloc: Global,
-    words: &str,
-    text: &[u8],
-    most: usize,
-    fails: &[u64],
-) -> Result<String, Fail> {
-    let mut source = source_of(alloc, text, most, fails)?;
-    let mut out = MemSink::new(alloc, 1 << 20, 1 << 20, &[])?;
-    told_alone(alloc, words, &mut source, &mut out)
-}
-
-/// The same of a run as the words ask for it: on threads, where they don't say else.
-pub(crate) fn read_as_asked<R: Threads + Wait + Clock + Sync>(
-    rt: &R,
-    alloc: Global,
-    words: &str,
-    text: &[u8],
-    most: usize,
-    fails: &[u64],
-) -> Result<String, Fail> {
-    let mut source = source_of(alloc, text, most, fails)?;
-    let mut out = MemSink::new(alloc, 1 << 20, 1 << 20, &[])?;
-    told_as_asked(rt, alloc, words, &mut source, &mut out)
-}
-
-/// The answer of a serial run, to a sink that takes `most` bytes at a call and fails at these calls.
-pub(crate) fn written_alone(
-    alloc: Global,
-    words: &str,
-    text: &[u8],
-    most: usize,
-    fails: &[u64],
-) -> Result<String, Fail> {
-    let mut source = MemSource::new(alloc, text, 65_536, &[])?;
-    let mut out = sink_of(alloc, most, fails)?;
-    told_alone(alloc, words, &mut source, &mut out)
-}
-
-/// The same of a run as the words ask for it.
-pub(crate) fn written_as_asked<R: Threads + Wait + Clock + Sync>(
-    rt: &R,
-    alloc: Global,
-    words: &str,
-    text: &[u8],
-    most: usize,
-    fails: &[u64],
-) -> Result<String, Fail> {
-    let mut source = MemSource::new(alloc, text, 65_536, &[])?;
-    let mut out = sink_of(alloc, most, fails)?;
-    told_as_asked(rt, alloc, words, &mut source, &mut out)
-}
-
-/// An answer is the one that is wanted of these words.
-pub(crate) fn is_wanted<R: Abort>(rt: &R, words: &str, got: String, want: &str) {
-    assert_eq!(rt; got.as_str(), want, "{words}");
+    let mut source = MemSource::new(alloc, call.text, most_read, &[read_fails])?;
+    let mut out = MemSink::new(alloc, 4_096, most_written, &[write_fails])?;
+    let mut err = MemSink::new(alloc, 4_096, 4_096, &[call.say])?;
+    let outcome = match gate {
+        Some(gate) => run(
+            rt,
+            alloc,
+            words.as_slice(),
+            &mut source,
+            &mut out,
+            &mut err,
+            gate,
+        ),
+        None => run_alone(alloc, words.as_slice(), &mut source, &mut out, &mut err),
+    };
+    let epochs = match outcome.rounds.get(0) {
+        Some(round) => round.epochs(),
+        None => 0,
+    };
+    let status = outcome.status;
+    let written = str::from_utf8(out.taken())?;
+    let said = str::from_utf8(err.taken())?;
+    Ok(Told {
+        text: format!(in alloc; "{status} {written}{said}")?,
+        rounds: (outcome.rounds.len(), epochs),
+    })
 }

@@ -1,5 +1,5 @@
 -- As many pulls as an inbox has unread items: they give these items, in order, and leave the inbox empty.
-use Rattle.std.proofs.Common.{ℕ, zero, suc, ◌≡◌, ◌+◌, ◌-◌, ◌<◌, ◌≤◌, Bool, false, List, [], ◌∷◌, length, drop, get_or, sum, slice_get, Option, Some, arith, refl, sym, ap, subst, inl, inr, ◌∙◌, eqb, add-one}
+use Rattle.std.proofs.Common.{ℕ, zero, suc, ◌≡◌, ◌+◌, ◌-◌, ◌<◌, ◌≤◌, Bool, false, List, [], ◌∷◌, length, drop, get_or, sum, slice_get, Option, Some, arith, refl, sym, ap, subst, inl, inr, ◌∙◌, eqb, eq-eqb, true, add-one}
 use Rattle.std.specs.List.{All}
 use Rattle.std.specs.Option.{IsSome, is_some, option_map}
 use Rattle.std.proofs.lemmas.Bool.{ne_eqb, cond-false, cases_lt, false≢true}
@@ -161,8 +161,27 @@ all_but : (n : ℕ) → 0 < n → (m : ℕ) × (n ≡ suc m)
 all_but zero h = absurd (omega (arith, h))
 all_but (suc m) h = (m, refl)
 
+-- a link of which all is read lies below the place from which the code looks
+past_read : (st : State) (ends : List Bool) (count coming i : ℕ) (x : In) (back : Option ℕ) → i < length st.ins → i < sum st.dims → is_empty x.parcel ≡ true
+    → IsKept (in_written st i x back) ends i count coming → IsKept (in_written st i x back) ends (i + 1) count coming
+past_read st ends count coming i x back n q empty k = record {
+  standing = k.standing;
+  ends_all = k.ends_all;
+  ends_each = k.ends_each;
+  from_low = omega (arith, k.from_low);
+  from_high = omega (arith, q);
+  open_is = k.open_is;
+  coming_is = k.coming_is;
+  from_none = λ j a w. elim (cases_lt j i) as (λ _. is_empty (in_at (in_written st i x back) j).parcel ≡ true) [
+    | inl v ↦ k.from_none j a v
+    | inr v ↦
+        let same : i ≡ j = omega (arith, v, w) in
+        subst (λ j. is_empty (in_at (in_written st i x back) j).parcel ≡ true) same (ap (λ y. is_empty y.parcel) (get_or-set_same st.ins i x no_in n) ∙ empty)
+  ];
+}
+
 pub batch_kept : (v s : State) (ends : List Bool) (from count coming i : ℕ) (x x' : In) → v ≡ s → IsKept v ends from count coming → lowest_unread s ≡ Some i → x ≡ get_or v.ins i x
-    → x' ≡ read_on (length x.parcel.untaken) x → IsKept (in_written v i x' (Some i)) ends i count coming
+    → x' ≡ read_on (length x.parcel.untaken) x → IsKept (in_written v i x' (Some i)) ends (i + 1) count coming
 batch_kept v s ends from count coming i x x' view k low read wrote =
     let s' = k.standing in
     let low' : lowest_unread v ≡ Some i = ap lowest_unread view ∙ low in
@@ -174,9 +193,13 @@ batch_kept v s ends from count coming i x x' view k low read wrote =
     let n : m.0 < length (in_at v i).parcel.untaken = omega (arith, m.1, ap (λ y. length y.parcel.untaken) here) in
     let a = after_state v i s' low' m.0 n in
     let z : i < length v.ins = omega (arith, u.high, s'.all_ins) in
-    subst (λ y. IsKept (in_written v i y (Some i)) ends i count coming) (sym is)
+    let count' : suc m.0 ≡ length (in_at v i).parcel.untaken = sym m.1 ∙ ap (λ y. length y.parcel.untaken) here in
+    let gone : length (drop (suc m.0) (in_at v i).parcel.untaken) ≡ 0 = omega (arith, length-drop (suc m.0) (in_at v i).parcel.untaken, count') in
+    let empty : is_empty x'.parcel ≡ true = ap (λ y. is_empty y.parcel) is ∙ eq-eqb (length (drop (suc m.0) (in_at v i).parcel.untaken)) 0 gone in
+    past_read v ends count coming i x' (Some i) z u.high empty
+    (subst (λ y. IsKept (in_written v i y (Some i)) ends i count coming) (sym is)
     (taken_kept v ends from count coming i (read_on (suc m.0) (in_at v i)) k (not_below v ends from count coming i k u) u.high (λ j p q. u.none j (omega (arith, p, k.from_low)) q)
-    (read_in v i s' low' m.0 n) (read_back v i s' low' m.0 n) refl)
+    (read_in v i s' low' m.0 n) (read_back v i s' low' m.0 n) refl))
 
 pub batch_state : (v s : State) (i : ℕ) (x x' : In) → v ≡ s → IsState v → lowest_unread s ≡ Some i → x ≡ get_or v.ins i x → x' ≡ read_on (length x.parcel.untaken) x
     → in_written v i x' (Some i) ≡ pulls (length (in_at s i).parcel.untaken) s

@@ -127,8 +127,9 @@ impl<const CAP: usize> InLink<CAP> {
         ensures parcel { parcel.new ≡ self.old.parcel }
         ensures state { self.new ≡ record { parcel = parcel.old; ended = parcel.old.last } }
     {
+        let last = parcel.last();
         mem::swap(&mut self.parcel, parcel);
-        self.ended = self.parcel.last();
+        self.ended = last;
         self.is_finished()
     }
 

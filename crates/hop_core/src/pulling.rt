@@ -114,7 +114,7 @@ impl<const CAP: usize, const HOPS: usize> RankState<CAP, HOPS> {
     {
         let count = self.ins[number as usize].unread().len();
         self.ins[number as usize].skip(count);
-        self.from = number;
+        self.from = number + 1;
         self.pulled = Some(number);
     }
 

@@ -31,21 +31,19 @@ module _ {T : Type 0} (slots : ℕ) where
       }
 
   -- where nothing was taken or seen, and the reader listened no less
-  pub end_kept : (i i' : InLog T) (taken waiting look_ins noted : ℕ) → IsInEnd slots i taken waiting look_ins noted → i'.seen ≡ i.seen → i'.taken ≡ i.taken → i'.look_ins ≡ i.look_ins → i.hears ≤ i'.hears
-      → IsInEnd slots i' taken waiting look_ins noted
-  end_kept i i' taken waiting look_ins noted is seen took looked more = record {
+  pub end_kept : (i i' : InLog T) (taken waiting noted : ℕ) → IsInEnd slots i taken waiting noted → i'.seen ≡ i.seen → i'.taken ≡ i.taken → i.hears ≤ i'.hears → IsInEnd slots i' taken waiting noted
+  end_kept i i' taken waiting noted is seen took more = record {
     taken_is = is.taken_is ∙ ap (λ (z : ℕ). z % 2 ^ 64) (sym took);
     waiting_is = (let e = is.waiting_is in let l = ap length seen in omega arith);
     few = is.few;
-    look_ins_is = is.look_ins_is ∙ ap counted (sym looked);
     noted_before = (let e = is.noted_before in omega arith);
   }
 
   -- after a look in
-  pub end_looked_in : (i i' : InLog T) (taken look_ins noted n : ℕ) (waiting' look_ins' : ℕ) → IsInEnd slots i taken 0 look_ins noted → i'.taken ≡ i.taken → i'.look_ins ≡ suc i.look_ins → i'.hears ≡ i.hears
+  pub end_looked_in : (i i' : InLog T) (taken noted n : ℕ) (waiting' : ℕ) → IsInEnd slots i taken 0 noted → i'.taken ≡ i.taken → i'.hears ≡ i.hears
       → beyond n (length i.seen % 2 ^ 64) ≤ slots → length i'.seen ≡ length i.seen + beyond n (length i.seen % 2 ^ 64) → n < 2 ^ 64
-      → waiting' ≡ (n + (2 ^ 64 - taken)) % 2 ^ 64 → look_ins' ≡ counted (suc i.look_ins) → IsInEnd slots i' taken waiting' look_ins' noted
-  end_looked_in i i' taken look_ins noted n waiting' look_ins' is took looked heard few more small waiting_is looks_is =
+      → waiting' ≡ (n + (2 ^ 64 - taken)) % 2 ^ 64 → IsInEnd slots i' taken waiting' noted
+  end_looked_in i i' taken noted n waiting' is took heard few more small waiting_is =
       let known : length i.seen ≡ i.taken = (let e = is.waiting_is in omega arith) in
       let t : taken ≡ length i.seen % 2 ^ 64 = is.taken_is ∙ ap (λ (z : ℕ). z % 2 ^ 64) (sym known) in
       let b : ℕ = beyond n (length i.seen % 2 ^ 64) in
@@ -53,17 +51,15 @@ module _ {T : Type 0} (slots : ℕ) where
         taken_is = is.taken_is ∙ ap (λ (z : ℕ). z % 2 ^ 64) (sym took);
         waiting_is = omega arith;
         few = omega arith;
-        look_ins_is = looks_is ∙ ap counted (sym looked);
         noted_before = (let e = is.noted_before in omega arith);
       }
 
   -- after a parcel was taken
-  pub end_taken : (i i' : InLog T) (taken waiting look_ins noted taken' noted' : ℕ) → IsInEnd slots i taken (suc waiting) look_ins noted → i'.seen ≡ i.seen → i'.taken ≡ suc i.taken → i'.look_ins ≡ i.look_ins → i'.hears ≡ i.hears
-      → taken' ≡ (taken + 1) % 2 ^ 64 → noted' ≡ counted (i'.hears + i'.look_ins) → IsInEnd slots i' taken' waiting look_ins noted'
-  end_taken i i' taken waiting look_ins noted taken' noted' is seen took looked heard taken_is noted_is = record {
+  pub end_taken : (i i' : InLog T) (taken waiting noted taken' noted' : ℕ) → IsInEnd slots i taken (suc waiting) noted → i'.seen ≡ i.seen → i'.taken ≡ suc i.taken
+      → taken' ≡ (taken + 1) % 2 ^ 64 → noted' ≡ counted i'.hears → IsInEnd slots i' taken' waiting noted'
+  end_taken i i' taken waiting noted taken' noted' is seen took taken_is noted_is = record {
     taken_is = (let e = is.taken_is in omega arith);
     waiting_is = (let e = is.waiting_is in let l = ap length seen in omega arith);
     few = (let e = is.few in omega arith);
-    look_ins_is = is.look_ins_is ∙ ap counted (sym looked);
     noted_before = omega arith;
   }

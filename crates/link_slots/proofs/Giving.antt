@@ -69,7 +69,7 @@ module _ (shape : Shape) where
   }
 
   new_seat : (cap : ℕ) (v : Knowing) (r : ℕ) (e : RankEnds) → IsShape shape → v.shape ≡ shape → v.pick ≡ r → r < ranks shape.dims → Speaks v → IsAlone v → own_logs v ≡ no_logs (links shape.dims) → AreNew (links shape.dims) e
-      → IsSeat cap shape (v, []) r e.outs.items e.ins.items e.ears.items e.ended.items
+      → IsSeat cap shape (v, []) r e.outs.items e.ins.items e.ears e.ended.items
   new_seat cap v r e is of pick small speaks alone own new =
       let n : ℕ = links shape.dims in
       let out_at : (l : ℕ) → out_of (own_logs v) l ≡ no_out = λ l. ap (λ (z : Lists Contents). out_of z l) own ∙ no_out_at l in
@@ -94,9 +94,9 @@ module _ (shape : Shape) where
         each_out = λ l d a b. subst (λ (z : OutLog Contents × OutEnd). IsOutEnd shape.slots z.0 z.1.sent z.1.spare)
             (λ k. (sym (out_at l) k, sym (ap (λ (z : List OutEnd). get_or z l d) new.outs ∙ replicate_at n l _ d a) k))
             (record { sent_is = refl; spare_is = refl; few = omega arith; looked = inl refl });
-        each_in = λ l d a b. subst (λ (z : InLog Contents × InEnd). IsInEnd shape.slots z.0 z.1.taken z.1.waiting z.1.look_ins z.1.noted)
+        each_in = λ l d a b. subst (λ (z : InLog Contents × InEnd). IsInEnd shape.slots z.0 z.1.taken z.1.waiting z.1.noted)
             (λ k. (sym (in_at l) k, sym (ap (λ (z : List InEnd). get_or z l d) new.ins ∙ replicate_at n l _ d a) k))
-            (record { taken_is = refl; waiting_is = refl; few = omega arith; look_ins_is = refl; noted_before = omega arith });
+            (record { taken_is = refl; waiting_is = refl; few = omega arith; noted_before = omega arith });
         each_ear = λ h d a. subst (λ (z : Ear). IsHeard shape r (h + 1) (own_logs v) z.marks z.hears) (sym (ap (λ (z : List Ear). get_or z h d) new.ears ∙ replicate_at 3 h _ d a))
             (record {
               marked = λ l p q t. ap (λ (z : InLog Contents). z.marked) (in_at l) ∙ ap (λ (z : ℕ). eqb z 1) (sym (bit_at-zero ((wiring shape).bit l)));
@@ -129,11 +129,11 @@ module _ (v : Knowing) (r : ℕ) (x : Lists Contents) (at : get_or v.lists r Non
 
 -- the rank's seat
 pub given_seat : (cap : ℕ) (shape : Shape) (v : Knowing) (r : ℕ) (e : RankEnds) (m : Me Contents Knowing) → IsShape shape → v.shape ≡ shape → r < ranks shape.dims → length v.lists ≡ ranks shape.dims
-    → get_or v.lists r None ≡ Some (no_logs (links shape.dims)) → AreNew (links shape.dims) e → m ≡ (pick_alone (speaking_for v r), []) → IsSeat cap m.0.shape m r e.outs.items e.ins.items e.ears.items e.ended.items
+    → get_or v.lists r None ≡ Some (no_logs (links shape.dims)) → AreNew (links shape.dims) e → m ≡ (pick_alone (speaking_for v r), []) → IsSeat cap m.0.shape m r e.outs.items e.ins.items e.ears e.ended.items
 given_seat cap shape v r e m is of small many at new me =
     let inside : r < length v.lists = omega arith in
     let shaped : m.0.shape ≡ shape = ap (λ (z : Me Contents Knowing). z.0.shape) me ∙ of in
-    subst (λ (z : Shape × Me Contents Knowing). IsSeat cap z.0 z.1 r e.outs.items e.ins.items e.ears.items e.ended.items) (λ k. (sym shaped k, sym me k))
+    subst (λ (z : Shape × Me Contents Knowing). IsSeat cap z.0 z.1 r e.outs.items e.ins.items e.ears e.ended.items) (λ k. (sym shaped k, sym me k))
     (new_seat shape cap (pick_alone (speaking_for v r)) r e is of refl small (alone_speaks v r (no_logs (links shape.dims)) at inside) (alone_alone v r (no_logs (links shape.dims)) at inside) (alone_own v r (no_logs (links shape.dims)) at inside) new)
 
 read_none : {A : Type 0} (l : List (Option A)) (i : ℕ) → get_or (set l i None) i None ≡ None

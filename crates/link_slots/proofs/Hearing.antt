@@ -10,12 +10,12 @@ use Rattle.bale_types.specs.Stream.{RoseOrFull}
 use Rattle.item_buffer.specs.Contents.{Contents}
 use Rattle.route_tensor.specs.Link.{links}
 use Rattle.route_tensor.specs.Ends.{hop_at, reader_at}
-use Rattle.link_slots.specs.Logs.{InLog, Lists, in_of, with_in}
+use Rattle.link_slots.specs.Logs.{InLog, Lists, in_of, with_in, listens}
 use Rattle.link_slots.specs.Plays.{after_hear, heard_by, marked_by}
 use lib.ListN.{get_elem?}
 use Rattle.link_slots.specs.Shape.{Shape, IsShape, wiring, MayFollow}
 use Rattle.list_laws.specs.Counts.{counted}
-use Rattle.link_slots.specs.Counts.{IsHeard, ElseKept, AreGood}
+use Rattle.link_slots.specs.Counts.{IsHeard, ElseKept, AreGood, noted_by}
 use Rattle.link_slots.proofs.Listening.{heard_kept, heard_risen, heard_here, heard_else, length-map_from}
 use Rattle.link_slots.proofs.Wires.{wired, same_bell}
 use Rattle.link_slots.proofs.Moves.{in_here, in_there}
@@ -56,11 +56,13 @@ marks_else n c d ne = let x = bit_at_xor n (2 ^ c) d in let p = bit_at-pow_other
 pub counted_suc : (n a : ℕ) → a ≡ counted n → min (a + 1) (2 ^ 64 - 1) ≡ counted (suc n)
 counted_suc n a e = omega arith
 
-pub rises : (noted n : ℕ) → noted ≤ counted n → counted n ≤ noted → RoseOrFull noted (counted (suc n))
-rises noted n low high = dite (dec_le (suc n) (2 ^ 64 - 1)) (λ h. inl (omega arith)) (λ h. inr (omega arith))
+-- a link that is listened for once more
+pub rises : {T : Type 0} (noted : ℕ) (i : InLog T) → noted ≤ counted i.hears → RoseOrFull (noted_by noted i) (counted (suc (listens i)))
+rises noted i low = dite (dec_le (suc (listens i)) (2 ^ 64 - 1)) (λ h. inl (omega arith)) (λ h. inr (omega arith))
 
-pub rises_over : (noted n : ℕ) → noted ≤ counted n → RoseOrFull noted (counted (suc n))
-rises_over noted n low = dite (dec_le (suc n) (2 ^ 64 - 1)) (λ h. inl (omega arith)) (λ h. inr (omega arith))
+-- a link whose doorbell was heard since it was noted
+pub rose : {T : Type 0} (noted : ℕ) (i : InLog T) → noted < counted i.hears → RoseOrFull (noted_by noted i) (counted (listens i))
+rose noted i high = dite (dec_le (listens i) (2 ^ 64 - 1)) (λ h. inl (omega arith)) (λ h. inr (omega arith))
 
 module _ (shape : Shape) (is : IsShape shape) (rank l : ℕ) (inside : l < links shape.dims) (mine : reader_at shape.dims l ≡ rank) (x : Lists Contents) (wide : length x.ins ≡ links shape.dims) where
   -- the bells of the rank's links of one hop are one

@@ -26,12 +26,12 @@ use Rattle.port_bank.specs.Relay.{RelayLaw, HasFairTags}
 use Rattle.link_slots.specs.declared.seat.ends.OutEnd.{OutEnd}
 use Rattle.link_slots.specs.declared.seat.ends.InEnd.{InEnd}
 use Rattle.link_slots.specs.declared.seat.ear.Ear.{Ear}
-use Rattle.link_slots.specs.Logs.{OutLog, InLog, Lists, out_of, in_of, with_out, sent_of, got_of, got, sent_more, no_out}
+use Rattle.link_slots.specs.Logs.{OutLog, InLog, Lists, out_of, in_of, with_out, sent_of, got_of, got, sent_more, no_out, listens}
 use Rattle.link_slots.specs.View.{own_logs, with_logs}
 use Rattle.link_slots.specs.Shape.{Shape, MayFollow, KeepsLaw, shipped_all}
 use Rattle.link_slots.specs.Told.{Knowing, IsManned}
 use Rattle.list_laws.specs.Counts.{counted}
-use Rattle.link_slots.specs.Counts.{IsOutEnd, IsInEnd, IsHeard, AreGood, ElseKept, ended_after}
+use Rattle.link_slots.specs.Counts.{IsOutEnd, IsInEnd, IsHeard, AreGood, ElseKept, ended_after, noted_by}
 use Rattle.link_slots.specs.Seat.{IsSeat}
 use Rattle.link_slots.proofs.Moves.{own_with, out_here, out_there}
 use Rattle.link_slots.proofs.Hearing.{good_same, heard_same}
@@ -103,14 +103,14 @@ module _ (cap : ℕ) (shape : Shape) (m m' : Me Contents Knowing) (rank l : ℕ)
         each_out = λ k d a b. dite (ℕ_discrete k l)
             (λ s. subst (λ (z : ℕ × OutEnd). IsOutEnd shape.slots (out_of (own_logs m'.0) z.0) z.1.sent z.1.spare) (λ j. (sym s j, sym (ap (λ (z : ℕ). get_or (set outs l e) z d) s ∙ get_or-set_same outs l e d (let n = is.outs_many in omega arith)) j)) counts)
             (λ ne. subst (λ (z : OutLog Contents × OutEnd). IsOutEnd shape.slots z.0 z.1.sent z.1.spare) (λ j. (sym (outs_else k ne) j, sym (get_or-set_other outs l k e d ne) j)) (is.each_out k d a b));
-        each_in = λ k d a b. subst (λ (z : InLog Contents). let w = get_or ins k d in IsInEnd shape.slots z w.taken w.waiting w.look_ins w.noted) (sym (ins_same k)) (is.each_in k d a b);
+        each_in = λ k d a b. subst (λ (z : InLog Contents). let w = get_or ins k d in IsInEnd shape.slots z w.taken w.waiting w.noted) (sym (ins_same k)) (is.each_in k d a b);
         each_ear = λ h d a. let w = get_or ears h d in heard_same shape rank (h + 1) (own_logs m.0) (own_logs m'.0) w.marks w.hears (λ k. ap (λ (i : InLog Contents). i.marked) (ins_same k)) (λ k. ap (λ (i : InLog Contents). i.hears) (ins_same k)) (is.each_ear h d a);
         each_good = λ k a b. good_same cap shape k (in_of (own_logs m.0) k) (in_of (own_logs m'.0) k) (ap (λ (i : InLog Contents). i.seen) (ins_same k)) (is.each_good k a b);
         each_ended = λ k d a b. is.each_ended k d a b ∙ ap (λ (i : InLog Contents). counted (lasts (map shipped (got i)))) (sym (ins_same k));
       })
 
   pub seat_collected : (e : InEnd) (ear : Ear) (hop now : ℕ) → m'.0 ≡ with_logs m.0 (own_logs m'.0) → ElseKept shape m.0.pick l (own_logs m.0) (own_logs m'.0) → reader_at shape.dims l ≡ rank
-      → IsInEnd shape.slots (in_of (own_logs m'.0) l) e.taken e.waiting e.look_ins e.noted → IsHeard shape m.0.pick (hop_at shape.dims l) (own_logs m'.0) ear.marks ear.hears → hop_at shape.dims l ≡ hop + 1
+      → IsInEnd shape.slots (in_of (own_logs m'.0) l) e.taken e.waiting e.noted → IsHeard shape m.0.pick (hop_at shape.dims l) (own_logs m'.0) ear.marks ear.hears → hop_at shape.dims l ≡ hop + 1
       → AreGood cap shape l (in_of (own_logs m'.0) l) → now ≡ counted (lasts (map shipped (got_of (own_logs m'.0) l)))
       → IsSeat cap m'.0.shape m' rank outs (set ins l e) (set ears hop ear) (set ended l now)
   seat_collected e ear hop now here others mine counts hears hop_is good ended_is =
@@ -137,9 +137,9 @@ module _ (cap : ℕ) (shape : Shape) (m m' : Me Contents Knowing) (rank l : ℕ)
         lists_in = others.long ∙ is.lists_in;
         each_out = λ k d a b. subst (λ (z : OutLog Contents). let w = get_or outs k d in IsOutEnd shape.slots z w.sent w.spare) (sym (outs_same k)) (is.each_out k d a b);
         each_in = λ k d a b. dite (ℕ_discrete k l)
-            (λ s. subst (λ (z : ℕ × InEnd). IsInEnd shape.slots (in_of y' z.0) z.1.taken z.1.waiting z.1.look_ins z.1.noted) (λ j. (sym s j, sym (ap (λ (z : ℕ). get_or (set ins l e) z d) s ∙ get_or-set_same ins l e d (let n = is.ins_many in omega arith)) j)) counts)
-            (λ ne. subst (λ (z : InEnd). IsInEnd shape.slots (in_of y' k) z.taken z.waiting z.look_ins z.noted) (sym (get_or-set_other ins l k e d ne))
-            (let w = get_or ins k d in end_kept shape.slots (in_of y k) (in_of y' k) w.taken w.waiting w.look_ins w.noted (is.each_in k d a b) (others.seen k ne) (others.taken k ne) (others.look_ins k ne) (others.hears k ne)));
+            (λ s. subst (λ (z : ℕ × InEnd). IsInEnd shape.slots (in_of y' z.0) z.1.taken z.1.waiting z.1.noted) (λ j. (sym s j, sym (ap (λ (z : ℕ). get_or (set ins l e) z d) s ∙ get_or-set_same ins l e d (let n = is.ins_many in omega arith)) j)) counts)
+            (λ ne. subst (λ (z : InEnd). IsInEnd shape.slots (in_of y' k) z.taken z.waiting z.noted) (sym (get_or-set_other ins l k e d ne))
+            (let w = get_or ins k d in end_kept shape.slots (in_of y k) (in_of y' k) w.taken w.waiting w.noted (is.each_in k d a b) (others.seen k ne) (others.taken k ne) (others.hears k ne)));
         each_ear = λ h d a. dite (ℕ_discrete h hop)
             (λ s. subst (λ (z : ℕ × Ear). IsHeard shape rank z.0 y' z.1.marks z.1.hears) (λ j. ((hop_is ∙ (let q : hop + 1 ≡ h + 1 = omega arith in q)) j, sym (ap (λ (z : ℕ). get_or (set ears hop ear) z d) s ∙ get_or-set_same ears hop ear d (let n = is.ears_many in omega arith)) j))
             (subst (λ (z : ℕ). IsHeard shape z (hop_at shape.dims l) y' ear.marks ear.hears) is.rank_is hears))
@@ -194,14 +194,28 @@ ended_case Got g g' p false n more none e is = let h = ap (map shipped) (more re
 ended_case Nothing g g' p b n more none e is = is ∙ ap (λ (z : List Contents). counted (lasts (map shipped z))) (sym (none refl))
 
 -- what each collect leaves noted
-pub noted_changed : (ins : List InEnd) (l : ℕ) (e : InEnd) → l < length ins → ◌≡◌ {A = ℕ → ℕ} (λ k. get_or (map (λ (i : InEnd). i.noted) (set ins l e)) k 0) (changed (λ k. get_or (map (λ (i : InEnd). i.noted) ins) k 0) l e.noted)
-noted_changed ins l e h = λ j k. at k j
-  where
-    at : (k : ℕ) → get_or (map (λ (i : InEnd). i.noted) (set ins l e)) k 0 ≡ changed (λ k. get_or (map (λ (i : InEnd). i.noted) ins) k 0) l e.noted k
-    at k = ap (λ (z : List ℕ). get_or z k 0) (map_set (λ (i : InEnd). i.noted) ins l e) ∙ dite (ℕ_discrete k l)
-        (λ s. subst (λ (z : ℕ). get_or (set (map (λ (i : InEnd). i.noted) ins) l e.noted) z 0 ≡ changed (λ k. get_or (map (λ (i : InEnd). i.noted) ins) k 0) l e.noted z) (sym s)
-        (get_or-set_same (map (λ (i : InEnd). i.noted) ins) l e.noted 0 (let n = length-map ins (λ (i : InEnd). i.noted) in omega arith) ∙ sym (changed-here (λ k. get_or (map (λ (i : InEnd). i.noted) ins) k 0) l e.noted)))
-        (λ ne. get_or-set_other (map (λ (i : InEnd). i.noted) ins) l k e.noted 0 ne ∙ sym (changed-other (λ k. get_or (map (λ (i : InEnd). i.noted) ins) k 0) l k e.noted ne))
+listened_for : {T : Type 0} → (i : InLog T) → noted_by (counted i.hears) i ≡ counted (listens i)
+listened_for i = omega arith
+
+module _ (ins : List InEnd) (l : ℕ) (e : InEnd) (x x' : Lists Contents) where
+  abbrev before : ℕ → ℕ
+  before k = noted_by (get_or (map (λ (i : InEnd). i.noted) ins) k 0) (in_of x k)
+
+  abbrev after : ℕ → ℕ
+  after k = noted_by (get_or (map (λ (i : InEnd). i.noted) (set ins l e)) k 0) (in_of x' k)
+
+  pub noted_changed : l < length ins → ((k : ℕ) → k ≢ l → (in_of x' k).look_ins ≡ (in_of x k).look_ins) → e.noted ≡ counted (in_of x' l).hears
+      → ◌≡◌ {A = ℕ → ℕ} after (changed before l (counted (listens (in_of x' l))))
+  noted_changed h looked heard = λ j k. at k j
+    where
+      at : (k : ℕ) → after k ≡ changed before l (counted (listens (in_of x' l))) k
+      at k = dite (ℕ_discrete k l)
+          (λ s. subst (λ (z : ℕ). after z ≡ changed before l (counted (listens (in_of x' l))) z) (sym s)
+          (ap (λ (n : ℕ). noted_by n (in_of x' l)) (ap (λ (z : List ℕ). get_or z l 0) (map_set (λ (i : InEnd). i.noted) ins l e)
+          ∙ get_or-set_same (map (λ (i : InEnd). i.noted) ins) l e.noted 0 (let n = length-map ins (λ (i : InEnd). i.noted) in omega arith) ∙ heard)
+          ∙ listened_for (in_of x' l) ∙ sym (changed-here before l (counted (listens (in_of x' l))))))
+          (λ ne. (λ j. counted ((ap (λ (z : List ℕ). get_or z k 0) (map_set (λ (i : InEnd). i.noted) ins l e) ∙ get_or-set_other (map (λ (i : InEnd). i.noted) ins) l k e.noted 0 ne) j + looked k ne j))
+          ∙ sym (changed-other before l k (counted (listens (in_of x' l))) ne))
 
 -- a link of which all known parcels were collected has none at hand
 pub none_waiting : (i : InLog Contents) (waiting : ℕ) → length i.seen ≡ i.taken + waiting → length (map shipped (got i)) ≡ length i.seen → waiting ≡ 0

@@ -13,7 +13,7 @@ use Rattle.port_bank.specs.declared.port.Posted.{Posted}
 use Rattle.port_bank.specs.declared.port.Posted.TheVariants.{Sent, NoRoom}
 use Rattle.port_bank.specs.declared.port.Collected.{Collected}
 use Rattle.port_bank.specs.declared.port.Collected.TheVariants.{Got, Nothing}
-use Rattle.link_slots.specs.Logs.{OutLog, InLog, Lists, in_of, listens, found_full}
+use Rattle.link_slots.specs.Logs.{OutLog, InLog, Lists, in_of, found_full}
 use Rattle.link_slots.specs.Shape.{Shape, wiring, MayFollow}
 
 -- What a post of parcel p makes of a link out, from o to o', by its answer.
@@ -41,15 +41,18 @@ pub record IsOutEnd {T : Type 0} (slots : ℕ) (o : OutLog T) (sent spare : ℕ)
   pub few : spare ≤ slots
   pub looked : (o.room ≡ 0) ⊎ (slots ≤ o.room)
 
--- The reader counts what it took in the same two ways, the parcels at hand, how often it looked in,
--- and how often it had listened at the end
--- of its latest collect.
-pub record IsInEnd {T : Type 0} (slots : ℕ) (i : InLog T) (taken waiting look_ins noted : ℕ) : Type 0 where
+-- How often a link had been listened for when its doorbell had been heard so often: only a collect of
+-- the link looks into it.
+abbrev pub noted_by : {T : Type 0} → ℕ → InLog T → ℕ
+noted_by hears i = counted (hears + i.look_ins)
+
+-- The reader counts what it took in the same two ways, the parcels at hand, and how often it had heard
+-- the link's doorbell at the end of its latest collect.
+pub record IsInEnd {T : Type 0} (slots : ℕ) (i : InLog T) (taken waiting noted : ℕ) : Type 0 where
   pub taken_is : taken ≡ i.taken % 2 ^ 64
   pub waiting_is : length i.seen ≡ i.taken + waiting
   pub few : waiting ≤ slots
-  pub look_ins_is : look_ins ≡ counted i.look_ins
-  pub noted_before : noted ≤ counted (listens i)
+  pub noted_before : noted ≤ counted i.hears
 
 -- The links into a rank on hop h: each is marked where its bit is set, and their doorbell was heard so often.
 pub record IsHeard (shape : Shape) (rank h : ℕ) (x : Lists Contents) (marks hears : ℕ) : Type 0 where

@@ -10,7 +10,7 @@ use Rattle.port_bank.specs.declared.port.Collected.{Collected}
 use Rattle.port_bank.specs.declared.port.Collected.TheVariants.{Got}
 use Rattle.link_slots.specs.Logs.{out_of, in_of, with_out, with_in, found_full, taken_more}
 use Rattle.link_slots.specs.Doorbell.{is_due, HeardWhere, LookedFor}
-use Rattle.link_slots.specs.Seen.{Manning, collected_from, known, noted_at}
+use Rattle.link_slots.specs.Seen.{Manning, collected_from, known, hears_noted}
 
 -- A post of p on link l, from the seat s to s': it changes that link's lists alone. Where an empty
 -- slot is at hand the parcel is sent without a look for room, and no post looks more than once. At
@@ -34,8 +34,8 @@ pub record DidCollect (s s' : Manning) (l : ℕ) (r : Collected) : Type 0 where
   pub no_looking : length (collected_from s l) < known s l → s'.lists ≡ with_in s.lists l (taken_more (in_of s.lists l))
   pub heard_beside : length (collected_from s l) ≡ known s l → (m : ℕ) → m < links s.shape.dims
       → reader_at s.shape.dims m ≡ s.rank → hop_at s.shape.dims m ≡ hop_at s.shape.dims l → m ≢ l
-      → HeardWhere (is_due (noted_at s l) (in_of s.lists l)) (in_of s.lists m) (in_of s'.lists m)
+      → HeardWhere (is_due (hears_noted s l) (in_of s.lists l)) (in_of s.lists m) (in_of s'.lists m)
   pub looked_for : length (collected_from s l) ≡ known s l
-      → LookedFor (noted_at s l) (in_of s.lists l) (in_of s'.lists l)
+      → LookedFor (hears_noted s l) (in_of s.lists l) (in_of s'.lists l)
   pub other_hops : (m : ℕ) → m < links s.shape.dims → reader_at s.shape.dims m ≡ s.rank
       → hop_at s.shape.dims m ≢ hop_at s.shape.dims l → in_of s'.lists m ≡ in_of s.lists m

@@ -1,17 +1,17 @@
 -- When a collect hears a doorbell, and when it looks in.
 use Rattle.std.specs.Prelude.{◌≡◌, ℕ, suc, ◌+◌, ◌-◌, ◌≤◌, Bool, true, false, not, ◌&&◌, leb, List}
-use Rattle.link_slots.specs.Logs.{InLog, listens}
+use Rattle.link_slots.specs.Logs.{InLog}
 use Rattle.link_slots.specs.Link.{one_where}
 use Rattle.link_slots.specs.Plays.{heard_by}
 use Rattle.list_laws.specs.Counts.{counted}
 
 module _ {T : Type 0} where
-  -- A hear is due where the link isn't marked, and wasn't listened for since the end of its latest
-  -- collect, when `noted` was taken down.
-  -- Example: a link that was never heard has 0 listens and 0 noted, and a hear is due; after that
-  -- hear none is due for the other links of the hop, which have 1 listen and 0 noted.
+  -- A hear is due where the link isn't marked, and its doorbell wasn't heard since the end of its
+  -- latest collect, when `noted` hears were taken down.
+  -- Example: a link that was never heard has 0 hears and 0 noted, and a hear is due; after that
+  -- hear none is due for the other links of the hop, which have 1 hear and 0 noted.
   abbrev pub is_due : ℕ → InLog T → Bool
-  is_due noted i = not i.marked && leb (counted (listens i)) noted
+  is_due noted i = not i.marked && leb (counted i.hears) noted
 
   -- What a link in becomes by the hear of its doorbell, if there was one: its bit was found or not,
   -- and where it was the link is marked.

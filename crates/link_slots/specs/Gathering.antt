@@ -33,8 +33,8 @@ is_gone None = true
 -- The counts of a rank that did nothing yet.
 pub record AreNew (count : ℕ) (e : RankEnds) : Type 0 where
   pub outs : e.outs.items ≡ replicate count (record { sent = 0; spare = 0 })
-  pub ins : e.ins.items ≡ replicate count (record { taken = 0; waiting = 0; look_ins = 0; noted = 0 })
-  pub ears : e.ears.items ≡ replicate 3 (record { marks = 0; hears = 0 })
+  pub ins : e.ins.items ≡ replicate count (record { taken = 0; waiting = 0; noted = 0; _filler = 0 })
+  pub ears : e.ears ≡ replicate 3 (record { marks = 0; hears = 0 })
   pub ended : e.ended.items ≡ replicate count 0
 
 -- A rank's seat is still to come.

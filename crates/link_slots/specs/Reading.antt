@@ -20,7 +20,7 @@ pub record ReadsLink (shape : Shape) (table place : TableId) (m : Me Contents Kn
     (way : Wire) (bell : Ear) : Type 0 where
   pub at : IsAtIn shape table place m l
   pub long : length (own_logs m.0).ins ≡ links shape.dims
-  pub end : IsInEnd shape.slots (in_of (own_logs m.0) l) counts.taken counts.waiting counts.look_ins counts.noted
+  pub end : IsInEnd shape.slots (in_of (own_logs m.0) l) counts.taken counts.waiting counts.noted
   pub wire : IsWire shape.dims l way.bell way.mask way.hop
   pub ear : IsHeard shape m.0.pick (hop_at shape.dims l) (own_logs m.0) bell.marks bell.hears
 
@@ -29,7 +29,7 @@ pub record ReadsLink (shape : Shape) (table place : TableId) (m : Me Contents Kn
 pub record HasRead (shape : Shape) (place place' : TableId) (m m' : Me Contents Knowing) (l : ℕ) (counts : InEnd)
     (bell : Ear) : Type 0 where
   pub stays : StaysSeated shape place place' m'
-  pub end : IsInEnd shape.slots (in_of (own_logs m'.0) l) counts.taken counts.waiting counts.look_ins counts.noted
+  pub end : IsInEnd shape.slots (in_of (own_logs m'.0) l) counts.taken counts.waiting counts.noted
   pub ear : IsHeard shape m.0.pick (hop_at shape.dims l) (own_logs m'.0) bell.marks bell.hears
   pub here : m'.0 ≡ with_logs m.0 (own_logs m'.0)
   pub others : ElseKept shape m.0.pick l (own_logs m.0) (own_logs m'.0)

@@ -39,7 +39,7 @@ pub record IsSeat (cap : ℕ) (shape : Shape) (m : Me Contents Knowing) (rank : 
       → let e = slice_index_or outs l d in IsOutEnd shape.slots (out_of (own_logs m.0) l) e.sent e.spare
   pub each_in : (l : ℕ) (d : InEnd) → l < links shape.dims → reader_at shape.dims l ≡ rank
       → let e = slice_index_or ins l d in IsInEnd shape.slots
-      (in_of (own_logs m.0) l) e.taken e.waiting e.look_ins e.noted
+      (in_of (own_logs m.0) l) e.taken e.waiting e.noted
   pub each_ear : (h : ℕ) (d : Ear) → h < 3
       → let e = slice_index_or ears h d in IsHeard shape rank (h + 1) (own_logs m.0) e.marks e.hears
   pub each_good : (l : ℕ) → l < links shape.dims → reader_at shape.dims l ≡ rank

@@ -6,6 +6,7 @@ use Rattle.port_bank.specs.Logs.{Logs}
 use Rattle.link_slots.specs.Logs.{Lists, out_of, in_of, sent_of, got_of, listens}
 use Rattle.link_slots.specs.Shape.{Shape, shipped_all}
 use Rattle.list_laws.specs.Counts.{counted}
+use Rattle.link_slots.specs.Counts.{noted_by}
 
 -- A bank: which one it is, its grid and its number of slots per link.
 pub record Identity : Type 0 where
@@ -13,8 +14,8 @@ pub record Identity : Type 0 where
   pub shape : Shape
 
 -- A rank's seat: the bank that it belongs to, the rank, what the rank knows of its links, how often
--- it had listened for each link in at the end of its latest collect there, and how many epochs that
--- link has ended.
+-- it had heard the doorbell of each link in at the end of its latest collect there, and how many
+-- epochs that link has ended.
 pub record Manning : Type 0 where
   pub id : TableId
   pub shape : Shape
@@ -43,9 +44,14 @@ freed s l = (out_of s.lists l).room - s.shape.slots
 abbrev pub known : Manning → ℕ → ℕ
 known s l = length (in_of s.lists l).seen
 
--- How often the rank listened for a link, and had at the end of its latest collect there.
+-- How often the rank listened for a link.
 abbrev pub listened : Manning → ℕ → ℕ
 listened s l = counted (listens (in_of s.lists l))
 
+-- How often it had heard the link's doorbell, and listened for the link, at the end of its latest
+-- collect there.
+abbrev pub hears_noted : Manning → ℕ → ℕ
+hears_noted s l = slice_index_or s.noted l 0
+
 abbrev pub noted_at : Manning → ℕ → ℕ
-noted_at s l = slice_index_or s.noted l 0
+noted_at s l = noted_by (hears_noted s l) (in_of s.lists l)

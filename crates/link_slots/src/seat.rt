@@ -1,5 +1,5 @@
 //! A rank's seat: what the rank knows of its links at the bank's table, and what it counts beside it.
-ghost use Rattle.std.specs.Prelude.{◌≡◌, ◌≢◌, ◌⊎◌, ℕ, ◌<◌, ◌≤◌, false, length};
+ghost use Rattle.std.specs.Prelude.{◌≡◌, ◌≢◌, ◌⊎◌, ℕ, ◌<◌, ◌≤◌, false, length, slice_set, slice_index_or};
 ghost use Rattle.item_buffer.specs.Contents.{shipped, arrived, blank};
 ghost use Rattle.route_tensor.specs.Link.{links};
 ghost use Rattle.route_tensor.specs.Ends.{hop_at, sender_at, reader_at};
@@ -12,7 +12,7 @@ ghost use Rattle.bale_types.specs.Stream.{RoseOrFull};
 ghost use Rattle.port_bank.specs.Port.{changed, IsSlots};
 ghost use Rattle.link_slots.specs.Counts.{ended_after, HasPosted};
 ghost use Rattle.link_slots.specs.Doorbell.{is_due, HeardWhere, LookedFor};
-ghost use Rattle.link_slots.specs.Seen.{Manning, posted_on, collected_from, known, listened, noted_at};
+ghost use Rattle.link_slots.specs.Seen.{Manning, posted_on, collected_from, known, listened, hears_noted, noted_at};
 
 pub(crate) mod collect;
 pub(crate) mod ear;
@@ -39,7 +39,7 @@ pub struct SlotSeat<const CAP: usize> {
     pub(crate) outs: Vec<OutEnd>,
     pub(crate) ins: Vec<InEnd>,
     /// By the hop, from 0.
-    pub(crate) ears: Vec<Ear>,
+    pub(crate) ears: [Ear; 3],
     /// How many parcels marked last were collected of each link in; it stands still at the last number.
     pub(crate) ended: Vec<u64>,
 }
@@ -61,7 +61,7 @@ impl<const CAP: usize> Model for SlotSeat<CAP> {
       ended = s.ended.items;
     } };
 
-    ghost invariant = { λ s. IsSeat CAP s.place.me.0.shape s.place.me s.rank s.outs.items s.ins.items s.ears.items
+    ghost invariant = { λ s. IsSeat CAP s.place.me.0.shape s.place.me s.rank s.outs.items s.ins.items s.ears
         s.ended.items };
 }
 
@@ -155,10 +155,10 @@ impl<const CAP: usize> SlotSeat<CAP> {
         ensures heard_beside { length (collected_from self.old link) ≡ known self.old link → (m : ℕ)
             → m < links self.old.shape.dims → reader_at self.old.shape.dims m ≡ self.old.rank
             → hop_at self.old.shape.dims m ≡ hop_at self.old.shape.dims link → m ≢ link
-            → HeardWhere (is_due (noted_at self.old link) (in_of self.old.lists link)) (in_of self.old.lists m)
+            → HeardWhere (is_due (hears_noted self.old link) (in_of self.old.lists link)) (in_of self.old.lists m)
             (in_of self.new.lists m) }
         ensures looked_for { length (collected_from self.old link) ≡ known self.old link
-            → LookedFor (noted_at self.old link) (in_of self.old.lists link) (in_of self.new.lists link) }
+            → LookedFor (hears_noted self.old link) (in_of self.old.lists link) (in_of self.new.lists link) }
         ensures other_hops { (m : ℕ) → m < links self.old.shape.dims → reader_at self.old.shape.dims m ≡ self.old.rank
             → hop_at self.old.shape.dims m ≢ hop_at self.old.shape.dims link
             → in_of self.new.lists m ≡ in_of self.old.lists m }
@@ -176,16 +176,19 @@ impl<const CAP: usize> SlotSeat<CAP> {
             link,
             parcel,
         );
-        note_last(&mut self.ended[link as usize], answer, parcel.last());
+        note_last(&mut self.ended, link, answer, parcel.last());
         answer
     }
 }
 
 /// Counts an epoch that the link has ended, where the collect gave a parcel marked last.
-fn note_last(ended: &mut u64, answer: Collected, last: bool)
-    ensures { ended.new ≡ ended_after answer last ended.old }
+fn note_last(ended: &mut Vec<u64>, link: u32, answer: Collected, last: bool)
+    requires { link < length ended.old.items }
+    ensures { ended.new.items
+        ≡ slice_set ended.old.items link (ended_after answer last (slice_index_or ended.old.items link 0)) }
 {
     if answer == Collected::Got && last {
-        *ended = ended.saturating_add(1);
+        let count = &mut ended[link as usize];
+        *count = count.saturating_add(1);
     }
 }

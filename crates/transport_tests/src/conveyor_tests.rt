@@ -61,11 +61,6 @@ const WORKED: [(u32, Call, Answer); 22] = [
 #[test]
 fn conveyor_calls(rt: HostRuntime) -> Result<(), Fail> {
     assert_eq!(rt; answered(rt.alloc(), false, &WORKED)?, WORKED.len());
-    Ok(())
-}
-
-#[test]
-fn conveyor_calls_over_slots(rt: HostRuntime) -> Result<(), Fail> {
     assert_eq!(rt; answered_over_slots(rt.alloc(), &WORKED)?, WORKED.len());
     Ok(())
 }

@@ -43,34 +43,23 @@ fn pushes() -> [(u32, Call, Answer); 4] {
     SENT.map(|(from, item, to)| (from, Push(item, to), Answer::Pushed(Pushed::Accepted)))
 }
 
-/// Pulls all that has come to a rank.
-fn pull_all(ranks: Ranks, rank: u32, epoch: u64, pulled: &mut Vec<Got>) -> Result<Ranks, NoMemory> {
-    let mut ranks = ranks;
-    for _ in 0..SENT.len() {
-        let (after, answer) = ranks.call(rank, Pull)?;
-        ranks = after;
-        if let Pulled(Some((from, item))) = answer {
-            pulled.push((epoch, from, item, rank))?;
-        }
-    }
-    Ok(ranks)
-}
-
-/// Sweeps so often, with an advance of each rank, that all that was pushed comes to its destination, and each rank to the end of its epoch.
-fn sweep(ranks: Ranks, epoch: u64, pulled: &mut Vec<Got>) -> Result<Ranks, NoMemory> {
-    let mut ranks = ranks;
-    for turn in 0..SWEEPS * 8 {
-        let (after, _) = ranks.call(turn % 8, Advance(true))?;
-        ranks = pull_all(after, turn % 8, epoch, pulled)?;
-    }
-    Ok(ranks)
-}
-
 /// One epoch: all that was pulled in it, and whether all ranks came to its end and each call before answered as it should.
+/// It sweeps so often, with an advance and some pulls of each rank, that all that was pushed comes to its destination.
 fn epoch(ranks: Ranks, number: u64, pulled: &mut Vec<Got>) -> Result<(Ranks, bool), NoMemory> {
     let (ranks, begun) = ranks.make_calls(&of_each(Begin, Begun))?;
-    let (ranks, pushed) = ranks.make_calls(&pushes())?;
-    let ranks = sweep(ranks, number, pulled)?;
+    let (mut ranks, pushed) = ranks.make_calls(&pushes())?;
+    for turn in 0..SWEEPS * 8 {
+        let rank = turn % 8;
+        let (after, _) = ranks.call(rank, Advance(true))?;
+        ranks = after;
+        for _ in 0..SENT.len() {
+            let (after, answer) = ranks.call(rank, Pull)?;
+            ranks = after;
+            if let Pulled(Some((from, item))) = answer {
+                pulled.push((number, from, item, rank))?;
+            }
+        }
+    }
     let over = of_each(Advance(true), Advanced(Progress::Complete));
     let (ranks, over) = ranks.make_calls(&over)?;
     let (ranks, reset) = ranks.make_calls(&of_each(Reset, Answer::Reset))?;

@@ -1,5 +1,4 @@
-//! Parcels, routes, links by hand and on two threads, and conveyors and exstacks by worked calls: links and conveyors over the
-//! plain bank and over slots.
+//! Parcels, routes and links by hand, and conveyors and exstacks by worked calls: links and conveyors over the plain bank and over slots.
 //! It has tests alone: they stand above the crates that they run, so that proving one does not prove the other again.
 #![tactic(auto)]
 
@@ -24,11 +23,7 @@ mod exstacks;
 #[cfg(test)]
 mod hand;
 #[cfg(test)]
-mod hop_tests;
-#[cfg(test)]
 mod link_tests;
-#[cfg(test)]
-mod link_thread_tests;
 #[cfg(test)]
 mod parcel_tests;
 #[cfg(test)]

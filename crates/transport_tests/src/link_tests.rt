@@ -47,10 +47,11 @@ fn both_answered(
     Ok([answered(by_slots, calls)?, answered(plain, calls)?])
 }
 
+/// And slots_by_hand: with one slot and with four.
 #[test]
 #[tactic(auto, unfolding(port_bank::specs::Port::IsSlots))]
 fn slot_bank_by_hand(rt: HostRuntime) -> Result<(), Fail> {
-    let calls = [
+    let two = [
         (Post(0, 1), Sent),
         (Post(0, 2), Sent),
         (Post(0, 3), NoRoom),
@@ -60,13 +61,6 @@ fn slot_bank_by_hand(rt: HostRuntime) -> Result<(), Fail> {
         (Collect(0), Got(3)),
         (Collect(0), Nothing),
     ];
-    assert_eq!(rt; both_answered(rt.alloc(), 2, &calls)?, [8, 8]);
-    Ok(())
-}
-
-#[test]
-#[tactic(auto, unfolding(port_bank::specs::Port::IsSlots))]
-fn slots_by_hand(rt: HostRuntime) -> Result<(), Fail> {
     let one = [
         (Post(0, 1), Sent),
         (Post(0, 2), NoRoom),
@@ -82,6 +76,7 @@ fn slots_by_hand(rt: HostRuntime) -> Result<(), Fail> {
         (Post(0, 4), Sent),
         (Post(0, 5), NoRoom),
     ];
+    assert_eq!(rt; both_answered(rt.alloc(), 2, &two)?, [8, 8]);
     assert_eq!(rt; both_answered(rt.alloc(), 1, &one)?, [6, 6]);
     assert_eq!(rt; both_answered(rt.alloc(), 4, &four)?, [5, 5]);
     Ok(())

@@ -22,19 +22,3 @@ fn parcel_by_hand(rt: HostRuntime) -> Result<(), Fail> {
     assert_eq!(rt; parcel.take(), None);
     Ok(())
 }
-
-/// By slices: two entries are filled in behind one, the first two are skipped, and the second of these comes back.
-#[test]
-fn parcel_by_slices(rt: HostRuntime) -> Result<(), Fail> {
-    let mut parcel = Parcel::<3>::new(rt.alloc())?;
-    assert!(rt; parcel.try_push(entry(7)));
-    parcel.fill(&[entry(8), entry(9)]);
-    assert_eq!(rt;
-        (parcel.cap(), parcel.len(), parcel.is_full()),
-        (3, 3, true)
-    );
-    parcel.skip(2);
-    parcel.untake();
-    assert_eq!(rt; parcel.untaken(), &[entry(8), entry(9)][..]);
-    Ok(())
-}

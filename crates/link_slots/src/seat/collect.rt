@@ -11,7 +11,7 @@ ghost use Rattle.link_slots.specs.View.{own_logs};
 ghost use Rattle.link_slots.specs.Shape.{IsBlank};
 ghost use Rattle.link_slots.specs.Reading.{ReadsLink, HasRead};
 ghost use Rattle.list_laws.specs.Counts.{counted};
-ghost use Rattle.link_slots.specs.Counts.{AreGood};
+ghost use Rattle.link_slots.specs.Counts.{AreGood, noted_by};
 ghost use Rattle.link_slots.specs.Doorbell.{is_due, HeardWhere, looked_where_marked, LookedFor};
 
 use crate::seat::ear::Ear;
@@ -22,7 +22,7 @@ use crate::table::wire::Wire;
 use item_buffer::Parcel;
 use port_bank::Collected;
 
-/// Hears the doorbell of the link's hop, unless the link is marked, or was listened for since its latest collect.
+/// Hears the doorbell of the link's hop, unless the link is marked, or the doorbell was heard since its latest collect.
 fn hear_if_due<const CAP: usize>(
     top: &Top<CAP>,
     place: &mut Place<CAP>,
@@ -41,13 +41,14 @@ fn hear_if_due<const CAP: usize>(
         ≡ (in_of (own_logs place.old.me.0) link).look_ins }
     ensures more { (in_of (own_logs place.old.me.0) link).hears ≤ (in_of (own_logs place.new.me.0) link).hears }
     ensures due { (in_of (own_logs place.new.me.0) link).marked ≡ false
-        → RoseOrFull end.now.noted (counted (listens (in_of (own_logs place.new.me.0) link))) }
+        → RoseOrFull (noted_by end.now.noted (in_of (own_logs place.old.me.0) link))
+        (counted (listens (in_of (own_logs place.new.me.0) link))) }
     ensures heard { (m : ℕ) → m < links top.now.key.dims → reader_at top.now.key.dims m ≡ place.old.me.0.pick
         → hop_at top.now.key.dims m ≡ hop_at top.now.key.dims link
         → HeardWhere (is_due end.now.noted (in_of (own_logs place.old.me.0) link)) (in_of (own_logs place.old.me.0) m)
         (in_of (own_logs place.new.me.0) m) }
 {
-    if ear.marks & wire.mask == 0 && ear.hears.saturating_add(end.look_ins) <= end.noted {
+    if ear.marks & wire.mask == 0 && ear.hears <= end.noted {
         ear.marks |= hear(top, place, link, wire.bell);
         ear.hears = ear.hears.saturating_add(1);
     }
@@ -79,12 +80,13 @@ fn look_if_marked<const CAP: usize>(
     ensures looked { own_logs place.new.me.0 ≡ with_in (own_logs place.old.me.0) link
         (looked_where_marked (in_of (own_logs place.new.me.0) link).seen (in_of (own_logs place.old.me.0) link)) }
 {
-    if ear.marks & wire.mask != 0 {
+    let mask = wire.mask;
+    if ear.marks & mask != 0 {
         let found = look_in(top, place, link);
-        end.waiting = found.wrapping_sub(end.taken) as u32;
-        end.look_ins = end.look_ins.saturating_add(1);
-        ear.marks ^= wire.mask;
-        end.waiting
+        let waiting = found.wrapping_sub(end.taken) as u32;
+        end.waiting = waiting;
+        ear.marks ^= mask;
+        waiting
     } else {
         0
     }
@@ -113,8 +115,8 @@ fn find_parcel<const CAP: usize>(
     ensures noted { end.new.noted ≡ end.old.noted }
     ensures more { listens (in_of (own_logs place.old.me.0) link) ≤ listens (in_of (own_logs place.new.me.0) link) }
     ensures unmarked { end.new.waiting ≡ 0 → (in_of (own_logs place.new.me.0) link).marked ≡ false }
-    ensures listened { end.new.waiting ≡ 0
-        → RoseOrFull end.old.noted (counted (listens (in_of (own_logs place.new.me.0) link))) }
+    ensures listened { end.new.waiting ≡ 0 → RoseOrFull (noted_by end.old.noted (in_of (own_logs place.old.me.0) link))
+        (counted (listens (in_of (own_logs place.new.me.0) link))) }
     // A parcel that is at hand costs no step.
     ensures at_hand { end.old.waiting ≢ 0 → place.new.me.0 ≡ place.old.me.0 }
     // Else the doorbell is heard where a hear is due, and the link is looked in where it is then marked.
@@ -158,7 +160,7 @@ pub(crate) fn collect_on<const CAP: usize>(
     ensures good { AreGood CAP top.now.key link (in_of (own_logs place.new.me.0) link) }
     ensures seen { take (length (in_of (own_logs place.old.me.0) link).seen) (in_of (own_logs place.new.me.0) link).seen
         ≡ (in_of (own_logs place.old.me.0) link).seen }
-    ensures noted { end.new.noted ≡ counted (listens (in_of (own_logs place.new.me.0) link)) }
+    ensures noted { end.new.noted ≡ counted (in_of (own_logs place.new.me.0) link).hears }
     ensures more { listens (in_of (own_logs place.old.me.0) link) ≤ listens (in_of (own_logs place.new.me.0) link) }
     ensures taken { result ≡ Collected.Got → (in_of (own_logs place.new.me.0) link).taken
         ≡ suc (in_of (own_logs place.old.me.0) link).taken }
@@ -170,7 +172,8 @@ pub(crate) fn collect_on<const CAP: usize>(
         ≡ (in_of (own_logs place.old.me.0) link).taken }
     ensures unmarked { result ≡ Collected.Nothing → (in_of (own_logs place.new.me.0) link).marked ≡ false }
     ensures listened { result ≡ Collected.Nothing
-        → RoseOrFull end.old.noted (counted (listens (in_of (own_logs place.new.me.0) link))) }
+        → RoseOrFull (noted_by end.old.noted (in_of (own_logs place.old.me.0) link))
+        (counted (listens (in_of (own_logs place.new.me.0) link))) }
     ensures kept { result ≡ Collected.Nothing → parcel.new ≡ parcel.old }
     // A parcel that is at hand is taken without a step of looking.
     ensures at_hand { end.old.waiting ≢ 0 → result ≡ Collected.Got }
@@ -188,21 +191,18 @@ pub(crate) fn collect_on<const CAP: usize>(
     ensures own { result ≡ Collected.Got → sender_at top.now.key.dims link ≡ place.old.me.0.pick
         → Begins (in_of (own_logs place.new.me.0) link).seen (out_of (own_logs place.new.me.0) link).sent }
 {
-    if end.waiting == 0 && ear.marks & wire.mask == 0 {
-        let listened = ear.hears.saturating_add(end.look_ins);
-        if listened > end.noted {
-            end.noted = listened;
-            return Collected::Nothing;
-        }
+    if end.waiting == 0 && ear.marks & wire.mask == 0 && ear.hears > end.noted {
+        end.noted = ear.hears;
+        return Collected::Nothing;
     }
     if find_parcel(top, place, end, ear, wire, link) == 0 {
-        end.noted = ear.hears.saturating_add(end.look_ins);
+        end.noted = ear.hears;
         return Collected::Nothing;
     }
     let slot = slot_of(slots, link, end.taken);
     receive(top, place, link, slot, parcel);
     end.taken = end.taken.wrapping_add(1);
     end.waiting -= 1;
-    end.noted = ear.hears.saturating_add(end.look_ins);
+    end.noted = ear.hears;
     Collected::Got
 }

@@ -18,10 +18,10 @@ pub(crate) struct InEnd {
     pub(crate) taken: u64,
     /// Parcels seen and not taken.
     pub(crate) waiting: u32,
-    /// How often the link was looked in; it stands still at the last number.
-    pub(crate) look_ins: u64,
-    /// How often the link had been listened for at the end of its latest collect.
+    /// How often the doorbell of the link's hop had been heard at the end of its latest collect.
     pub(crate) noted: u64,
+    /// Fills an end up to 32 bytes: its place in a list is a shift of its number.
+    pub(crate) _filler: u64,
 }
 
 /// The slot through which parcel number `count` of a link goes, where the count is known modulo 2^64. The number of slots is a power of two.

@@ -13,7 +13,7 @@ use std::alloc::Global;
 pub(crate) struct RankEnds {
     pub(crate) outs: Vec<OutEnd>,
     pub(crate) ins: Vec<InEnd>,
-    pub(crate) ears: Vec<Ear>,
+    pub(crate) ears: [Ear; 3],
     pub(crate) ended: Vec<u64>,
 }
 
@@ -44,14 +44,14 @@ pub(crate) fn new_ends(alloc: Global, links: usize) -> Result<RankEnds, NoMemory
     let in_end = InEnd {
         taken: 0,
         waiting: 0,
-        look_ins: 0,
         noted: 0,
+        _filler: 0,
     };
     let ear = Ear { marks: 0, hears: 0 };
     Ok(RankEnds {
         outs: vec![in alloc; out_end; links]?,
         ins: vec![in alloc; in_end; links]?,
-        ears: vec![in alloc; ear; 3]?,
+        ears: [ear; 3],
         ended: vec![in alloc; 0; links]?,
     })
 }

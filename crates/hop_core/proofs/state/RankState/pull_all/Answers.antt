@@ -2,6 +2,7 @@ use Rattle.std.proofs.Common.{◌∙◌, ◌<◌, length, ap, arith}
 use Rattle.hop_core.specs.State.{lowest_unread}
 use Rattle.hop_core.proofs.Unread.{unread_at}
 use Rattle.hop_core.proofs.Batches.{same_read, skipped_all, batch_kept, batch_state}
+use Rattle.route_tensor.proofs.Links.{sum_small}
 use Rattle.hop_core.proofs.state.RankState.pull_all.Goals as goal
 
 pub index-requires : goal.index-requires
@@ -19,6 +20,11 @@ skip-requires g c =
     let u = unread_at _ c.args.number c.self.invariant.1.standing (ap lowest_unread c.self.view_is ∙ c.requires.lowest) in
     let within : c.args.number < length c.self.inside.ins.items = omega (arith, u.high, c.self.invariant.1.standing.all_ins) in
     (omega arith, omega (arith, ap (λ x. length x.parcel.untaken) (same_read c.self.inside.ins.items c.args.number _ _ within c.index.ensures c.index_mut.ensures.value), ap length c.unread-count.ensures))
+
+pub overflow_add-self : goal.overflow_add-self
+overflow_add-self g c =
+    let u = unread_at _ c.args.number c.self.invariant.1.standing (ap lowest_unread c.self.view_is ∙ c.requires.lowest) in
+    omega (arith, u.high, sum_small c.self.inside.routes.dims c.self.invariant.1.standing.grid)
 
 pub invariant_of-self : goal.invariant_of-self
 invariant_of-self g c =

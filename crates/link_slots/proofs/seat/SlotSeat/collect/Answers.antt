@@ -1,4 +1,4 @@
-use Rattle.std.proofs.Common.{arith, ◌≡◌, ◌+◌, ◌<◌, ℕ, get_or, sym, ap, subst, ◌∙◌, length, map}
+use Rattle.std.proofs.Common.{arith, ◌≡◌, ◌+◌, ◌<◌, ℕ, List, set, get_or, sym, ap, subst, ◌∙◌, length, map}
 use Rattle.item_buffer.specs.Contents.{Contents, shipped, blank}
 use Rattle.route_tensor.specs.Link.{links}
 use Rattle.route_tensor.specs.Ends.{hop_at, sender_at, reader_at}
@@ -8,22 +8,29 @@ use Rattle.link_slots.specs.declared.seat.ear.Ear.{Ear}
 use Rattle.link_slots.specs.declared.table.wire.Wire.{Wire}
 use Rattle.std.proofs.lemmas.List.{get_or-map}
 use Rattle.link_slots.specs.Doorbell.{LookedFor}
-use Rattle.link_slots.specs.Logs.{InLog, Lists, in_of, got_of}
+use Rattle.link_slots.specs.Logs.{InLog, Lists, in_of, got_of, listens}
 use Rattle.link_slots.specs.View.{own_logs}
 use Rattle.link_slots.specs.Shape.{Shape, MayFollow}
 use Rattle.link_slots.specs.Told.{IsManned}
 use Rattle.list_laws.specs.Counts.{counted}
-use Rattle.link_slots.specs.Counts.{IsWire, IsInEnd, IsHeard, AreGood, ElseKept}
-use Rattle.link_slots.specs.Seen.{Identity, Manning, collected_from, known, noted_at}
+use Rattle.link_slots.specs.Counts.{IsWire, IsInEnd, IsHeard, AreGood, ElseKept, ended_after}
+use Rattle.link_slots.specs.Seat.{IsSeat}
+use Rattle.link_slots.specs.Seen.{Identity, Manning, collected_from, known, hears_noted, noted_at}
 use Rattle.port_bank.specs.Port.{changed}
 use Rattle.link_slots.proofs.Wires.{hop_small}
 use Rattle.link_slots.proofs.Seating.{seat_collected, got_one, got_none, collects_added, collects_same, next_good, ended_case, noted_changed, none_waiting}
 use Rattle.link_slots.proofs.seat.SlotSeat.collect.Goals as goal
 
-pub index_mut-ear-requires : goal.index_mut-ear-requires
-index_mut-ear-requires g c =
+-- the hop that a wire has is one of three
+pub bounds-self-inside-wire : goal.bounds-self-inside-wire
+bounds-self-inside-wire g c =
     let wire : Wire = c.index-wire.result.now in let way : IsWire c.bank.inside.board.shared.key.dims c.args.link wire.bell wire.mask wire.hop = subst (λ (z : Wire). IsWire c.bank.inside.board.shared.key.dims c.args.link z.bell z.mask z.hop) (sym c.index-wire.ensures) (c.bank.invariant.each c.args.link wire (subst (λ (z : Shape). c.args.link < links z.dims) (c.requires.bank.1 ∙ sym (ap (λ (z : Identity). z.shape) c.bank.view_is)) c.requires.link)) in
-    let h = hop_small c.bank.inside.board.shared.key c.bank.invariant.board.shape c.args.link (subst (λ (z : Shape). c.args.link < links z.dims) (c.requires.bank.1 ∙ sym (ap (λ (z : Identity). z.shape) c.bank.view_is)) c.requires.link) in let w = way.hop_is in let n = c.self.invariant.ears_many in omega arith
+    let h = hop_small c.bank.inside.board.shared.key c.bank.invariant.board.shape c.args.link (subst (λ (z : Shape). c.args.link < links z.dims) (c.requires.bank.1 ∙ sym (ap (λ (z : Identity). z.shape) c.bank.view_is)) c.requires.link) in let w = way.hop_is in omega arith
+
+pub offset_bounds-self-inside-wire : goal.offset_bounds-self-inside-wire
+offset_bounds-self-inside-wire g c =
+    let wire : Wire = c.index-wire.result.now in let way : IsWire c.bank.inside.board.shared.key.dims c.args.link wire.bell wire.mask wire.hop = subst (λ (z : Wire). IsWire c.bank.inside.board.shared.key.dims c.args.link z.bell z.mask z.hop) (sym c.index-wire.ensures) (c.bank.invariant.each c.args.link wire (subst (λ (z : Shape). c.args.link < links z.dims) (c.requires.bank.1 ∙ sym (ap (λ (z : Identity). z.shape) c.bank.view_is)) c.requires.link)) in
+    let h = hop_small c.bank.inside.board.shared.key c.bank.invariant.board.shape c.args.link (subst (λ (z : Shape). c.args.link < links z.dims) (c.requires.bank.1 ∙ sym (ap (λ (z : Identity). z.shape) c.bank.view_is)) c.requires.link) in let w = way.hop_is in omega arith
 
 pub collect_on-answer-requires : goal.collect_on-answer-requires
 collect_on-answer-requires g c =
@@ -33,10 +40,11 @@ collect_on-answer-requires g c =
     let inside : l < links v.shape.dims = subst (λ (z : Manning). l < links z.shape.dims) (sym c.self.view_is) c.requires.link in
     let mine : reader_at v.shape.dims l ≡ c.self.inside.rank = subst (λ (z : Manning). reader_at z.shape.dims l ≡ z.rank) (sym c.self.view_is) c.requires.ends_here in
     let end : InEnd = c.index_mut-end.result.now in
-    let counts : IsInEnd v.shape.slots (in_of (own_logs v) l) end.taken end.waiting end.look_ins end.noted =
-    subst (λ (z : InEnd). IsInEnd v.shape.slots (in_of (own_logs v) l) z.taken z.waiting z.look_ins z.noted) (sym c.index_mut-end.ensures.value) (s.each_in l end inside mine) in
-    let ear : Ear = c.index_mut-ear.result.now in
-    let heard : IsHeard v.shape c.self.inside.rank (c.index-wire.result.now.hop + 1) (own_logs v) ear.marks ear.hears = subst (λ (z : Ear). IsHeard v.shape c.self.inside.rank (c.index-wire.result.now.hop + 1) (own_logs v) z.marks z.hears) (sym c.index_mut-ear.ensures.value) (s.each_ear c.index-wire.result.now.hop ear (let low = hop_small key c.bank.invariant.board.shape l (subst (λ (z : Shape). l < links z.dims) e inside) in let hop = way.hop_is in omega arith)) in
+    let counts : IsInEnd v.shape.slots (in_of (own_logs v) l) end.taken end.waiting end.noted =
+    subst (λ (z : InEnd). IsInEnd v.shape.slots (in_of (own_logs v) l) z.taken z.waiting z.noted) (sym c.index_mut-end.ensures.value) (s.each_in l end inside mine) in
+    let d : Ear = record { marks = 0; hears = 0 } in
+    let ear : Ear = get_or c.self.inside.ears c.index-wire.result.now.hop d in
+    let heard : IsHeard v.shape c.self.inside.rank (c.index-wire.result.now.hop + 1) (own_logs v) ear.marks ear.hears = s.each_ear c.index-wire.result.now.hop d (let low = hop_small key c.bank.invariant.board.shape l (subst (λ (z : Shape). l < links z.dims) e inside) in let hop = way.hop_is in omega arith) in
     let low = hop_small key c.bank.invariant.board.shape l (subst (λ (z : Shape). l < links z.dims) e inside) in let hop = way.hop_is in (
       omega arith,
       (
@@ -53,7 +61,7 @@ collect_on-answer-requires g c =
                 own = subst (λ (z : Shape). reader_at z.dims l ≡ v.pick) e (mine ∙ sym s.rank_is);
               };
               long = subst (λ (z : Shape). length (own_logs v).ins ≡ links z.dims) e s.lists_in;
-              end = subst (λ (z : Shape). IsInEnd z.slots (in_of (own_logs v) l) end.taken end.waiting end.look_ins end.noted) e counts;
+              end = subst (λ (z : Shape). IsInEnd z.slots (in_of (own_logs v) l) end.taken end.waiting end.noted) e counts;
               wire = way;
               ear = subst (λ (z : Shape × ℕ × ℕ). IsHeard z.0 z.1 z.2 (own_logs v) ear.marks ear.hears) (λ k. (e k, sym s.rank_is k, sym hop k)) heard;
             },
@@ -96,9 +104,9 @@ pub returns-clause-noted : goal.returns-clause-noted
 returns-clause-noted g c =
     let l : ℕ = c.args.link in let s = c.self.invariant in let v = c.self.inside.place.me.0 in
     let inside : l < links v.shape.dims = subst (λ (z : Manning). l < links z.shape.dims) (sym c.self.view_is) c.requires.link in
-    noted_changed c.self.inside.ins.items l c.collect_on-answer.new.end (let n = s.ins_many in omega arith)
-    ∙ ap (λ (z : Manning). changed (noted_at z) l c.collect_on-answer.new.end.noted) c.self.view_is
-    ∙ ap (changed (noted_at c.args.self.now) l) c.collect_on-answer.ensures.noted
+    let x' : Lists Contents = own_logs c.collect_on-answer.new.place.me.0 in
+    noted_changed c.self.inside.ins.items l c.collect_on-answer.new.end (own_logs v) x' (let n = s.ins_many in omega arith) c.collect_on-answer.ensures.left.others.look_ins c.collect_on-answer.ensures.noted
+    ∙ ap (λ (z : Manning). changed (noted_at z) l (counted (listens (in_of x' l)))) c.self.view_is
 
 pub invariant_of-self : goal.invariant_of-self
 invariant_of-self g c =
@@ -110,17 +118,18 @@ invariant_of-self g c =
     let mine : reader_at v.shape.dims l ≡ c.self.inside.rank = subst (λ (z : Manning). reader_at z.shape.dims l ≡ z.rank) (sym c.self.view_is) c.requires.ends_here in
     let w = (s.each_in l c.index_mut-end.result.now inside mine).waiting_is in
     let m' = c.collect_on-answer.new.place.me in let x : Lists Contents = own_logs v in let x' : Lists Contents = own_logs m'.0 in
-    let n : ℕ = c.index_mut.result.now in
-    let was : n ≡ counted (lasts (map shipped (got_of x l))) = c.index_mut.ensures.value ∙ s.each_ended l n inside mine in
-    let now : c.note_last.new.ended ≡ counted (lasts (map shipped (got_of x' l))) = c.note_last.ensures ∙ ended_case c.collect_on-answer.result (got_of x l) (got_of x' l) c.collect_on-answer.new.parcel c.last.result n
+    let n : ℕ = get_or c.self.inside.ended.items l 0 in
+    let was : n ≡ counted (lasts (map shipped (got_of x l))) = s.each_ended l 0 inside mine in
+    let now : ended_after c.collect_on-answer.result c.last.result n ≡ counted (lasts (map shipped (got_of x' l))) = ended_case c.collect_on-answer.result (got_of x l) (got_of x' l) c.collect_on-answer.new.parcel c.last.result n
     (λ got. got_one key v.pick l x x' f.left.others (omega arith) f.seen c.collect_on-answer.new.parcel (f.taken got) (f.parcel got)) (λ none. got_none key v.pick l x x' f.left.others (omega arith) f.seen (f.not_taken none)) (sym c.last.ensures) was in
-    seat_collected g.row.CAP v.shape c.self.inside.place.me m' c.self.inside.rank l c.self.inside.outs.items c.self.inside.ins.items c.self.inside.ears.items c.self.inside.ended.items s
-    (subst (λ (z : Shape). IsManned z m') back f.left.stays.seat) inside c.collect_on-answer.new.end c.collect_on-answer.new.ear c.index-wire.result.now.hop c.note_last.new.ended f.left.here
+    subst (λ (z : List ℕ). IsSeat g.row.CAP m'.0.shape m' c.self.inside.rank c.self.inside.outs.items (set c.self.inside.ins.items l c.collect_on-answer.new.end) (set c.self.inside.ears c.index-wire.result.now.hop c.collect_on-answer.new.ear) z) (sym c.note_last.ensures)
+    (seat_collected g.row.CAP v.shape c.self.inside.place.me m' c.self.inside.rank l c.self.inside.outs.items c.self.inside.ins.items c.self.inside.ears c.self.inside.ended.items s
+    (subst (λ (z : Shape). IsManned z m') back f.left.stays.seat) inside c.collect_on-answer.new.end c.collect_on-answer.new.ear c.index-wire.result.now.hop (ended_after c.collect_on-answer.result c.last.result n) f.left.here
     (subst (λ (z : Shape). ElseKept z v.pick l x x') back f.left.others) mine
-    (subst (λ (z : Shape). IsInEnd z.slots (in_of x' l) c.collect_on-answer.new.end.taken c.collect_on-answer.new.end.waiting c.collect_on-answer.new.end.look_ins c.collect_on-answer.new.end.noted) back f.left.end)
+    (subst (λ (z : Shape). IsInEnd z.slots (in_of x' l) c.collect_on-answer.new.end.taken c.collect_on-answer.new.end.waiting c.collect_on-answer.new.end.noted) back f.left.end)
     (subst (λ (z : Shape). IsHeard z v.pick (hop_at z.dims l) x' c.collect_on-answer.new.ear.marks c.collect_on-answer.new.ear.hears) back f.left.ear)
     (subst (λ (z : Shape). hop_at z.dims l ≡ c.index-wire.result.now.hop + 1) back way.hop_is)
-    (subst (λ (z : Shape). AreGood g.row.CAP z l (in_of x' l)) back f.good) now
+    (subst (λ (z : Shape). AreGood g.row.CAP z l (in_of x' l)) back f.good) now)
 
 pub returns-clause-own : goal.returns-clause-own
 returns-clause-own g c got from =
@@ -135,5 +144,5 @@ returns-clause-looked_for g c all =
     let mine : reader_at v.shape.dims l ≡ c.self.inside.rank = subst (λ (z : Manning). reader_at z.shape.dims l ≡ z.rank) (sym c.self.view_is) c.requires.ends_here in
     let is : end ≡ get_or c.self.inside.ins.items l end = c.index_mut-end.ensures.value in
     let none : end.waiting ≡ 0 = ap (λ (i : InEnd). i.waiting) is ∙ none_waiting (in_of (own_logs v) l) (get_or c.self.inside.ins.items l end).waiting (c.self.invariant.each_in l end inside mine).waiting_is (subst (λ (z : Manning). length (collected_from z l) ≡ known z l) (sym c.self.view_is) all) in
-    let noted : end.noted ≡ noted_at c.args.self.now l = ap (λ (i : InEnd). i.noted) is ∙ sym (get_or-map (λ (i : InEnd). i.noted) c.self.inside.ins.items l end 0 (let n = c.self.invariant.ins_many in omega arith)) ∙ ap (λ (z : Manning). noted_at z l) c.self.view_is in
+    let noted : end.noted ≡ hears_noted c.args.self.now l = ap (λ (i : InEnd). i.noted) is ∙ sym (get_or-map (λ (i : InEnd). i.noted) c.self.inside.ins.items l end 0 (let n = c.self.invariant.ins_many in omega arith)) ∙ ap (λ (z : Manning). hears_noted z l) c.self.view_is in
     subst (λ (z : ℕ × InLog Contents). LookedFor z.0 z.1 (in_of (own_logs c.collect_on-answer.new.place.me.0) l)) (λ k. (noted k, (in_of (c.self.view_is k).lists l))) (c.collect_on-answer.ensures.looked none)

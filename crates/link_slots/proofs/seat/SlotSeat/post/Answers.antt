@@ -67,7 +67,7 @@ invariant_of-self g c =
     let e : v.shape ≡ key = ap (λ (z : Manning). z.shape) c.self.view_is ∙ (c.requires.bank.1 ∙ sym (ap (λ (z : Identity). z.shape) c.bank.view_is)) in
     let inside : l < links v.shape.dims = subst (λ (z : Manning). l < links z.shape.dims) (sym c.self.view_is) c.requires.link in
     let mine : sender_at v.shape.dims l ≡ c.self.inside.rank = subst (λ (z : Manning). sender_at z.shape.dims l ≡ z.rank) (sym c.self.view_is) c.requires.starts_here in
-    seat_posted g.row.CAP v.shape c.self.inside.place.me c.post_on-answer.new.place.me c.self.inside.rank l c.self.inside.outs.items c.self.inside.ins.items c.self.inside.ears.items c.self.inside.ended.items s
+    seat_posted g.row.CAP v.shape c.self.inside.place.me c.post_on-answer.new.place.me c.self.inside.rank l c.self.inside.outs.items c.self.inside.ins.items c.self.inside.ears c.self.inside.ended.items s
     (subst (λ (z : Shape). IsManned z c.post_on-answer.new.place.me) (sym e) c.post_on-answer.ensures.left.stays.seat) inside c.post_on-answer.new.end c.post_on-answer.ensures.left.here mine
     (subst (λ (z : Shape). IsOutEnd z.slots (out_of (own_logs c.post_on-answer.new.place.me.0) l) c.post_on-answer.new.end.sent c.post_on-answer.new.end.spare) (sym e) c.post_on-answer.ensures.left.end)
 

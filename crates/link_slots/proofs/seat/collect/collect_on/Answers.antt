@@ -12,7 +12,7 @@ use Rattle.link_slots.specs.Doorbell.{is_due, HeardWhere}
 use Rattle.link_slots.proofs.Moves.{own_with, in_here, in_there, in_same}
 use Rattle.link_slots.proofs.Manning.{with_twice}
 use Rattle.link_slots.proofs.Counting.{end_taken}
-use Rattle.link_slots.proofs.Due.{not_due_listened, heard_nowhere, looked_for, unmarked_same, looked_then_taken}
+use Rattle.link_slots.proofs.Due.{not_due_heard, heard_nowhere, looked_for, unmarked_same, looked_then_taken}
 use Rattle.link_slots.proofs.Hearing.{bit_unset, else_kept, in_elsewhere, good_same, heard_same}
 use Rattle.link_slots.proofs.seat.collect.collect_on.Goals as goal
 
@@ -34,13 +34,11 @@ returns-clause-left g c =
           let k : ℕ = c.find_parcel.new.end.waiting - 1 in
           let more : c.find_parcel.new.end.waiting ≡ suc k = (let n = c.if-find_parcel-eq0.false in let w = c.find_parcel.ensures.waiting in omega arith) in
           let hs : c.find_parcel.new.ear.hears ≡ counted i2.hears = f.left.ear.heard l c.requires.reads.at.below c.requires.reads.at.own refl in
-          let ks : c.find_parcel.new.end.look_ins ≡ counted i2.look_ins = f.left.end.look_ins_is in
-          let noted : min (c.find_parcel.new.ear.hears + c.find_parcel.new.end.look_ins) (2 ^ 64 - 1) ≡ counted (i2.hears + i2.look_ins) = omega arith in
-          end_taken key.slots i2 (in_of (own_logs v3) l) c.find_parcel.new.end.taken k c.find_parcel.new.end.look_ins c.find_parcel.new.end.noted _ _
-          (subst (λ (z : ℕ). IsInEnd key.slots i2 c.find_parcel.new.end.taken z c.find_parcel.new.end.look_ins c.find_parcel.new.end.noted) more f.left.end)
-          (ap (λ (z : InLog Contents). z.seen) a) (ap (λ (z : InLog Contents). z.taken) a) (ap (λ (z : InLog Contents). z.look_ins) a) (ap (λ (z : InLog Contents). z.hears) a)
+          end_taken key.slots i2 (in_of (own_logs v3) l) c.find_parcel.new.end.taken k c.find_parcel.new.end.noted _ _
+          (subst (λ (z : ℕ). IsInEnd key.slots i2 c.find_parcel.new.end.taken z c.find_parcel.new.end.noted) more f.left.end)
+          (ap (λ (z : InLog Contents). z.seen) a) (ap (λ (z : InLog Contents). z.taken) a)
           refl
-          (c.saturating_add-end-2.ensures ∙ noted ∙ sym (ap (λ (z : InLog Contents). counted (z.hears + z.look_ins)) a)));
+          (hs ∙ sym (ap (λ (z : InLog Contents). counted z.hears) a)));
       ear = (let key : Shape = c.args.top.now.key in let f = c.find_parcel.ensures in let v : Knowing = c.args.place.now.me.0 in let v2 : Knowing = c.find_parcel.new.place.me.0 in let v3 : Knowing = c.receive.new.place.me.0 in let l : ℕ = c.args.link in
           let i : InLog Contents = taken_more (in_of (own_logs v2) l) in
           let o = own v2 v3 l c.receive.ensures.released f.left.stays.seat.speaks in
@@ -89,20 +87,19 @@ returns-clause-looked g c none =
     looked_then_taken c.args.end.now.noted (in_of (own_logs v) l) (in_of (own_logs v2) l) (in_of (own_logs v3) l)
     (at v2 v3 l c.receive.ensures.released f.left.stays.seat.speaks (let w = f.left.others.long in let u = c.requires.reads.long in let h = c.requires.reads.at.below in omega arith)) (f.looked none)
 
-pub returns-then-listened-end-clause-unmarked : goal.returns-then-listened-end-clause-unmarked
-returns-then-listened-end-clause-unmarked g c _ =
+pub returns-then-ear-end-clause-unmarked : goal.returns-then-ear-end-clause-unmarked
+returns-then-ear-end-clause-unmarked g c _ =
     let none = bit_unset c.args.ear.now.marks ((wiring c.args.top.now.key).bit c.args.link) c.args.wire.now.mask c.requires.reads.wire.mask_is c.if-ear-wire-eq0.true in
     c.requires.reads.ear.marked c.args.link c.requires.reads.at.below c.requires.reads.at.own refl ∙ ap (λ (z : ℕ). eqb z 1) none
 
-pub returns-then-listened-end-clause-looked : goal.returns-then-listened-end-clause-looked
-returns-then-listened-end-clause-looked g c _ =
+pub returns-then-ear-end-clause-looked : goal.returns-then-ear-end-clause-looked
+returns-then-ear-end-clause-looked g c _ =
     let i : InLog Contents = in_of (own_logs c.args.place.now.me.0) c.args.link in
     let hs : c.args.ear.now.hears ≡ counted i.hears = c.requires.reads.ear.heard c.args.link c.requires.reads.at.below c.requires.reads.at.own refl in
-    let ks : c.args.end.now.look_ins ≡ counted i.look_ins = c.requires.reads.end.look_ins_is in
     let none = bit_unset c.args.ear.now.marks ((wiring c.args.top.now.key).bit c.args.link) c.args.wire.now.mask c.requires.reads.wire.mask_is c.if-ear-wire-eq0.true in
     let unmarked : i.marked ≡ false = c.requires.reads.ear.marked c.args.link c.requires.reads.at.below c.requires.reads.at.own refl ∙ ap (λ (z : ℕ). eqb z 1) none in
     looked_for c.args.end.now.noted i i i i.seen
-    (heard_nowhere i i (is_due c.args.end.now.noted i) (not_due_listened c.args.end.now.noted i (let t = c.if-listened-end.true in let r = c.saturating_add-listened.ensures in omega arith)) refl)
+    (heard_nowhere i i (is_due c.args.end.now.noted i) (not_due_heard c.args.end.now.noted i (let t = c.if-ear-end.true in omega arith)) refl)
     (sym (unmarked_same i unmarked))
 
 pub returns-clause-noted : goal.returns-clause-noted
@@ -111,6 +108,4 @@ returns-clause-noted g c =
     let i2 : InLog Contents = in_of (own_logs v2) l in
     let a = at v2 v3 l c.receive.ensures.released f.left.stays.seat.speaks (let w = f.left.others.long in let u = c.requires.reads.long in let h = c.requires.reads.at.below in omega arith) in
     let hs : c.find_parcel.new.ear.hears ≡ counted i2.hears = f.left.ear.heard l c.requires.reads.at.below c.requires.reads.at.own refl in
-    let ks : c.find_parcel.new.end.look_ins ≡ counted i2.look_ins = f.left.end.look_ins_is in
-    let noted : min (c.find_parcel.new.ear.hears + c.find_parcel.new.end.look_ins) (2 ^ 64 - 1) ≡ counted (i2.hears + i2.look_ins) = omega arith in
-    c.saturating_add-end-2.ensures ∙ noted ∙ sym (ap (λ (z : InLog Contents). counted (z.hears + z.look_ins)) a)
+    hs ∙ sym (ap (λ (z : InLog Contents). counted z.hears) a)

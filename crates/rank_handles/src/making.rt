@@ -25,10 +25,11 @@ pub fn make_group(
     ensures there { IfOk result (λ b. is_some (group_in (Some b.value)) ≡ true) }
 {
     let group = AnyGroup::new(alloc, dims, buffer, slots, steady)?;
-    match Box::new(alloc, Part::Group(group)) {
-        Ok(part) => Ok(part),
-        Err(_) => Err(Answer::NoMemory),
-    }
+    let Ok(mut room) = Box::new(alloc, Part::Empty) else {
+        return Err(Answer::NoMemory);
+    };
+    *room = Part::Group(group);
+    Ok(room)
 }
 
 /// A rank of the group, in a box of its own.

@@ -4,7 +4,7 @@ ghost use Rattle.rank_node.specs.Ledgers.{IsBlankOf};
 use bale_cli::{Outcome, run, run_serial};
 use bale_types::{MemSink, MemSource};
 use rank_group::{Gate, Steps};
-use std::alloc::Global;
+use std::alloc::{AllocError, Global};
 use std::marker::Brand;
 use std::string::ToString;
 use std::sync::Wait;
@@ -128,6 +128,30 @@ fn run_alone(
     run_counted::<Brand>(alloc, words, source, out, err, Blank::new(1))
 }
 
+/// The words of a text.
+fn words_of(alloc: Global, text: &str) -> Result<Vec<String>, AllocError> {
+    let mut words = Vec::new(alloc);
+    for word in text.split_whitespace() {
+        words.push(word.to_string(alloc)?)?;
+    }
+    Ok(words)
+}
+
+/// What a run tells that left these in its sinks.
+fn told_of(alloc: Global, outcome: &Outcome, out: &[u8], err: &[u8]) -> Result<Told, Fail> {
+    let epochs = match outcome.rounds.get(0) {
+        Some(round) => round.epochs(),
+        None => 0,
+    };
+    let status = outcome.status;
+    let written = str::from_utf8(out)?;
+    let said = str::from_utf8(err)?;
+    Ok(Told {
+        text: format!(in alloc; "{status} {written}{said}")?,
+        rounds: (outcome.rounds.len(), epochs),
+    })
+}
+
 /// Makes a call: as its words ask for it, with this gate, or serially.
 pub(crate) fn make<R: Threads + Wait + Clock + Sync>(
     rt: &R,
@@ -135,15 +159,12 @@ pub(crate) fn make<R: Threads + Wait + Clock + Sync>(
     call: Call,
     gate: Option<&Watch>,
 ) -> Result<Told, Fail> {
-    let mut words = Vec::new(alloc);
-    for word in call.words.split_whitespace() {
-        words.push(word.to_string(alloc)?)?;
-    }
     let (most_read, read_fails) = call.read;
     let (most_written, write_fails) = call.write;
     if most_read == 0 || most_written == 0 {
         return Err(Fail::new("no byte at a call"));
     }
+    let words = words_of(alloc, call.words)?;
     let mut source = MemSource::new(alloc, call.text, most_read, &[read_fails])?;
     let mut out = MemSink::new(alloc, 4_096, most_written, &[write_fails])?;
     let mut err = MemSink::new(alloc, 4_096, 4_096, &[call.say])?;
@@ -159,15 +180,5 @@ pub(crate) fn make<R: Threads + Wait + Clock + Sync>(
         ),
         None => run_alone(alloc, words.as_slice(), &mut source, &mut out, &mut err),
     };
-    let epochs = match outcome.rounds.get(0) {
-        Some(round) => round.epochs(),
-        None => 0,
-    };
-    let status = outcome.status;
-    let written = str::from_utf8(out.taken())?;
-    let said = str::from_utf8(err.taken())?;
-    Ok(Told {
-        text: format!(in alloc; "{status} {written}{said}")?,
-        rounds: (outcome.rounds.len(), epochs),
-    })
+    told_of(alloc, &outcome, out.taken(), err.taken())
 }

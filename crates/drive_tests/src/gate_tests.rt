@@ -1,7 +1,7 @@
 //! The gate is told of each turn of a rank on a thread before it is made, by its number.
 use crate::asking_thread_tests::by_hand;
 use crate::gates::TestGate;
-use crate::watched::{Deed, Hands, Watch, drive_on};
+use crate::watched::{Deed, Hands, Watch, is_counted};
 use rank_group::Via;
 use std::sync::atomic::Ordering;
 use std::test::Fail;
@@ -24,22 +24,18 @@ fn held_gate(rt: HostRuntime) -> Result<(), Fail> {
     ] {
         let watch = Watch::new();
         let gate = TestGate::Held(&watch, held);
-        let told = drive_on(
+        let counted = is_counted(
             &rt,
             rt.alloc(),
-            2,
             &lists,
             &watch,
             Deed::Counts,
             &gate,
             Hands::Threads,
             via,
+            &[1, 2],
         )?;
-        let Some((counts, epochs)) = told else {
-            return Err(Fail::new("no grid"));
-        };
-        assert_eq!(rt; counts.as_slice(), [1, 2].as_slice());
-        assert_eq!(rt; epochs, 2);
+        assert!(rt; counted);
         assert!(rt; both_went(&watch));
     }
     Ok(())
@@ -69,21 +65,18 @@ fn numbers_over_two_epochs(rt: HostRuntime) -> Result<(), Fail> {
     ] {
         let watch = Watch::new();
         let gate = TestGate::counts(rt.alloc(), 4)?;
-        let told = drive_on(
+        let counted = is_counted(
             &rt,
             rt.alloc(),
-            4,
             &lists,
             &watch,
             Deed::Counts,
             &gate,
             hands,
             via,
+            &[4, 4, 4, 8],
         )?;
-        let Some((_counts, epochs)) = told else {
-            return Err(Fail::new("no grid"));
-        };
-        assert_eq!(rt; epochs, 2);
+        assert!(rt; counted);
         assert!(rt; gate.has_counted(2));
     }
     Ok(())

@@ -1,5 +1,5 @@
 //! Crews come home where the clock says that their threads are kept from their processors.
-use crate::watched::{Deed, Hands, Watch, drive_on};
+use crate::watched::{Deed, Hands, Watch, is_counted};
 use rank_group::{Gate, Via};
 use std::io;
 use std::sync::Wait;
@@ -91,22 +91,18 @@ fn crews_come_home(rt: HostRuntime) -> Result<(), Fail> {
                 stay,
                 turns: AtomicU64::new(0),
             };
-            let told = drive_on(
+            let counted = is_counted(
                 &clock,
                 rt.alloc(),
-                4,
                 &lists,
                 &watch,
                 Deed::Counts,
                 &gate,
                 hands,
                 via,
+                &[4, 4, 4, 8],
             )?;
-            let Some((counts, epochs)) = told else {
-                return Err(Fail::new("no grid"));
-            };
-            assert_eq!(rt; counts.as_slice(), [4, 4, 4, 8].as_slice());
-            assert_eq!(rt; epochs, 2);
+            assert!(rt; counted);
             assert_eq!(rt; watch.announced.load(Ordering::SeqCst), calls);
             assert!(rt; !watch.noted.load(Ordering::SeqCst));
         }

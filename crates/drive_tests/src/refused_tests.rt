@@ -4,7 +4,7 @@ ghost use Rattle.rank_node.specs.Ledgers.{IsBlankOf};
 
 use crate::gates::TestGate;
 use crate::serial_tests::order_of;
-use crate::watched::{Deed, Hands, Watch, Watched, drive_on, progs_of};
+use crate::watched::{Deed, Hands, Watch, Watched, is_counted, progs_of};
 use bale_types::NoMemory;
 use rank_group::{Steps, Via, drive_serial};
 use route_tensor::Grid;
@@ -26,16 +26,16 @@ fn refused_absorbs(rt: HostRuntime) -> Result<(), Fail> {
     ] {
         let watch = Watch::new();
         let gate = TestGate::counts(rt.alloc(), 4)?;
-        let told = drive_on(
+        let told = is_counted(
             &rt,
             rt.alloc(),
-            4,
             &lists,
             &watch,
             Deed::Refuses,
             &gate,
             hands,
             via,
+            &[],
         );
         assert!(rt; told.is_err());
         assert!(rt; gate.has_counted(2));

@@ -1,6 +1,6 @@
 //! Ranks on threads turn side by side, and absorb during the exchange.
 use crate::gates::TestGate;
-use crate::watched::{Deed, Hands, Watch, drive_on};
+use crate::watched::{Deed, Hands, Watch, is_counted};
 use rank_group::Via;
 use std::sync::atomic::Ordering;
 use std::test::Fail;
@@ -9,23 +9,18 @@ use std::test::Fail;
 fn absorbs_while_ranks_turn(rt: HostRuntime) -> Result<(), Fail> {
     let watch = Watch::new();
     let lists: [&[u32]; 2] = [&[1, 1], &[]];
-    let gate = TestGate::Holds(&watch);
-    let told = drive_on(
+    let counted = is_counted(
         &rt,
         rt.alloc(),
-        2,
         &lists,
         &watch,
         Deed::Absorbs,
-        &gate,
+        &TestGate::Holds(&watch),
         Hands::Threads,
         Via::Convey,
+        &[0, 2],
     )?;
-    let Some((counts, epochs)) = told else {
-        return Err(Fail::new("no grid"));
-    };
-    assert_eq!(rt; counts.as_slice(), [0, 2].as_slice());
-    assert_eq!(rt; epochs, 2);
+    assert!(rt; counted);
     assert!(rt; !watch.noted.load(Ordering::SeqCst));
     Ok(())
 }
@@ -34,22 +29,18 @@ fn absorbs_while_ranks_turn(rt: HostRuntime) -> Result<(), Fail> {
 fn two_ranks_look_for_each_other(rt: HostRuntime) -> Result<(), Fail> {
     let watch = Watch::new();
     let lists: [&[u32]; 2] = [&[1], &[0]];
-    let told = drive_on(
+    let counted = is_counted(
         &rt,
         rt.alloc(),
-        2,
         &lists,
         &watch,
         Deed::Looks,
         &TestGate::Open,
         Hands::Threads,
         Via::Convey,
+        &[1, 1],
     )?;
-    let Some((counts, epochs)) = told else {
-        return Err(Fail::new("no grid"));
-    };
-    assert_eq!(rt; counts.as_slice(), [1, 1].as_slice());
-    assert_eq!(rt; epochs, 2);
+    assert!(rt; counted);
     assert!(rt; !watch.noted.load(Ordering::SeqCst));
     Ok(())
 }

@@ -1,6 +1,6 @@
 //! Runs on threads by both transports, and ranks that have no thread.
 use crate::gates::TestGate;
-use crate::watched::{Deed, Hands, Watch, drive_on};
+use crate::watched::{Deed, Hands, Watch, is_counted};
 use rank_group::Via;
 use std::test::Fail;
 
@@ -22,22 +22,18 @@ fn the_caller_drives_what_has_no_thread(rt: HostRuntime) -> Result<(), Fail> {
         (Hands::Threads, Via::Exstack),
     ] {
         let watch = Watch::new();
-        let told = drive_on(
+        let counted = is_counted(
             &rt,
             rt.alloc(),
-            4,
             &lists,
             &watch,
             Deed::Counts,
             &TestGate::Open,
             hands,
             via,
+            &[4, 4, 4, 8],
         )?;
-        let Some((counts, epochs)) = told else {
-            return Err(Fail::new("no grid"));
-        };
-        assert_eq!(rt; counts.as_slice(), [4, 4, 4, 8].as_slice());
-        assert_eq!(rt; epochs, 2);
+        assert!(rt; counted);
     }
     Ok(())
 }

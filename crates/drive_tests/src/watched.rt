@@ -269,42 +269,53 @@ fn run_watched<'a, R: Threads + Wait + Clock + Sync, G: Gate + Sync>(
     }
 }
 
-/// Adds the counts of a rank.
-fn add_counts(all: &mut Vec<u64>, counts: &[u64]) {
-    for j in 0..all.len() {
-        if let Some(count) = counts.get(j) {
-            all[j] = all[j].wrapping_add(*count);
+/// How often a column was named.
+fn count_of(progs: &Progs<Watched<'_>>, column: usize) -> u64 {
+    let mut all = 0u64;
+    for r in 0..progs.len() {
+        if let Some(prog) = progs.get(r) {
+            if let Some(count) = prog.inner.counts().get(column) {
+                all = all.wrapping_add(*count);
+            }
         }
     }
+    all
 }
 
-/// The same on a grid of one number: how often each column was named, and the epochs. `None` where there is no such grid.
-pub(crate) fn drive_on<R: Threads + Wait + Clock + Sync, G: Gate + Sync>(
+/// Whether each column was named so often.
+fn are_counted(progs: &Progs<Watched<'_>>, wanted: &[u64]) -> bool {
+    for (column, count) in wanted.iter().enumerate() {
+        if count_of(progs, column) != *count {
+            return false;
+        }
+    }
+    true
+}
+
+/// The same on a grid of one number, with a rank for each list: whether each column was named as often as wanted, in two epochs.
+pub(crate) fn is_counted<R: Threads + Wait + Clock + Sync, G: Gate + Sync>(
     rt: &R,
     alloc: Global,
-    ranks: u32,
     lists: &[&[u32]],
     watch: &Watch,
     deed: Deed,
     gate: &G,
     hands: Hands,
     via: Via,
-) -> Result<Option<(Vec<u64>, u64)>, NoMemory> {
+    wanted: &[u64],
+) -> Result<bool, NoMemory> {
+    let Ok(ranks) = u32::try_from(lists.len()) else {
+        return Ok(false);
+    };
     let Ok(grid) = Grid::new(&[ranks]) else {
-        return Ok(None);
+        return Ok(false);
     };
     let Finished { progs, rounds } = run_watched(
         rt, alloc, &grid, lists, watch, deed, gate, hands, via,
     )?;
-    let mut all = vec![in alloc; 0u64; grid.ranks() as usize]?;
-    for r in 0..progs.len() {
-        if let Some(prog) = progs.get(r) {
-            add_counts(&mut all, prog.inner.counts());
-        }
-    }
     let epochs = match rounds.get(0) {
         Some(round) => round.epochs(),
         None => 0,
     };
-    Ok(Some((all, epochs)))
+    Ok(epochs == 2 && are_counted(&progs, wanted))
 }

@@ -1,12 +1,12 @@
 //! Matrices made of cells and of seeds, and that calls succeed with ample memory.
 
-use bale_types::{MemSink, Out, Triple};
+use bale_types::{MemSink, NoMemory, Out, Triple};
 use mtx_text::{Cells, Kind, Matrix, Words, gen_matrix, write_matrix};
 use std::alloc::Global;
 use std::test::Fail;
 
 /// What is written of a matrix.
-fn written(alloc: Global, m: &Matrix) -> Result<Vec<u8>, Fail> {
+pub(crate) fn written(alloc: Global, m: &Matrix) -> Result<Vec<u8>, Fail> {
     let mut sink = MemSink::new(alloc, 4_096, 7, &[])?;
     let mut out = Out::new(&mut sink);
     write_matrix(m, &mut out)?;
@@ -14,43 +14,46 @@ fn written(alloc: Global, m: &Matrix) -> Result<Vec<u8>, Fail> {
     Ok(Vec::from_slice(alloc, sink.taken())?)
 }
 
+const fn cell(i: u32, j: u32, v: i64) -> Triple {
+    Triple { i, j, v }
+}
+
+/// Raises and puts cells; whether the puts answer as they should.
+fn fill(cells: &mut Cells) -> Result<bool, NoMemory> {
+    cells.raise(2, 0, -7)?;
+    cells.raise(0, 1, 3)?;
+    let put = [
+        cells.put(0, 2, 1)?,
+        cells.put(0, 1, 9)?,
+        cells.put(1, 5, 2)?,
+    ];
+    cells.raise(0, 1, 4)?;
+    cells.raise(0, 1, 2)?;
+    Ok(put == [true, false, true])
+}
+
+/// Whether these are the cells, each found at or after the place that follows the one before.
+fn are_found(cells: &Cells, wanted: &[Triple]) -> bool {
+    let (mut i, mut j) = (0, 0);
+    for c in wanted {
+        if cells.at_or_after(i, j) != Some(*c) {
+            return false;
+        }
+        (i, j) = (c.i, c.j.saturating_add(1));
+    }
+    cells.at_or_after(i, j) == None && cells.at_or_after(u32::MAX, u32::MAX) == None
+}
+
 #[test]
 fn cells_by_hand(rt: HostRuntime) -> Result<(), Fail> {
     let mut cells = Cells::new(rt.alloc());
-    assert!(rt; cells.at_or_after(0, 0) == None);
-    cells.raise(2, 0, -7)?;
-    cells.raise(0, 1, 3)?;
-    assert!(rt; cells.put(0, 2, 1)? && !cells.put(0, 1, 9)? && cells.put(1, 5, 2)?);
-    cells.raise(0, 1, 4)?;
-    cells.raise(0, 1, 2)?;
-    let wanted = [(0, 1, 4), (0, 2, 1), (1, 5, 2), (2, 0, -7)];
-    for settled in [false, true] {
-        let (mut i, mut j) = (0, 0);
-        for (row, col, v) in wanted {
-            let c = cells.at_or_after(i, j);
-            assert!(rt;
-                c == Some(Triple { i: row, j: col, v }),
-                "{row} {col}, settled {settled}"
-            );
-            (i, j) = (row, col + 1);
-        }
-        assert!(rt;
-            cells.at_or_after(i, j) == None && cells.at_or_after(u32::MAX, u32::MAX) == None
-        );
-        cells.settle();
-    }
-    let list = cells.into_entries();
-    for (e, (i, j, v)) in wanted.iter().enumerate() {
-        assert!(rt;
-            list.as_slice().get(e)
-                == Some(&Triple {
-                    i: *i,
-                    j: *j,
-                    v: *v
-                })
-        );
-    }
-    assert!(rt; list.len() == 4);
+    assert!(rt; are_found(&cells, &[]));
+    assert!(rt; fill(&mut cells)?);
+    let wanted = [cell(0, 1, 4), cell(0, 2, 1), cell(1, 5, 2), cell(2, 0, -7)];
+    assert!(rt; are_found(&cells, &wanted));
+    cells.settle();
+    assert!(rt; are_found(&cells, &wanted), "settled");
+    assert!(rt; cells.into_entries().as_slice() == wanted.as_slice());
     Ok(())
 }
 

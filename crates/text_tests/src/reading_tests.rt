@@ -1,13 +1,11 @@
 //! Worked texts with their matrices or bad lines, and that calls succeed with ample memory.
 ghost use Rattle.std.specs.Prelude.{None};
 
+use crate::cell_tests::written;
 use bale_types::{Failed, MemSink, Out, Source, Triple};
-use mtx_text::{EntryLine, Kind, Matrix, ParseFault, Reason, parse_matrix, read_matrix};
+use mtx_text::{EntryLine, Kind, ParseFault, Reason, parse_matrix, read_matrix};
 use std::alloc::{AllocError, Global};
 use std::test::Fail;
-
-/// What a text is read as: sizes, kind, and entries as row, column and value counted from 1; or its bad line.
-type Wanted = Result<(u32, u32, Kind, &'static [(u32, u32, i64)]), (u64, Reason)>;
 
 const P: &str = "%%MatrixMarket matrix coordinate pattern general\n";
 
@@ -17,117 +15,97 @@ const S: &str = "%%MatrixMarket matrix coordinate integer symmetric\n";
 
 const K: &str = "%%MatrixMarket matrix coordinate integer skew-symmetric\n";
 
-/// Whether a banner and what follows it are read so.
-fn is_read(alloc: Global, banner: &str, body: &str, wanted: &Wanted) -> Result<bool, AllocError> {
+/// The text of a banner and what follows it.
+fn text_of(alloc: Global, banner: &str, body: &str) -> Result<Vec<u8>, AllocError> {
     let mut text = Vec::from_slice(alloc, banner.as_bytes())?;
     text.extend_from_slice(body.as_bytes())?;
-    Ok(match (parse_matrix(alloc, text.as_slice()), wanted) {
-        (Ok(m), Ok((rows, cols, kind, entries))) => {
-            m.rows() == *rows && m.cols() == *cols && m.kind() == *kind && has_entries(&m, entries)
-        }
-        (Err(ParseFault::Bad(b)), Err((line, reason))) => b.line == *line && b.reason == *reason,
+    Ok(text)
+}
+
+/// Whether this line of a text is bad, for this reason.
+fn is_bad(alloc: Global, text: &[u8], line: u64, reason: Reason) -> bool {
+    match parse_matrix(alloc, text) {
+        Err(ParseFault::Bad(b)) => b.line == line && b.reason == reason,
         _ => false,
-    })
-}
-
-/// Whether a matrix has these entries and no other.
-fn has_entries(m: &Matrix, entries: &[(u32, u32, i64)]) -> bool {
-    for (k, e) in entries.iter().enumerate() {
-        match m.get(k) {
-            Some(t) if (t.i as u64 + 1, t.j as u64 + 1, t.v) == (e.0 as u64, e.1 as u64, e.2) => {}
-            _ => return false,
-        }
     }
-    m.len() == entries.len() && m.get(entries.len()) == None
 }
 
-/// The entries of the matrix of most runs.
-const ONE_RANK: &[(u32, u32, i64)] = &[(1, 1, 1), (1, 3, 1), (2, 3, 1), (3, 3, 1)];
+/// What is written of the matrix of a text.
+fn read_and_written(alloc: Global, text: &[u8]) -> Result<Vec<u8>, Fail> {
+    match parse_matrix(alloc, text) {
+        Ok(m) => written(alloc, &m),
+        Err(_) => Err(Fail::new("no matrix")),
+    }
+}
 
-/// A banner and what follows it, and what they are read as.
-const READ: [(&str, &str, Wanted); 17] = [
-    (
-        P,
-        "3 3 4\n1 1\n1 3\n2 3\n3 3\n",
-        Ok((3, 3, Kind::Pattern, ONE_RANK)),
-    ),
+const ONE_RANK: &str = "3 3 4\n1 1\n1 3\n2 3\n3 3\n";
+
+/// A banner and what follows it, and the banner and what follows it as its matrix is written.
+const READ: [(&str, &str, &str, &str); 17] = [
+    (P, ONE_RANK, P, ONE_RANK),
     // the last line without its end
-    (
-        P,
-        "3 3 4\n1 1\n1 3\n2 3\n3 3",
-        Ok((3, 3, Kind::Pattern, ONE_RANK)),
-    ),
+    (P, "3 3 4\n1 1\n1 3\n2 3\n3 3", P, ONE_RANK),
     // lenient spelling
     (
         "%%MatrixMarket MATRIX Coordinate Pattern GENERAL\r\n",
         "%\r\n\r\n3 3 4\r\n1 1\r\n1\t3\r\n2 3\r\n% end\r\n3 3",
-        Ok((3, 3, Kind::Pattern, ONE_RANK)),
+        P,
+        ONE_RANK,
     ),
     // blanks before the banner, further words in it, a comment behind blanks
     (
         " \t%%MatrixMarket matrix coordinate integer general 1 2 3\n",
         " \t% 9 9 9\n \t\n +2 0003 1 \n\t 2 +1 -7 \n",
-        Ok((2, 3, Kind::Integer, &[(2, 1, -7)])),
-    ),
-    (P, "0 0 0\n", Ok((0, 0, Kind::Pattern, &[]))),
-    // a size line followed by nothing, not even its end
-    (P, "2 2 0", Ok((2, 2, Kind::Pattern, &[]))),
-    (P, "-0 +0 -00\n", Ok((0, 0, Kind::Pattern, &[]))),
-    (P, "16384 1 0\n", Ok((16384, 1, Kind::Pattern, &[]))),
-    // entries of value 0 are entries
-    (
         I,
-        "1 2 2\n1 2 0\n1 1 -0\n",
-        Ok((1, 2, Kind::Integer, &[(1, 2, 0), (1, 1, 0)])),
+        "2 3 1\n2 1 -7\n",
     ),
+    (P, "0 0 0\n", P, "0 0 0\n"),
+    // a size line followed by nothing, not even its end
+    (P, "2 2 0", P, "2 2 0\n"),
+    (P, "-0 +0 -00\n", P, "0 0 0\n"),
+    (P, "16384 1 0\n", P, "16384 1 0\n"),
+    // entries of value 0 are entries
+    (I, "1 2 2\n1 2 0\n1 1 -0\n", I, "1 2 2\n1 2 0\n1 1 0\n"),
     (
         I,
         "1 1 1\n1 1 1000000000000\n",
-        Ok((1, 1, Kind::Integer, &[(1, 1, 1_000_000_000_000)])),
+        I,
+        "1 1 1\n1 1 1000000000000\n",
     ),
     (
         I,
         "1 1 1\n1 1 -0000001000000000000\n",
-        Ok((1, 1, Kind::Integer, &[(1, 1, -1_000_000_000_000)])),
-    ),
-    (
         I,
-        "2 3 2\n1 3 -7\n2 1 4\n",
-        Ok((2, 3, Kind::Integer, &[(1, 3, -7), (2, 1, 4)])),
+        "1 1 1\n1 1 -1000000000000\n",
     ),
+    (I, "2 3 2\n1 3 -7\n2 1 4\n", I, "2 3 2\n1 3 -7\n2 1 4\n"),
     (
         S,
         "3 3 3\n1 1 5\n2 1 7\n3 2 -4\n",
-        Ok((
-            3,
-            3,
-            Kind::Integer,
-            &[(1, 1, 5), (2, 1, 7), (1, 2, 7), (3, 2, -4), (2, 3, -4)],
-        )),
+        I,
+        "3 3 5\n1 1 5\n2 1 7\n1 2 7\n3 2 -4\n2 3 -4\n",
     ),
-    (
-        S,
-        "2 2 1\n1 2 3\n",
-        Ok((2, 2, Kind::Integer, &[(1, 2, 3), (2, 1, 3)])),
-    ),
-    (
-        K,
-        "2 2 1\n2 1 3\n",
-        Ok((2, 2, Kind::Integer, &[(2, 1, 3), (1, 2, -3)])),
-    ),
+    (S, "2 2 1\n1 2 3\n", I, "2 2 2\n1 2 3\n2 1 3\n"),
+    (K, "2 2 1\n2 1 3\n", I, "2 2 2\n2 1 3\n1 2 -3\n"),
     (
         "%%MatrixMarket matrix coordinate pattern symmetric\n",
         "2 2 2\n2 1\n2 2\n",
-        Ok((2, 2, Kind::Pattern, &[(2, 1, 1), (1, 2, 1), (2, 2, 1)])),
+        P,
+        "2 2 3\n2 1\n1 2\n2 2\n",
     ),
     // a lone CR after the last LF is a line without words
-    (P, "1 1 1\n1 1\n\r", Ok((1, 1, Kind::Pattern, &[(1, 1, 1)]))),
+    (P, "1 1 1\n1 1\n\r", P, "1 1 1\n1 1\n"),
 ];
 
 #[test]
 fn texts_with_a_matrix(rt: HostRuntime) -> Result<(), Fail> {
-    for (banner, body, wanted) in &READ {
-        assert!(rt; is_read(rt.alloc(), banner, body, wanted)?, "{body}");
+    for (banner, body, kind, rest) in &READ {
+        let text = text_of(rt.alloc(), banner, body)?;
+        let wanted = text_of(rt.alloc(), kind, rest)?;
+        assert!(rt;
+            read_and_written(rt.alloc(), &text)?.as_slice() == wanted.as_slice(),
+            "{body}"
+        );
     }
     Ok(())
 }
@@ -226,10 +204,8 @@ const BAD: [(&str, &str, u64, Reason); 44] = [
 #[test]
 fn texts_with_a_bad_line(rt: HostRuntime) -> Result<(), Fail> {
     for (banner, body, line, reason) in &BAD {
-        assert!(rt;
-            is_read(rt.alloc(), banner, body, &Err((*line, *reason)))?,
-            "{body}"
-        );
+        let text = text_of(rt.alloc(), banner, body)?;
+        assert!(rt; is_bad(rt.alloc(), &text, *line, *reason), "{body}");
     }
     Ok(())
 }

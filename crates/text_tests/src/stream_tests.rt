@@ -71,17 +71,21 @@ fn numbers_are_written_in_decimal(rt: HostRuntime) -> Result<(), Fail> {
     Ok(())
 }
 
+/// Writes more than a buffer holds, some of it over the end of one.
+fn write_much(out: &mut Out<'_, MemSink>, letters: &[u8]) -> Result<(), Failed> {
+    out.text(letters)?;
+    out.byte(b'b')?;
+    out.text(letters)?;
+    out.text(b"ccc")?;
+    out.flush()?;
+    out.flush()
+}
+
 #[test]
 fn a_full_buffer_is_handed_over(rt: HostRuntime) -> Result<(), Fail> {
     let letters = vec![in rt.alloc(); b'a'; 4095]?;
     let mut sink = MemSink::new(rt.alloc(), 10_000, 5, &[])?;
-    let mut out = Out::new(&mut sink);
-    out.text(&letters)?;
-    out.byte(b'b')?;
-    out.text(&letters)?;
-    out.text(b"ccc")?;
-    out.flush()?;
-    out.flush()?;
+    write_much(&mut Out::new(&mut sink), &letters)?;
     let taken = sink.taken();
     assert_eq!(rt; taken.len(), 8194);
     assert_eq!(rt; &taken[4094..4097], b"aba".as_slice());
@@ -89,22 +93,41 @@ fn a_full_buffer_is_handed_over(rt: HostRuntime) -> Result<(), Fail> {
     Ok(())
 }
 
+/// Answers of a flush that fails, and of what comes after it.
+fn flush_twice(out: &mut Out<'_, MemSink>) -> [Result<(), Failed>; 4] {
+    [
+        out.text(b"abcdefgh"),
+        out.flush(),
+        out.byte(b'i'),
+        out.flush(),
+    ]
+}
+
+#[test]
+fn what_a_failed_flush_left_still_waits(rt: HostRuntime) -> Result<(), Fail> {
+    let mut sink = MemSink::new(rt.alloc(), 10_000, 5, &[2])?;
+    let answers = flush_twice(&mut Out::new(&mut sink));
+    assert_eq!(rt; answers, [Ok(()), Err(Failed), Ok(()), Ok(())]);
+    assert_eq!(rt; sink.taken(), b"abcdefghi".as_slice());
+    Ok(())
+}
+
+/// Answers of calls at a buffer that is full and can't be handed over at first.
+fn write_past(out: &mut Out<'_, MemSink>, letters: &[u8]) -> [Result<(), Failed>; 4] {
+    [
+        out.text(letters),
+        out.byte(b'x'),
+        out.byte(b'b'),
+        out.flush(),
+    ]
+}
+
 #[test]
 fn what_a_failed_call_left_still_waits(rt: HostRuntime) -> Result<(), Fail> {
-    let mut sink = MemSink::new(rt.alloc(), 10_000, 5, &[2])?;
-    let mut out = Out::new(&mut sink);
-    out.text(b"abcdefgh")?;
-    assert_eq!(rt; out.flush(), Err(Failed));
-    out.byte(b'i')?;
-    out.flush()?;
-    assert_eq!(rt; sink.taken(), b"abcdefghi".as_slice());
     let letters = vec![in rt.alloc(); b'a'; 4096]?;
     let mut sink = MemSink::new(rt.alloc(), 10_000, 4096, &[1, 2])?;
-    let mut out = Out::new(&mut sink);
-    assert_eq!(rt; out.text(&letters), Err(Failed));
-    assert_eq!(rt; out.byte(b'x'), Err(Failed));
-    out.byte(b'b')?;
-    out.flush()?;
+    let answers = write_past(&mut Out::new(&mut sink), &letters);
+    assert_eq!(rt; answers, [Err(Failed), Err(Failed), Ok(()), Ok(())]);
     let taken = sink.taken();
     assert_eq!(rt; taken.len(), 4097);
     assert_eq!(rt; &taken[4095..], b"ab".as_slice());

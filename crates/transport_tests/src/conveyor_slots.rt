@@ -1,5 +1,6 @@
 //! The conveyors of two ranks over a slot bank, whose ports one thread turns.
 ghost use Rattle.std.specs.Prelude.{◌<◌};
+ghost use Rattle.transport_tests.specs.ByHand.{BeginsAt};
 
 use crate::conveyor_side::{Answer, Call, Side};
 use bale_types::NoMemory;
@@ -31,6 +32,14 @@ impl<P: Port<2>> AtPort<P> {
     fn make(&mut self, call: Call) -> Result<Answer, NoMemory> {
         self.side.make(&mut self.port, call)
     }
+}
+
+/// A rank's conveyor at a port on which nothing was done.
+fn at_port<P: Port<2>>(alloc: Global, grid: &Grid, port: P) -> Result<AtPort<P>, NoMemory>
+    requires begins { BeginsAt P.Port port grid.now }
+{
+    let side = Side::<2, 1>::new(alloc, grid, port.rank(), false)?;
+    Ok(AtPort { side, port })
 }
 
 /// Makes the calls of two ranks, up to the first that answers otherwise than wanted, and tells how many came before that.
@@ -70,17 +79,7 @@ pub(crate) fn answered_over_slots(
         return Ok(0);
     }
     let (bank, mut gather) = SlotBank::<2>::new(alloc, &grid, 2)?;
-    let zero_port = bank.port(bank.seat(&mut gather, from));
-    let one_port = bank.port(bank.seat(&mut gather, to));
-    let zero_side = Side::<2, 1>::new(alloc, &grid, from, false)?;
-    let one_side = Side::<2, 1>::new(alloc, &grid, to, false)?;
-    let mut zero = AtPort {
-        side: zero_side,
-        port: zero_port,
-    };
-    let mut one = AtPort {
-        side: one_side,
-        port: one_port,
-    };
+    let mut zero = at_port(alloc, &grid, bank.port(bank.seat(&mut gather, from)))?;
+    let mut one = at_port(alloc, &grid, bank.port(bank.seat(&mut gather, to)))?;
     make_calls(&mut zero, &mut one, calls)
 }

@@ -7,14 +7,42 @@ use Answer::{Got, Nothing, Sent};
 use Call::{Collect, Post};
 use bale_types::NoMemory;
 use link_slots::SlotBank;
+use port_bank::Port;
 use route_tensor::Grid;
 use std::alloc::Global;
 use std::test::Fail;
 
-/// Makes the calls at a bank of the grid 2 with two slots, each post by rank 0 and each collect by rank 1, and tells how many
-/// came before the first that answered otherwise than wanted.
+/// Makes the calls, each post at the first port and each collect at the second, and tells how many came before the first that
+/// answered otherwise than wanted.
+fn answered<P: Port<1>>(
+    posts: Hand<P>,
+    collects: Hand<P>,
+    calls: &[(Call, Answer)],
+) -> Result<usize, NoMemory> {
+    let (mut posts, mut collects) = (posts, collects);
+    for (made, (call, wanted)) in calls.iter().enumerate() {
+        let answer = match call {
+            Post(_, _) => {
+                let (after, answer) = posts.make(*call)?;
+                posts = after;
+                answer
+            }
+            Collect(_) => {
+                let (after, answer) = collects.make(*call)?;
+                collects = after;
+                answer
+            }
+        };
+        if answer != *wanted {
+            return Ok(made);
+        }
+    }
+    Ok(calls.len())
+}
+
+/// The same at a bank of the grid 2 with two slots: rank 0 posts, and rank 1 collects.
 #[tactic(auto, unfolding(port_bank::specs::Port::IsSlots))]
-fn answered(alloc: Global, calls: &[(Call, Answer)]) -> Result<usize, NoMemory> {
+fn answered_by_slots(alloc: Global, calls: &[(Call, Answer)]) -> Result<usize, NoMemory> {
     let Ok(grid) = Grid::new(&[2]) else {
         return Ok(0);
     };
@@ -26,26 +54,9 @@ fn answered(alloc: Global, calls: &[(Call, Answer)]) -> Result<usize, NoMemory> 
         return Ok(0);
     }
     let (bank, mut gather) = SlotBank::<1>::new(alloc, &grid, 2)?;
-    let mut zero = Hand::new(alloc, &grid, bank.port(bank.seat(&mut gather, from)))?;
-    let mut one = Hand::new(alloc, &grid, bank.port(bank.seat(&mut gather, to)))?;
-    for (made, (call, wanted)) in calls.iter().enumerate() {
-        let answer = match call {
-            Post(_, _) => {
-                let (after, answer) = zero.make(*call)?;
-                zero = after;
-                answer
-            }
-            Collect(_) => {
-                let (after, answer) = one.make(*call)?;
-                one = after;
-                answer
-            }
-        };
-        if answer != *wanted {
-            return Ok(made);
-        }
-    }
-    Ok(calls.len())
+    let zero = Hand::new(alloc, &grid, bank.port(bank.seat(&mut gather, from)))?;
+    let one = Hand::new(alloc, &grid, bank.port(bank.seat(&mut gather, to)))?;
+    answered(zero, one, calls)
 }
 
 #[test]
@@ -72,6 +83,6 @@ fn doorbells_by_hand(rt: HostRuntime) -> Result<(), Fail> {
         // By a hear.
         (Collect(1), Nothing),
     ];
-    assert_eq!(rt; answered(rt.alloc(), &calls)?, calls.len());
+    assert_eq!(rt; answered_by_slots(rt.alloc(), &calls)?, calls.len());
     Ok(())
 }

@@ -25,7 +25,38 @@ fn answered<P: Port<1>>(hand: Hand<P>, calls: &[(Call, Answer)]) -> Result<usize
     Ok(calls.len())
 }
 
-/// The same of the one rank of the grid 1: at the slot bank, and at the plain bank.
+/// The same of the one rank of the grid 1 at the slot bank.
+fn answered_by_slots(alloc: Global, slots: u32, calls: &[(Call, Answer)]) -> Result<usize, NoMemory>
+    requires slots { IsSlots slots }
+{
+    let Ok(grid) = Grid::new(&[1]) else {
+        return Ok(0);
+    };
+    if grid.links() == 0 {
+        return Ok(0);
+    }
+    let (_hop, rank, _reader) = grid.ends(0);
+    let (bank, mut gather) = SlotBank::<1>::new(alloc, &grid, slots)?;
+    let hand = Hand::new(alloc, &grid, bank.port(bank.seat(&mut gather, rank)))?;
+    answered(hand, calls)
+}
+
+/// And at the plain bank.
+fn answered_by_plain(alloc: Global, slots: u32, calls: &[(Call, Answer)]) -> Result<usize, NoMemory>
+    requires slots { IsSlots slots }
+{
+    let Ok(grid) = Grid::new(&[1]) else {
+        return Ok(0);
+    };
+    if grid.links() == 0 {
+        return Ok(0);
+    }
+    let (_hop, rank, _reader) = grid.ends(0);
+    let plain = PlainBank::<1>::new(alloc, &grid, slots)?.port(rank);
+    answered(Hand::new(alloc, &grid, plain)?, calls)
+}
+
+/// And at each of the two.
 fn both_answered(
     alloc: Global,
     slots: u32,
@@ -33,18 +64,10 @@ fn both_answered(
 ) -> Result<[usize; 2], NoMemory>
     requires slots { IsSlots slots }
 {
-    let Ok(grid) = Grid::new(&[1]) else {
-        return Ok([0, 0]);
-    };
-    if grid.links() == 0 {
-        return Ok([0, 0]);
-    }
-    let (_hop, rank, _reader) = grid.ends(0);
-    let (bank, mut gather) = SlotBank::<1>::new(alloc, &grid, slots)?;
-    let by_slots = Hand::new(alloc, &grid, bank.port(bank.seat(&mut gather, rank)))?;
-    let plain = PlainBank::<1>::new(alloc, &grid, slots)?.port(rank);
-    let plain = Hand::new(alloc, &grid, plain)?;
-    Ok([answered(by_slots, calls)?, answered(plain, calls)?])
+    Ok([
+        answered_by_slots(alloc, slots, calls)?,
+        answered_by_plain(alloc, slots, calls)?,
+    ])
 }
 
 /// And slots_by_hand: with one slot and with four.

@@ -5,7 +5,7 @@ use Rattle.link_slots.specs.Shape.{shipped_all}
 use Rattle.link_slots.specs.Seen.{posted_on, collected_from}
 use Rattle.link_slots.proofs.Opening.{no_sent, no_got}
 use Rattle.transport_tests.proofs.ByHand.{begins}
-use Rattle.transport_tests.proofs.doorbell_tests.answered.Goals as goal
+use Rattle.transport_tests.proofs.doorbell_tests.answered_by_slots.Goals as goal
 
 pub new-requires-3 : goal.new-requires-3
 new-requires-3 c =

@@ -13,7 +13,6 @@
 //! | `take()` | | the same, which is then taken |
 //! | `untaken()` | | all untaken entries |
 //! | `skip(n)` | `n` entries untaken | takes the first `n` of them |
-//! | `fill(es)` | nothing taken, and room for `es` | appends `es` |
 //! | `untake()` | an entry taken since the last clear, and not put back | puts it back in front |
 //! | `clear()` | | empty, nothing taken, not last, the same epoch |
 //! | `len()`, `is_full()`, `cap()` | | of the untaken entries, and `CAP` |

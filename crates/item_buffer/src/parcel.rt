@@ -136,18 +136,6 @@ impl<const CAP: usize> Parcel<CAP> {
         }
     }
 
-    /// Appends copies of `entries`, for which there is room. None of the parcel's entries may be taken.
-    #[inline]
-    pub fn fill(&mut self, entries: &[Entry])
-        requires fresh { self.old.taken ≡ 0 }
-        requires room { length self.old.untaken + length entries.now ≤ CAP }
-        ensures { self.new ≡ record self.old { untaken = self.old.untaken ++ entries.now } }
-    {
-        let end = self.pushed as usize + entries.len();
-        self.held.places.as_mut_slice()[self.pushed as usize..end].copy_from_slice(entries);
-        self.pushed = end as u16;
-    }
-
     /// Puts the entry that the latest `take` or `skip` took last back in front of the untaken ones.
     pub fn untake(&mut self)
         requires { IsSome self.old.back }

@@ -2,7 +2,7 @@
 
 ghost use Rattle.round_program.specs.Ranks.{AreRanks};
 ghost use Rattle.std.specs.Prelude.{◌≡◌, ◌<◌, ◌≤◌, ◌+◌, ◌^◌, ◌%◌, ◌/◌, [], ◌∷◌, length, map, replicate, slice_index_or, IfOk};
-ghost use Rattle.bale_types.specs.Out.{HandsOn, Writes};
+ghost use Rattle.bale_streams.specs.Out.{HandsOn, Writes};
 ghost use Rattle.mtx_text.specs.Sparse.{Sparse};
 ghost use Rattle.sparse_rows.specs.Parts.{HasPart};
 ghost use Rattle.round_program.specs.Canonical.{InRound, EndsWithin};
@@ -11,7 +11,8 @@ ghost use Rattle.app_histo_ig.specs.HistoLines.{in_column, histo_line, histo_lin
 ghost use Rattle.app_histo_ig.specs.HistoRuns.{histo_begins, histo_starts, HistoEnded};
 
 use crate::histo::Histo;
-use bale_types::{Failed, Line, NoMemory, Out, Sink};
+use bale_streams::{Failed, Line, Out, Sink};
+use bale_types::NoMemory;
 use mtx_text::Matrix;
 use round_program::Progs;
 use sparse_rows::{Parts, split};

@@ -1,11 +1,11 @@
 //! tally's answer as text.
 
 ghost use Rattle.std.specs.Prelude.{◌<◌};
-ghost use Rattle.bale_types.specs.Out.{Writes};
+ghost use Rattle.bale_streams.specs.Out.{Writes};
 ghost use Rattle.app_tally.specs.Counts.{entry_text, tally_text};
 
 use crate::counts::Counts;
-use bale_types::{Failed, Line, Out, Sink};
+use bale_streams::{Failed, Line, Out, Sink};
 
 /// Writes for each distinct line, in the order of bytes, how many times it was read, one space, the line and LF. No memory is
 /// taken.

@@ -2,7 +2,8 @@
 
 use crate::rig::sent;
 use app_tally::{Lines, LinesFault, read_lines, tally_start};
-use bale_types::{Item, MemSource, NoMemory};
+use bale_streams::MemSource;
+use bale_types::{Item, NoMemory};
 use round_program::Program;
 use std::alloc::Global;
 use std::test::Fail;

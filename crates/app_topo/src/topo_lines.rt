@@ -1,11 +1,11 @@
 //! The order as text.
 
 ghost use Rattle.std.specs.Prelude.{◌<◌, ◌+◌, ◌^◌};
-ghost use Rattle.bale_types.specs.Out.{Writes};
+ghost use Rattle.bale_streams.specs.Out.{Writes};
 ghost use Rattle.app_topo.specs.TopoLines.{topo_line, topo_lines};
 
 use crate::order::TopoOrder;
-use bale_types::{Failed, Line, Out, Sink};
+use bale_streams::{Failed, Line, Out, Sink};
 
 /// Writes a line for each position of an order: its number, its row and its column, from 1. No memory is taken.
 ///

@@ -9,7 +9,8 @@ ghost use Rattle.app_tally.specs.TallyRuns.{tally_starts};
 
 use crate::application::{Application, Written};
 use app_tally::{Counts, Lines, TallyMailer, tally_end, tally_start, tally_write};
-use bale_types::{Failed, NoMemory, Out, Sink};
+use bale_streams::{Failed, Out, Sink};
+use bale_types::NoMemory;
 use round_program::Progs;
 use std::alloc::Global;
 

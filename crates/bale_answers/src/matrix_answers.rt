@@ -14,8 +14,9 @@ use crate::application::{Application, Written};
 use app_permute::{
     Permute, Transpose, permute_end, permute_start, seed_perms, transpose_end, transpose_start,
 };
+use bale_streams::{Failed, Out, Sink};
 use bale_subjects::new_numbers;
-use bale_types::{Failed, NoMemory, Out, Sink};
+use bale_types::NoMemory;
 use bale_words::Permutations;
 use mtx_text::{Matrix, write_matrix};
 use round_program::Progs;

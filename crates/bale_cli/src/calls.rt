@@ -7,8 +7,8 @@ ghost use Rattle.bale_cli.specs.Outcomes.{Answered, IsOutcome};
 ghost use Rattle.bale_cli.specs.Run.{AreFewest, AreTurns, IsRun};
 
 use bale_runs::{RunEnd, drives_serially, run_command, run_serially};
+use bale_streams::{Sink, Source};
 use bale_subjects::{Refusal, Subject, read_words, report, subject_for};
-use bale_types::{Sink, Source};
 use bale_words::Command;
 use rank_group::{Gate, Rounds, Steps};
 use std::alloc::Global;

@@ -4,13 +4,14 @@ ghost use Rattle.bale_runs.specs.Asking.{TellsCommand, TurnsOfCommand, FewestOfC
 ghost use Rattle.bale_runs.specs.RunEnds.{Fits, IsRunEnd};
 ghost use Rattle.bale_runs.specs.Jobs.{as_asked, by_asking, via_of, manner_for};
 ghost use Rattle.bale_runs.specs.Runs.{made_for, HaveRun, TellsTask, IsTaskRun, TurnsOfTask, FewestOfTask};
-ghost use Rattle.rank_node.specs.Ledgers.{IsBlankOf};
+ghost use Rattle.bale_types.specs.Ledgers.{IsBlankOf};
 
 use crate::asking::{ask_on_threads, ask_serially};
 use app_cases::AnyProgram;
 use bale_answers::{AnswerEnd, finish_task, start_task};
+use bale_streams::Sink;
 use bale_subjects::{Refusal, Subject, in_order};
-use bale_types::{NoMemory, Sink};
+use bale_types::NoMemory;
 use bale_words::{Command, Driving, Task, Transport, Travel};
 use case_table::{case_serial, case_threads};
 use rank_group::{Finished, Gate, Rounds, Steps, Via};

@@ -1,12 +1,13 @@
 //! Why a run ended without an answer.
 ghost use Rattle.std.specs.Prelude.{◌≡◌, ◌≤◌, ◌++◌, [], length, codes, decimal};
-ghost use Rattle.bale_types.specs.Stream.{after, IsFront, RoseOrFull};
-ghost use Rattle.bale_types.specs.Out.{appended};
+ghost use Rattle.bale_streams.specs.Stream.{after, IsFront};
+ghost use Rattle.bale_types.specs.Counters.{RoseOrFull};
+ghost use Rattle.bale_streams.specs.Out.{appended};
 ghost use Rattle.bale_subjects.specs.Refusals.{bad_line_text, bad_text, refusal_text, status_of, unfit_text};
 
 use crate::unfit::Unfit;
 use app_tally::LinesFault;
-use bale_types::{Line, Out, Sink};
+use bale_streams::{Line, Out, Sink};
 use mtx_text::BadLine;
 
 /// Why a text isn't what a command is asked of. Lines count from 1.

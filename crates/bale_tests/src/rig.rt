@@ -1,8 +1,8 @@
 //! What the tests of the top calls share: a run with its source, its sinks and its gate, and what it tells.
-ghost use Rattle.rank_node.specs.Ledgers.{IsBlankOf};
+ghost use Rattle.bale_types.specs.Ledgers.{IsBlankOf};
 
 use bale_cli::{Outcome, run, run_serial};
-use bale_types::{MemSink, MemSource};
+use bale_streams::{MemSink, MemSource};
 use rank_group::{Gate, Steps};
 use std::alloc::{AllocError, Global};
 use std::marker::Brand;

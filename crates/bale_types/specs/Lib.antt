@@ -1,6 +1,4 @@
 pub mod Bits
 pub mod Changes
-pub mod Digits
-pub mod Memory
-pub mod Out
-pub mod Stream
+pub mod Counters
+pub mod Ledgers

@@ -1,4 +1,4 @@
-//! The two faults that come from outside a computation.
+//! The fault of an allocation.
 use std::alloc::{AllocError, AllocFailed};
 
 /// An allocation was refused.
@@ -17,7 +17,3 @@ impl<T: Drop> From<AllocFailed<T>> for NoMemory {
         NoMemory
     }
 }
-
-/// A read or a write failed; the object's count of faults tells of it.
-#[derive(Clone, Copy, PartialEq, Eq, Debug)]
-pub struct Failed;

@@ -1,9 +1,9 @@
 //! A rank of an exchange at its two ports, of two slot banks.
 
+use bale_types::Steps;
 use port_bank::Port;
 use query_node::BiNode;
 use rank_group::{Gate, NotingPort, Seated, await_turn};
-use rank_node::Steps;
 use round_program::Asker;
 use std::marker::Model;
 use std::sync::Wait;

@@ -20,8 +20,9 @@ mod serial;
 mod sweeping;
 mod threads;
 
+pub use bale_types::Steps;
 pub use drive::drive_both;
 pub use on_threads::{thread_both, thread_with};
-pub use rank_node::{Steps, Turn};
+pub use rank_node::Turn;
 pub use serial::bi_serial;
 pub use threads::bi_threads;

@@ -8,10 +8,9 @@ ghost use Rattle.query_node.specs.States.{BiState};
 ghost use Rattle.biconvey.specs.Worlds.{AreBanks, PostedWithin, World, is_over, queries_in, sides_of, turns_of};
 
 use crate::sweeping::{Banks, sweep};
-use bale_types::NoMemory;
+use bale_types::{NoMemory, Steps};
 use convey::{closes_law, rest_law};
 use query_node::BiNode;
-use rank_node::Steps;
 use round_program::Asker;
 use std::sync::ledger::Ledger;
 

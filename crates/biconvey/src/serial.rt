@@ -11,10 +11,9 @@ ghost use Rattle.biconvey.specs.Drives.{AreAskers};
 ghost use Rattle.biconvey.specs.Driven.{HasExchanged, HasSweptBoth};
 
 use crate::drive::drive_both;
-use bale_types::NoMemory;
-use case_table::by_capacity;
+use bale_types::{NoMemory, Steps};
+use item_buffer::by_capacity;
 use rank_group::Finished;
-use rank_node::Steps;
 use round_program::{Asker, Progs};
 use route_tensor::Grid;
 use std::alloc::Global;

@@ -10,10 +10,9 @@ ghost use Rattle.query_node.specs.States.{BiState};
 ghost use Rattle.query_node.specs.Ranks.{HasRank};
 ghost use Rattle.biconvey.specs.Worlds.{AreBanks, AfterRank, PostedWithin, World, SweptTo, sides_of};
 
-use bale_types::NoMemory;
+use bale_types::{NoMemory, Steps};
 use port_bank::PlainBank;
 use query_node::BiNode;
-use rank_node::Steps;
 use round_program::Asker;
 use std::sync::ledger::Ledger;
 

@@ -9,7 +9,7 @@ ghost use Rattle.biconvey.specs.Driven.{HasExchanged};
 
 use crate::on_threads::thread_both;
 use bale_types::NoMemory;
-use case_table::by_capacity;
+use item_buffer::by_capacity;
 use rank_group::{Finished, Gate};
 use round_program::{Asker, Progs};
 use route_tensor::Grid;

@@ -12,7 +12,6 @@
 //! item_buffer's `IsCapacity` says which capacities there are.
 #![tactic(auto)]
 
-mod capacities;
 mod serial;
 mod threads;
 

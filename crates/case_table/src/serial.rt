@@ -7,8 +7,8 @@ ghost use Rattle.rank_group.specs.Ranks.{IsOrder};
 ghost use Rattle.rank_group.specs.Driven.{MayRun, HasFinished, HasSwept, WithinTurns};
 ghost use Rattle.item_buffer.specs.Capacity.{IsCapacity};
 
-use crate::by_capacity;
 use bale_types::NoMemory;
+use item_buffer::by_capacity;
 use rank_group::{Finished, Steps, Via, drive_serial};
 use round_program::{Program, Progs};
 use route_tensor::Grid;

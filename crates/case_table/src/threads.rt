@@ -5,8 +5,8 @@ ghost use Rattle.rank_node.specs.Movers.{manner_of};
 ghost use Rattle.rank_group.specs.Driven.{MayRun, HasFinished, ToldOfTurns};
 ghost use Rattle.item_buffer.specs.Capacity.{IsCapacity};
 
-use crate::by_capacity;
 use bale_types::NoMemory;
+use item_buffer::by_capacity;
 use rank_group::{Finished, Gate, Via, drive_threads};
 use round_program::{Program, Progs};
 use route_tensor::Grid;

@@ -5,7 +5,7 @@
 //! 0, 3 and 4 where a read or a write failed, 5 and 6 where there is no matrix or no square one, 7 without memory.
 #![tactic(auto)]
 
-use bale_types::{Failed, Line, Out, Sink, StdinSource, StdoutSink};
+use bale_streams::{Failed, Line, Out, Sink, StdinSource, StdoutSink};
 use components::components_threads;
 use mtx_text::{ReadFault, read_matrix};
 use route_tensor::Grid;

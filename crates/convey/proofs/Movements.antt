@@ -13,7 +13,7 @@ use Rattle.port_bank.specs.Logs.{Logs}
 use Rattle.port_bank.specs.Flow.{hop_link}
 use Rattle.list_laws.specs.Lists.{Begins, Ends}
 use Rattle.port_bank.proofs.Fronts.{begins_refl}
-use Rattle.bale_types.specs.Stream.{RoseOrFull}
+use Rattle.bale_types.specs.Counters.{RoseOrFull}
 use Rattle.hop_core.specs.declared.phase.Phase.TheVariants.{Complete}
 use Rattle.hop_core.specs.Link.{Out, no_out, no_in}
 use Rattle.hop_core.specs.State.{State, phase_of}

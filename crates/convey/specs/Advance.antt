@@ -1,7 +1,7 @@
 -- What an advance leaves of a conveyor and of its port, from old to new and from port to port'.
 use Rattle.std.specs.Prelude.{◌≡◌, ◌≢◌, ℕ, ◌+◌, ◌<◌, ◌≤◌, Bool, true, false, List, ◌++◌, length, slice_get, Some}
 use Rattle.std.specs.List.{flat_map}
-use Rattle.bale_types.specs.Stream.{RoseOrFull}
+use Rattle.bale_types.specs.Counters.{RoseOrFull}
 use Rattle.bale_types.specs.declared.item.Entry.{Entry}
 use Rattle.item_buffer.specs.Contents.{Shipped}
 use Rattle.list_laws.specs.Lists.{Begins, Ends}

@@ -1,6 +1,6 @@
 //! The order in which `drive_serial` turns the ranks: its clause says that a run in that order ends as this one did, and any order does.
 ghost use Rattle.std.specs.Prelude.{◌<◌};
-ghost use Rattle.rank_node.specs.Ledgers.{IsBlankOf};
+ghost use Rattle.bale_types.specs.Ledgers.{IsBlankOf};
 
 use crate::serial_tests::order_of;
 use crate::watched::{Deed, Watch, Watched, progs_of};

@@ -1,6 +1,6 @@
 //! A rank that refuses each absorb: both drives answer that memory was wanting, and every rank goes on turning.
 ghost use Rattle.std.specs.Prelude.{◌<◌};
-ghost use Rattle.rank_node.specs.Ledgers.{IsBlankOf};
+ghost use Rattle.bale_types.specs.Ledgers.{IsBlankOf};
 
 use crate::gates::TestGate;
 use crate::serial_tests::order_of;

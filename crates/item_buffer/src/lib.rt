@@ -18,9 +18,10 @@
 //! | `len()`, `is_full()`, `cap()` | | of the untaken entries, and `CAP` |
 //! | `last()`, `set_last(on)`, `epoch()`, `set_epoch(e)` | | the marks |
 //!
-//! `is_capacity(cap)` tells for which capacities the product is compiled. `specs/Contents` says what contracts see of a parcel, and `specs/Capacity` what `CAP` may be.
+//! `is_capacity(cap)` tells for which capacities the product is compiled, and `by_capacity!` calls the function of one of them. `specs/Contents` says what contracts see of a parcel, and `specs/Capacity` what `CAP` may be.
 #![tactic(auto)]
 
+mod by_capacity;
 mod capacity;
 mod parcel;
 

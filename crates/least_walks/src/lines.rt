@@ -1,10 +1,10 @@
 //! The line of a vertex in an answer.
 
 ghost use Rattle.std.specs.Prelude.{◌≡◌, ◌<◌, ◌≤◌, ◌+◌, ◌^◌, ◌++◌, length};
-ghost use Rattle.bale_types.specs.Out.{Writes};
+ghost use Rattle.bale_streams.specs.Out.{Writes};
 ghost use Rattle.least_walks.specs.Lines.{weight_text, vertex_line};
 
-use bale_types::{Failed, Line, Out, Sink};
+use bale_streams::{Failed, Line, Out, Sink};
 
 /// Writes the line of vertex `v`: its number from 1, and its weight or `-`. No memory is taken.
 ///

@@ -1,7 +1,7 @@
 //! A matrix as text.
 ghost use Rattle.std.specs.Prelude.{◌≡◌, ◌≤◌, ◌<◌, Ok, length};
 ghost use Rattle.std.specs.List.{flat_map};
-ghost use Rattle.bale_types.specs.Out.{Writes};
+ghost use Rattle.bale_streams.specs.Out.{Writes};
 ghost use Rattle.bale_types.specs.declared.triple.Triple.{Triple};
 ghost use Rattle.mtx_text.specs.Grammar.{matrix_of};
 ghost use Rattle.mtx_text.specs.Written.{banner_text, size_text, entry_text, text_of};
@@ -9,7 +9,8 @@ ghost use Rattle.mtx_text.specs.Written.{banner_text, size_text, entry_text, tex
 use crate::entry_line::EntryLine;
 use crate::kind::Kind;
 use crate::matrix::Matrix;
-use bale_types::{Failed, Line, Out, Sink, Triple};
+use bale_streams::{Failed, Line, Out, Sink};
+use bale_types::Triple;
 
 /// Appends the text of a matrix: banner, sizes, and a line for each entry in the order of its list. Takes no
 /// memory. What was written is read as the same matrix, where it has no more entries than a text may have.

@@ -1,6 +1,6 @@
 //! The plain bank: the links of all ranks on one thread.
 ghost use Rattle.std.specs.Prelude.{◌≡◌, ◌≢◌, ◌+◌, ◌<◌, ◌≤◌, length, IfOk, Ok};
-ghost use Rattle.bale_types.specs.Stream.{RoseOrFull};
+ghost use Rattle.bale_types.specs.Counters.{RoseOrFull};
 ghost use Rattle.item_buffer.specs.Capacity.{IsCap};
 ghost use Rattle.item_buffer.specs.Contents.{shipped, arrived, blank};
 ghost use Rattle.route_tensor.specs.Grid.{ranks};

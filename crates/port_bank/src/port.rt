@@ -1,7 +1,7 @@
 //! What a rank can do on its own links, whatever carries the parcels.
 ghost use Rattle.std.specs.Prelude.{◌≡◌, ◌≢◌, ℕ, suc, ◌+◌, ◌<◌, ◌≤◌, ◌==◌, Bool, true, false, List, length, IsOk, IsErr, Ok};
 ghost use Rattle.std.specs.List.{All};
-ghost use Rattle.bale_types.specs.Stream.{RoseOrFull};
+ghost use Rattle.bale_types.specs.Counters.{RoseOrFull};
 ghost use Rattle.item_buffer.specs.Contents.{shipped, arrived, blank};
 ghost use Rattle.route_tensor.specs.Link.{links};
 ghost use Rattle.route_tensor.specs.Tag.{IsFair};

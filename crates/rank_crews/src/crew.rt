@@ -5,8 +5,7 @@ ghost use Rattle.rank_crews.specs.Runs.{AllRan};
 
 use crate::gate::Gate;
 use crate::seated::Seated;
-use bale_types::NoMemory;
-use rank_node::Steps;
+use bale_types::{NoMemory, Steps};
 use std::alloc::Global;
 use std::marker::Model;
 use std::sync::Wait;

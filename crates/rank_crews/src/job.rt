@@ -1,8 +1,8 @@
 //! Turns that are made to their end by a count of their own.
 ghost use Rattle.std.specs.Prelude.{◌<◌};
-ghost use Rattle.rank_node.specs.Ledgers.{IsBlankOf};
+ghost use Rattle.bale_types.specs.Ledgers.{IsBlankOf};
 
-use rank_node::Steps;
+use bale_types::Steps;
 use std::marker::Brand;
 use std::sync::ledger::{Blank, Ledger};
 

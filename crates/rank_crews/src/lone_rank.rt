@@ -6,7 +6,7 @@ use crate::job::{Job, do_job};
 use crate::seated::Seated;
 use crate::shared::{Shared, Telling};
 use crate::waiting::Patience;
-use rank_node::Steps;
+use bale_types::Steps;
 use std::sync::Wait;
 use std::sync::ledger::Ledger;
 use std::time::Clock;

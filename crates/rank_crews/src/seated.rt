@@ -3,7 +3,7 @@ ghost use Rattle.std.specs.Prelude.{◌≡◌, ℕ, ◌+◌, Bool, false};
 ghost use Rattle.rank_crews.specs.Runs.{RanLaws};
 
 use crate::gate::Gate;
-use rank_node::Steps;
+use bale_types::Steps;
 use std::sync::Wait;
 use std::sync::ledger::Ledger;
 

@@ -3,7 +3,7 @@ ghost use Rattle.std.specs.Prelude.{◌≡◌, ℕ, Bool, false};
 
 use crate::gate::Gate;
 use crate::seated::Seated;
-use rank_node::Steps;
+use bale_types::Steps;
 use std::marker::{Brand, PhantomData};
 use std::sync::Wait;
 use std::sync::atomic::{AtomicBool, Ordering};

@@ -4,7 +4,7 @@ ghost use Rattle.std.specs.Prelude.{◌≡◌, false};
 use crate::gate::Gate;
 use crate::seated::Seated;
 use crate::shared::{Shared, Telling};
-use rank_node::Steps;
+use bale_types::Steps;
 use std::marker::{Model, PhantomData};
 use std::snapshot::Snapshot;
 use std::sync::Wait;

@@ -6,14 +6,14 @@ ghost use Rattle.rank_node.specs.Movers.{manner_of};
 ghost use Rattle.rank_group.specs.Ranks.{IsOrder};
 ghost use Rattle.rank_group.specs.Driven.{MayRun, HasFinished};
 ghost use Rattle.rank_group.specs.Defaults.{count_of, usual, HasDriven};
-ghost use Rattle.rank_node.specs.Ledgers.{IsBlankOf};
+ghost use Rattle.bale_types.specs.Ledgers.{IsBlankOf};
 ghost use Rattle.rank_node.specs.Fits.{FitsGrid};
 
 use crate::drive::{Finished, drive_serial};
 use crate::threads::drive_threads;
-use bale_types::NoMemory;
+use bale_types::{NoMemory, Steps};
 use rank_crews::OpenGate;
-use rank_node::{Steps, Via};
+use rank_node::Via;
 use round_program::{Program, Progs};
 use route_tensor::Grid;
 use std::alloc::Global;

@@ -36,12 +36,13 @@ mod threads;
 mod turning;
 
 pub use at_port::await_turn;
+pub use bale_types::Steps;
 pub use closed_round::{ClosedRound, Rounds};
 pub use defaults::{Settings, Slots, drive_in_turn, drive_on_threads, in_order};
 pub use drive::{Finished, drive_serial};
 pub use list_parts::{OneByOne, one_by_one};
 pub use noting::NotingPort;
 pub use rank_crews::{Gate, OpenGate, Seated, run_together};
-pub use rank_node::{Node, Steps, Turn, Via};
+pub use rank_node::{Node, Turn, Via};
 pub use thread_count::threads_for;
 pub use threads::{drive_threads, drive_with};

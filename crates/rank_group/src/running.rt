@@ -13,10 +13,9 @@ ghost use Rattle.rank_group.specs.Turns.{SweepsOf};
 
 use crate::closes::closes_laws;
 use crate::sweeping::{Rank, sweep};
-use bale_types::NoMemory;
+use bale_types::{NoMemory, Steps};
 use convey::rest_law;
 use port_bank::PlainBank;
-use rank_node::Steps;
 use round_program::Program;
 use std::sync::ledger::Ledger;
 

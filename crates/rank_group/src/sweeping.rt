@@ -18,9 +18,9 @@ ghost use Rattle.rank_group.specs.Worlds.{Plan, World, SweptTo, KeepsBank, all_p
 ghost use Rattle.rank_group.specs.Ranks.{RankState, HasRank, AfterTurn, AfterRank, IsOrder};
 ghost use Rattle.rank_group.specs.Turns.{TurnsOf};
 
-use bale_types::NoMemory;
+use bale_types::{NoMemory, Steps};
 use port_bank::PlainBank;
-use rank_node::{Node, Steps, Turn};
+use rank_node::{Node, Turn};
 use round_program::Program;
 use std::marker::Model;
 use std::sync::ledger::Ledger;

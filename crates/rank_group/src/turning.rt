@@ -5,9 +5,9 @@ ghost use Rattle.rank_node.specs.Movers.{Manner, epoch_in};
 ghost use Rattle.rank_group.specs.Ranks.{IsRank, progress};
 
 use crate::sweeping::Rank;
-use bale_types::NoMemory;
+use bale_types::{NoMemory, Steps};
 use port_bank::Port;
-use rank_node::{Steps, Turn};
+use rank_node::Turn;
 use round_program::Program;
 use std::sync::ledger::Ledger;
 

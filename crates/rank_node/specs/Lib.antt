@@ -10,6 +10,5 @@ pub mod Moves
 pub mod Cycles
 pub mod Turns
 pub mod Batches
-pub mod Ledgers
 pub mod Pushes
 pub mod laws

@@ -30,13 +30,11 @@ mod run;
 mod sending;
 mod sends;
 mod stacking;
-mod steps;
 mod taking;
 mod turn;
 mod via;
 
 pub use node::Node;
 pub use sends::Sends;
-pub use steps::Steps;
 pub use turn::Turn;
 pub use via::Via;

@@ -2,7 +2,8 @@
 ghost use Rattle.std.specs.Prelude.{None};
 
 use crate::cell_tests::written;
-use bale_types::{Failed, MemSink, Out, Source, Triple};
+use bale_streams::{Failed, MemSink, Out, Source};
+use bale_types::Triple;
 use mtx_text::{EntryLine, Kind, ParseFault, Reason, parse_matrix, read_matrix};
 use std::alloc::{AllocError, Global};
 use std::test::Fail;

@@ -1,6 +1,7 @@
 //! Sources and sinks: what they give, take and refuse, and how a text comes to a sink through a buffer.
 
-use bale_types::{Failed, MemSink, MemSource, Out, Sink, Source, bits_of, value_of};
+use bale_streams::{Failed, MemSink, MemSource, Out, Sink, Source};
+use bale_types::{bits_of, value_of};
 use std::test::Fail;
 
 #[test]

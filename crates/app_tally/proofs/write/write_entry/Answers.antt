@@ -1,8 +1,8 @@
 use Rattle.std.proofs.Common.{◌≡◌, [], ◌∷◌, ◌++◌, ap, subst, ◌∙◌, rules}
 use Rattle.std.specs.Prelude.{decimal}
-use Rattle.bale_types.specs.Stream.{after, IsFront}
-use Rattle.bale_types.specs.Out.{appended}
-use Rattle.bale_types.proofs.Moves.{front_of_front, on_err_any}
+use Rattle.bale_streams.specs.Stream.{after, IsFront}
+use Rattle.bale_streams.specs.Out.{appended}
+use Rattle.bale_streams.proofs.Moves.{front_of_front, on_err_any}
 use Rattle.list_laws.proofs.Results.{on_ok_map}
 use Rattle.mtx_text.proofs.WrittenPieces.{front_first, front_second, front_third, all_three}
 use Rattle.app_tally.proofs.Written.{on_err_map}

@@ -7,7 +7,7 @@ use Rattle.std.proofs.lemmas.List.{append-nil}
 use Rattle.item_buffer.specs.Contents.{shipped}
 use Rattle.port_bank.specs.Logs.{Logs}
 use Rattle.port_bank.proofs.Kept.{added-here}
-use Rattle.bale_types.specs.Stream.{RoseOrFull}
+use Rattle.bale_types.specs.Counters.{RoseOrFull}
 use Rattle.port_bank.proofs.Channels.{changed-here, changed-other}
 use Rattle.hop_core.specs.Link.{is_wanted}
 use Rattle.hop_core.specs.State.{in_at}

@@ -1,0 +1,4 @@
+pub mod Digits
+pub mod Memory
+pub mod Out
+pub mod Stream

@@ -19,11 +19,11 @@ const Y: Item = Item { a: 2, b: 0, c: 0 };
 
 const Z: Item = Item { a: 3, b: 0, c: 0 };
 
-/// Makes the calls of ranks on the exstacks of grid 2 and capacity 2, over a plain bank with 2 slots per link, and
-/// tells how many came before the first that answered otherwise.
+/// Makes the calls of so many ranks on their exstacks of capacity 2, over a plain bank with 2 slots per link, and tells how many came
+/// before the first that answered otherwise.
 #[tactic(auto, unfolding(port_bank::specs::Port::IsSlots))]
-fn answered(alloc: Global, calls: &[(u32, Call, Answer)]) -> Result<usize, NoMemory> {
-    let Ok(grid) = Grid::new(&[2]) else {
+fn answered(alloc: Global, ranks: u32, calls: &[(u32, Call, Answer)]) -> Result<usize, NoMemory> {
+    let Ok(grid) = Grid::new(&[ranks]) else {
         return Ok(0);
     };
     Exstacks::<2>::new(alloc, &grid, 2)?.make_calls(calls)
@@ -56,9 +56,28 @@ const WORKED: [(u32, Call, Answer); 23] = [
     (1, Call::Reset, Answer::Reset),
 ];
 
+/// Rank 0 waits for the parcel of rank 2, while rank 1 has the one of the next cycle posted: that stays where it is.
+const AHEAD: [(u32, Call, Answer); 13] = [
+    (0, Call::Proceed(false), Proceeded(Proceed::NotYet(3))),
+    (1, Call::Proceed(false), Proceeded(Proceed::NotYet(7))),
+    (2, Call::Proceed(false), Proceeded(GoOn)),
+    (0, Call::Proceed(false), Proceeded(GoOn)),
+    (1, Call::Proceed(false), Proceeded(GoOn)),
+    (1, Exchange, Exchanged(Poll::NotYet(1))),
+    (0, Exchange, Exchanged(Poll::NotYet(6))),
+    (2, Exchange, Exchanged(Ready)),
+    (1, Exchange, Exchanged(Ready)),
+    (1, Call::Proceed(false), Proceeded(Proceed::NotYet(1))),
+    (0, Exchange, Exchanged(Ready)),
+    // Not for link 3, whose parcel of this cycle is there.
+    (0, Call::Proceed(false), Proceeded(Proceed::NotYet(6))),
+    (2, Call::Proceed(false), Proceeded(GoOn)),
+];
+
 #[test]
 fn exstack_calls(rt: HostRuntime) -> Result<(), Fail> {
-    assert_eq!(rt; answered(rt.alloc(), &WORKED)?, WORKED.len());
+    assert_eq!(rt; answered(rt.alloc(), 2, &WORKED)?, WORKED.len());
+    assert_eq!(rt; answered(rt.alloc(), 3, &AHEAD)?, AHEAD.len());
     Ok(())
 }
 
@@ -89,6 +108,6 @@ const BY_SENDER: [(u32, Call, Answer); 20] = [
 /// Items of two senders, popped by sender, with what is unread and how much room there is.
 #[test]
 fn pops_by_sender(rt: HostRuntime) -> Result<(), Fail> {
-    assert_eq!(rt; answered(rt.alloc(), &BY_SENDER)?, BY_SENDER.len());
+    assert_eq!(rt; answered(rt.alloc(), 2, &BY_SENDER)?, BY_SENDER.len());
     Ok(())
 }

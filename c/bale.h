@@ -234,6 +234,9 @@ int32_t bale_phase(bale_rank *rank);
 int32_t bale_rank_free(bale_rank *rank);
 int32_t bale_group_free(bale_group *group);
 
+/* The version, "1"; "1 (unproved)" of a library that c/build --unproved made. heap.c defines it. */
+const char *bale_version(void);
+
 /* An answer's name. */
 static inline const char *bale_text(int32_t answer) {
     switch (answer) {

@@ -1,6 +1,6 @@
 /* The allocator of the archive: three calls over malloc, realloc and free. A size of 0 takes a
    block of the alignment's size, and a failed call answers a pointer that is not null, which
-   nothing reads. */
+   nothing reads. And what the archive is: one that c/build --unproved made has a mark. */
 #include <stdbool.h>
 #include <stddef.h>
 #include <stdlib.h>
@@ -25,3 +25,7 @@ tried rattle_realloc(void *p, size_t kept, size_t size, size_t align) {
 }
 
 void rattle_dealloc(void *p) { free(p); }
+
+extern const char bale_is_unproved __attribute__((weak));
+
+const char *bale_version(void) { return &bale_is_unproved != NULL ? "1 (unproved)" : "1"; }

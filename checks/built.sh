@@ -53,19 +53,80 @@ is_current() {
     [ -z "$by" ] || [ "$was_made_by" = "$by" ]
 }
 
-# Starts a command on this script's standard input, open or closed, as a process group that ends
-# where this script is told to.
-start() { # command..
-    trap 'end_child; exit 129' HUP
-    trap 'end_child; exit 130' INT
-    trap 'end_child; exit 143' TERM
-    setsid "$@" <&0 &
-    child=$!
+# A child of this script runs in a process group of its own, which ends with this script, also
+# where that is killed: `watcher` reads the groups' numbers from a pipe, and the pipe's end with no
+# number 0 as its last line is the end of this script.
+child=
+watcher=
+
+watch() {
+    [ -z "$watcher" ] || return 0
+    exec {watcher}> >(
+        exec >/dev/null 2>&1
+        trap '' HUP INT QUIT TERM TSTP
+        group=0
+        while read -r line; do group=$line; done
+        [ "$group" != 0 ] || exit
+        kill -TERM -- "-$group" && sleep 2 && kill -KILL -- "-$group"
+    )
 }
 
-child=
+# Starts a command as `child`.
+start() { # command..
+    watch
+    trap 'end_child; exit 129' HUP
+    trap 'end_child; exit 130' INT
+    trap 'end_child; exit 131' QUIT
+    trap 'end_child; exit 143' TERM
+    trap 'pause' TSTP
+    set -m
+    "$@" <&0 {watcher}>&- &
+    child=$!
+    set +m
+    echo "$child" >&"$watcher"
+}
+
+# Ctrl-Z stops the child too, until this script goes on.
+pause() {
+    [ -z "$child" ] || kill -STOP -- "-$child" 2>/dev/null
+    kill -STOP $$
+    [ -z "$child" ] || kill -CONT -- "-$child" 2>/dev/null
+}
+
 end_child() {
     [ -n "$child" ] || return
-    kill -TERM -- "-$child" 2>/dev/null || kill -TERM "$child" 2>/dev/null
+    kill -CONT -- "-$child" 2>/dev/null
+    kill -TERM -- "-$child" 2>/dev/null
     wait "$child"
+    over
+}
+
+over() {
+    child=
+    echo 0 >&"$watcher"
+}
+
+# Waits for the child, and says each second on a terminal, else every ten, what the command put into
+# `doing`. Returns the child's status.
+await() { # command, which is called with the seconds as its last word
+    local began=$SECONDS last=$SECONDS status never doing="" shown=""
+    exec {never}<> <(:)
+    while kill -0 "$child" 2>/dev/null; do
+        read -rt 0.2 -u "$never"
+        "$@" $((SECONDS - began))
+        [ -n "$doing" ] || continue
+        if [ -t 2 ]; then
+            [ "$SECONDS" = "$last" ] || printf '\r\033[K%s' "$doing" >&2
+            last=$SECONDS shown=1
+        elif [ $((SECONDS - last)) -ge 10 ]; then
+            echo "$doing" >&2
+            last=$SECONDS
+        fi
+    done
+    exec {never}<&-
+    [ -z "$shown" ] || printf '\r\033[K' >&2
+    wait "$child"
+    status=$?
+    over
+    return "$status"
 }

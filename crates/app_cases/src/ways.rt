@@ -5,7 +5,7 @@ ghost use Rattle.round_program.specs.Canonical.{InRound, EndsWithin, HaveEnded};
 ghost use Rattle.app_cases.specs.Any.{any_rules};
 
 use crate::case::{AnyProgram, Case};
-use bale_types::NoMemory;
+use bale_items::NoMemory;
 use round_program::Progs;
 use std::alloc::Global;
 

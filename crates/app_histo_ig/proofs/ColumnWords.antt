@@ -6,8 +6,8 @@ use Rattle.std.proofs.lemmas.Int.{ints}
 use Rattle.std.proofs.lemmas.Bool.{cases_Bool}
 use Rattle.std.proofs.lemmas.Bool.Decides.{nat_tests}
 use Rattle.std.proofs.lemmas.List.Sums.{sum_by-cons}
-use Rattle.bale_types.specs.declared.triple.Triple.{Triple}
-use Rattle.bale_types.specs.Bits.{twos_complement, from_twos_complement}
+use Rattle.bale_items.specs.declared.triple.Triple.{Triple}
+use Rattle.bale_items.specs.Bits.{twos_complement, from_twos_complement}
 use Rattle.list_laws.proofs.Lists.{all_head, all_tail}
 use Rattle.mtx_text.specs.Sparse.{Sparse, IsSparse}
 use Rattle.app_histo_ig.specs.IgLines.{column_sum}
@@ -80,9 +80,10 @@ sum_words j (t ∷ ts) a h low =
           }
     ]
 
--- the word of a column stands for the column's sum
+-- the word of a column is that of the column's sum, and gives it back
 pub record IsColumnSum (m : Sparse) (j : ℕ) : Type 0 where
-  pub number : from_twos_complement (column_bits m.entries j) ≡ column_sum j m.entries
+  pub word : column_bits m.entries j ≡ twos_complement (column_sum j m.entries)
+  pub back : from_twos_complement (twos_complement (column_sum j m.entries)) ≡ column_sum j m.entries
   pub small : nat_abs (column_sum j m.entries) < 2 ^ 62
 
 pub column_word : (m : Sparse) (j : ℕ) → IsSparse m → IsColumnSum m j
@@ -92,8 +93,8 @@ column_word m j is =
     let all : IsWordSum (column_sum j m.entries) (pos 0) (sum_by (λ (t : Triple). cond (t.j == j) (twos_complement t.v) 0) m.entries) (length m.entries) =
     sum_words j m.entries (pos 0) (λ k d l. (is.inside k d l).limit) (omega arith) in
     let small : nat_abs (column_sum j m.entries) < 2 ^ 62 = omega (arith, all.small, few) in
-    let word : column_bits m.entries j ≡ twos_complement (column_sum j m.entries) = sym (all.word ∙ omega arith) in
     record {
-      number = ap from_twos_complement word ∙ word_back (column_sum j m.entries) (omega arith);
+      word = sym (all.word ∙ omega arith);
+      back = word_back (column_sum j m.entries) (omega arith);
       small = small;
     }

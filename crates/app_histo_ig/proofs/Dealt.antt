@@ -1,7 +1,7 @@
 -- Entries dealt out in turn: entry number turn * n + rank is a rank's one of that turn.
 use Rattle.std.proofs.Common.{◌≡◌, ℕ, ◌+◌, ◌*◌, ◌<◌, ◌≤◌, ◌/◌, ◌%◌, List, [], length, get_or, ap, sym, subst, ◌∙◌, arith}
 use Rattle.std.proofs.lemmas.Nat.{div-mul-add, mod-mul-add, mul-le}
-use Rattle.bale_types.specs.declared.triple.Triple.{Triple}
+use Rattle.bale_items.specs.declared.triple.Triple.{Triple}
 use Rattle.app_histo_ig.specs.ColumnAnswers.{HaveSums, word_for}
 
 pub turn_is : (n turn rank : ℕ) → rank < n → (turn * n + rank) / n ≡ turn

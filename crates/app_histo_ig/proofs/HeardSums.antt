@@ -4,8 +4,8 @@ use Rattle.std.proofs.Math.Nat.{mod-lt}
 use Rattle.std.proofs.lemmas.Nat.{div-add-mod'}
 use Rattle.std.proofs.lemmas.Option.{get_or_from_slice_get}
 use Rattle.std.proofs.lemmas.List.{length-map, length-set, get_or-set_same, get_or-set_other}
-use Rattle.bale_types.specs.declared.triple.Triple.{Triple}
-use Rattle.bale_types.specs.Bits.{from_twos_complement}
+use Rattle.bale_items.specs.declared.triple.Triple.{Triple}
+use Rattle.bale_items.specs.Bits.{twos_complement}
 use Rattle.list_laws.proofs.Lists.{find, within, get_once, get_map}
 use Rattle.mtx_text.specs.Sparse.{Sparse}
 use Rattle.round_program.specs.Replies.{answered, answered_from}
@@ -24,7 +24,7 @@ use Rattle.app_histo_ig.proofs.IgAnswers.{entry_answered}
 -- what one rank has for an entry of the matrix
 record HasSumFor (entries : List Triple) (ranks e : ℕ) (t : Triple) (answers : List ℕ) : Type 0 where
   place : e / ranks < length answers
-  word : from_twos_complement (get_or answers (e / ranks) 0) ≡ column_sum t.j entries
+  word : get_or answers (e / ranks) 0 ≡ twos_complement (column_sum t.j entries)
 
 -- all ranks, where each has the sums of its own entries' columns
 sums_of_all : {S : Type 0} (f : S → List ℕ) (entries : List Triple) (ranks : ℕ) (ps : List S) → 0 < ranks → length ps ≡ ranks
@@ -37,7 +37,7 @@ sums_of_all {S} f entries ranks ps some all each =
     record {
       some = subst (λ n. 0 < n) (sym size) some;
       place = λ e low. (let t = find entries e low in subst (λ n. e / n < length (get_or (map f ps) (e % n) [])) (sym size) (own e t.0 t.1).place);
-      word = λ e t at. subst (λ n. from_twos_complement (get_or (get_or (map f ps) (e % n) []) (e / n) 0) ≡ column_sum t.j entries) (sym size) (own e t at).word;
+      word = λ e t at. subst (λ n. get_or (get_or (map f ps) (e % n) []) (e / n) 0 ≡ twos_complement (column_sum t.j entries)) (sym size) (own e t at).word;
     }
 
 -- by three rounds
@@ -47,7 +47,7 @@ ended_sums m ps h =
     (λ e t at.
     let here = ended_at m ps h (e % h.ranks) (mod-lt e h.some) in
     let is = entry_answered m ps h e t _ (within m.entries e t at) at here in
-    (_, here, record { place = is.place; word = ap from_twos_complement is.word ∙ (column_word m t.j h.matrix).number }))
+    (_, here, record { place = is.place; word = is.word ∙ (column_word m t.j h.matrix).word }))
 
 -- ---- By asking
 
@@ -124,7 +124,7 @@ entry_heard m qs h e t at =
       h.heard.each r s.0 s.1 ∙ ap (λ u. Some u) same,
       record {
         place = subst (λ n. e / h.ranks < n) (sym size) place;
-        word = ap from_twos_complement (word ∙ sum) ∙ knows.knows t.j inside refl;
+        word = word ∙ sum ∙ knows.knows t.j inside refl;
       },
     )
 

@@ -1,8 +1,8 @@
 -- The lines of more columns go on from those of fewer.
 use Rattle.std.proofs.Common.{◌≡◌, ℕ, zero, suc, ◌+◌, ◌<◌, ◌≤◌, ◌-◌, ◌∙◌, ◌++◌, List, [], sym, ap, subst, arith, append_assoc, append-nil, add-one, Option}
-use Rattle.bale_streams.specs.Stream.{after, IsFront}
-use Rattle.bale_streams.proofs.Moves.{after-after}
-use Rattle.bale_types.specs.declared.triple.Triple.{Triple}
+use Rattle.bale_types.specs.Stream.{after, IsFront}
+use Rattle.bale_types.proofs.Moves.{after-after}
+use Rattle.bale_items.specs.declared.triple.Triple.{Triple}
 use Rattle.app_histo_ig.specs.HistoLines.{in_column, histo_line, histo_lines}
 
 -- one line more

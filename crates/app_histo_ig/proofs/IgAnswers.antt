@@ -4,8 +4,8 @@ use Rattle.std.specs.List.{enumerate_from}
 use Rattle.std.proofs.Math.Nat.{mod-lt}
 use Rattle.std.proofs.lemmas.Bool.{cases_eq, eq-eqb, ne_eqb}
 use Rattle.std.proofs.lemmas.List.{get_or-set_same, get_or-set_other, get_or-replicate, length-replicate}
-use Rattle.bale_types.specs.declared.Item.{Item}
-use Rattle.bale_types.specs.declared.triple.Triple.{Triple}
+use Rattle.bale_items.specs.declared.Item.{Item}
+use Rattle.bale_items.specs.declared.triple.Triple.{Triple}
 use Rattle.list_laws.proofs.Lists.{get_once, all_head, all_tail, changed_len}
 use Rattle.mtx_text.specs.Sparse.{Sparse}
 use Rattle.sparse_rows.specs.Deals.{dealt}

@@ -2,7 +2,7 @@
 use Rattle.std.proofs.Common.{◌≡◌, ℕ, zero, suc, ◌+◌, ◌-◌, ◌<◌, ◌≤◌, min, max, Bool, All, inl, inr, List, [], ◌∷◌, ◌++◌, map, length, slice_get, drop, Some, sym, ap, subst, ◌∙◌, arith, add-one}
 use Rattle.std.proofs.lemmas.Bool.{cases_lt}
 use Rattle.std.proofs.lemmas.List.{length-append, length-map, length-drop, drop-drop, drop-append-le}
-use Rattle.bale_types.specs.declared.item.Item.{Item}
+use Rattle.bale_items.specs.declared.item.Item.{Item}
 use Rattle.round_program.specs.Emissions.{HandsOver}
 use Rattle.round_program.proofs.Emissions.{Reaches, reaches_more, from_place, past_end, first_left, rest_left, all_after}
 use Rattle.list_laws.proofs.Lists.{find, get_map}

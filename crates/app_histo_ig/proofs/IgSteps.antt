@@ -1,6 +1,6 @@
 -- What a step of the code leaves, where a rank is one of ig.
 use Rattle.std.proofs.Common.{ℕ, min, lit<, ◌/◌, ◌+◌, ◌-◌, ◌^◌, ◌<◌, ◌≡◌, ◌==◌, ◌++◌, ◌∷◌, [], Bool, true, false, cond, All, List, Some, map, length, get_or, slice_get, slice_set, arith, sym, ap, ◌∙◌, subst}
-use Rattle.bale_types.specs.declared.Item.{Item}
+use Rattle.bale_items.specs.declared.Item.{Item}
 use Rattle.list_laws.proofs.Lists.{map_changed, map_unchanged}
 use Rattle.round_program.specs.Laws.{Fits}
 use Rattle.app_histo_ig.specs.Owners.{risen}

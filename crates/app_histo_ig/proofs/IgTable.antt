@@ -5,9 +5,9 @@ use Rattle.std.proofs.lemmas.Bool.{eqb-true}
 use Rattle.std.proofs.lemmas.Bool.Decides.{nat_tests}
 use Rattle.std.proofs.lemmas.List.Elements.{All-filter, filter_passes}
 use Rattle.std.proofs.lemmas.Simd.{map-map}
-use Rattle.bale_types.specs.declared.Item.{Item}
-use Rattle.bale_types.specs.declared.triple.Triple.{Triple}
-use Rattle.bale_types.specs.Bits.{twos_complement, from_twos_complement}
+use Rattle.bale_items.specs.declared.Item.{Item}
+use Rattle.bale_items.specs.declared.triple.Triple.{Triple}
+use Rattle.bale_items.specs.Bits.{twos_complement}
 use Rattle.list_laws.proofs.Lists.{get_once}
 use Rattle.mtx_text.specs.Sparse.{Sparse, IsSparse}
 use Rattle.round_program.specs.Canonical.{items_of, absorbed_round, round_of, states_at, InRound}
@@ -23,7 +23,7 @@ use Rattle.app_histo_ig.specs.laws.IgLaws.{ig_laws}
 use Rattle.app_histo_ig.specs.IgRuns.{ig_begins, ig_starts}
 use Rattle.app_histo_ig.specs.Sums.{sums_rules}
 use Rattle.app_histo_ig.specs.SumsRuns.{sums_begins, sums_starts}
-use Rattle.app_histo_ig.proofs.ColumnWords.{IsColumnSum, column_word}
+use Rattle.app_histo_ig.proofs.ColumnWords.{column_word}
 use Rattle.app_histo_ig.proofs.IgOwners.{owner_sum}
 use Rattle.app_histo_ig.proofs.IgQueries.{noted_from_none}
 use Rattle.app_histo_ig.proofs.IgRounds.{column_bits, ask_item, sums_of, by_sender, asking, replying, each_risen, each_noted, starts_in_round, three_rounds}
@@ -72,15 +72,6 @@ replies_flat ranks sums q k (suc n) =
     ap (λ ys. map (reply_to ranks sums k) (q k) ++ ys)
     (ap (λ j. replies_from ranks sums j (map q (range_with_len (k + 1) n))) (sym (add-one k)) ∙ replies_flat ranks sums q (k + 1) n)
 
--- the owner of a column has the word of its sum
-word_back : (w : ℕ) → w < 2 ^ 64 → twos_complement (from_twos_complement w) ≡ w
-word_back w h = grind (arith, nat_tests)
-
-sum_word : (m : Sparse) (j : ℕ) → IsSparse m → column_bits m.entries j ≡ twos_complement (column_sum j m.entries)
-sum_word m j is =
-    let sum : IsColumnSum m j = column_word m j is in
-    sym (word_back (column_bits m.entries j) (omega arith)) ∙ ap twos_complement sum.number
-
 -- what a rank replies to another
 replied : (ranks : ℕ) (m : Sparse) (r f : ℕ) → 0 < ranks → IsSparse m
     → map (reply_to ranks (sums_of ranks m r) f) (items_of f (queries_come ranks m r))
@@ -97,7 +88,7 @@ replied ranks m r f some is =
     All-filter (λ x. eqb (column_owner ranks x) r) (λ (x : Numbered). x.1.j < m.cols) (own_entries ranks f m.entries)
     (All-filter (λ x. eqb (entry_owner ranks x) f) (λ (x : Numbered). x.1.j < m.cols) (numbered m.entries) (all_numbered (λ (t : Triple). t.j < m.cols) 0 m.entries (λ i b h. (is.inside i b h).col))) k d l in
     ap (λ w. (f, record { a = e.0; b = w; c = 0 }))
-    (ap (λ g. get_or (sums_of ranks m g) (e.1.j / ranks) 0) (sym own) ∙ owner_sum ranks m e.1.j some inside ∙ sum_word m e.1.j is))
+    (ap (λ g. get_or (sums_of ranks m g) (e.1.j / ranks) 0) (sym own) ∙ owner_sum ranks m e.1.j some inside ∙ (column_word m e.1.j is).word))
 
 pub ig : IgRounds
 ig ranks m some is =

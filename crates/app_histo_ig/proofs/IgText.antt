@@ -4,9 +4,9 @@ use Rattle.std.specs.List.{flat_map}
 use Rattle.std.proofs.lemmas.Option.{get_or_from_slice_get}
 use Rattle.std.proofs.lemmas.List.{take_more}
 use Rattle.std.proofs.lemmas.List.Concat.{flat_map-append}
-use Rattle.bale_streams.specs.Stream.{after, IsFront}
-use Rattle.bale_streams.proofs.Moves.{after-after, front_in_loop}
-use Rattle.bale_types.specs.declared.triple.Triple.{Triple}
+use Rattle.bale_types.specs.Stream.{after, IsFront}
+use Rattle.bale_types.proofs.Moves.{after-after, front_in_loop}
+use Rattle.bale_items.specs.declared.triple.Triple.{Triple}
 use Rattle.list_laws.proofs.Lists.{within}
 use Rattle.app_histo_ig.specs.IgLines.{column_sum, ig_line}
 

@@ -5,8 +5,7 @@ use Rattle.std.proofs.lemmas.List.{length-map, length-replicate, append-nil}
 use Rattle.std.proofs.lemmas.List.Elements.{All-map}
 use Rattle.std.proofs.lemmas.List.FromFn.{length-map-range_with_len}
 use Rattle.std.proofs.lemmas.Simd.{map-map}
-use Rattle.bale_types.specs.declared.Item.{Item}
-use Rattle.bale_types.specs.Bits.{from_twos_complement}
+use Rattle.bale_items.specs.declared.Item.{Item}
 use Rattle.list_laws.proofs.Lists.{got_map, get_once}
 use Rattle.mtx_text.specs.Sparse.{Sparse}
 use Rattle.sparse_rows.specs.Owners.{Numbered, column_owner, own_entries}
@@ -58,7 +57,7 @@ known m ps h r =
       places = asked_places (added h.ranks m r);
       asks = map-map (λ (e : ℕ × Item). (e.0, e.1.a)) (λ (e : Numbered). (column_owner h.ranks e, value_item e)) (own_entries h.ranks r m.entries);
       knows = λ j low own.
-          ap from_twos_complement (ap (λ n. get_or (sums_of h.ranks m n) (j / h.ranks) 0) (sym own) ∙ owner_sum h.ranks m j h.some low) ∙ (column_word m j h.matrix).number;
+          ap (λ n. get_or (sums_of h.ranks m n) (j / h.ranks) 0) (sym own) ∙ owner_sum h.ranks m j h.some low ∙ (column_word m j h.matrix).word;
     }
 
 -- there are as many as at the beginning

@@ -1,6 +1,6 @@
 -- The answer of histo: for each column, how many entries it has.
 use Rattle.std.specs.Prelude.{ℕ, zero, suc, List, [], ◌∷◌, ◌++◌, ◌+◌, ◌==◌, count_by, decimal}
-use Rattle.bale_types.specs.declared.triple.Triple.{Triple}
+use Rattle.bale_items.specs.declared.triple.Triple.{Triple}
 
 -- How many entries stand in a column.
 -- in_column j entries = the number of entries whose column is j

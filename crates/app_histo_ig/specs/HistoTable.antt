@@ -1,6 +1,6 @@
 -- The round of histo.
 use Rattle.std.specs.Prelude.{ℕ, ◌%◌, List, map}
-use Rattle.bale_types.specs.declared.Item.{Item}
+use Rattle.bale_items.specs.declared.Item.{Item}
 use Rattle.mtx_text.specs.Sparse.{Sparse}
 use Rattle.round_program.specs.Canonical.{HasRounds}
 use Rattle.sparse_rows.specs.Owners.{own_entries}

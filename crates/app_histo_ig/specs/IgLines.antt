@@ -2,7 +2,7 @@
 use Rattle.std.specs.Prelude.{ℕ, ℤ, pos, ◌+ℤ◌, List, [], ◌∷◌, ◌++◌, ◌+◌, ◌==◌, map, decimal}
 use Rattle.std.specs.List.{filter, flat_map, fold}
 use Rattle.std.specs.Fmt.{signed_decimal}
-use Rattle.bale_types.specs.declared.triple.Triple.{Triple}
+use Rattle.bale_items.specs.declared.triple.Triple.{Triple}
 
 -- The sum of the values of the entries in a column.
 -- column_sum 0 [(0,0,5), (0,2,7), (1,0,-4)] = 1

@@ -1,8 +1,8 @@
 -- The rounds of ig.
 use Rattle.std.specs.Prelude.{◌≤◌, ℕ, ◌%◌, List, map}
 use Rattle.std.specs.List.{flat_map, range_with_len}
-use Rattle.bale_types.specs.declared.Item.{Item}
-use Rattle.bale_types.specs.Bits.{twos_complement}
+use Rattle.bale_items.specs.declared.Item.{Item}
+use Rattle.bale_items.specs.Bits.{twos_complement}
 use Rattle.mtx_text.specs.Sparse.{Sparse, IsSparse}
 use Rattle.round_program.specs.Canonical.{HasRounds}
 use Rattle.sparse_rows.specs.Deals.{dealt}

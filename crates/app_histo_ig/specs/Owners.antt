@@ -1,6 +1,6 @@
 -- Numbers that owners keep of their columns.
 use Rattle.std.specs.Prelude.{ℕ, ◌+◌, ◌%◌, ◌/◌, ◌^◌, List}
-use Rattle.bale_types.specs.declared.Item.{Item}
+use Rattle.bale_items.specs.declared.Item.{Item}
 use Rattle.list_laws.specs.Lists.{changed_at}
 
 -- The number of column a rises by b, modulo 2^64, in the list of its owner.

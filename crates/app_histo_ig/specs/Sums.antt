@@ -1,7 +1,7 @@
 -- The sums of columns, as a program in one round: ig's first round alone.
 use Rattle.std.specs.Prelude.{ℕ, ◌+◌, ◌-◌, ◌^◌, ◌<◌, ◌≡◌, ◌==◌, min, true, false, List, [], ◌∷◌, length, if◌then◌else◌}
 use Rattle.std.specs.List.{All}
-use Rattle.bale_types.specs.declared.Item.{Item}
+use Rattle.bale_items.specs.declared.Item.{Item}
 use Rattle.round_program.specs.Rules.{Rules}
 use Rattle.sparse_rows.specs.Owners.{places_for}
 use Rattle.app_histo_ig.specs.Owners.{risen}

@@ -1,13 +1,13 @@
 //! ig's answer as text, from ranks that each know the sums of their entries' columns.
 
 ghost use Rattle.std.specs.Prelude.{◌≡◌, ℕ, ◌<◌, ◌+◌, ◌*◌, ◌^◌, List, map, length, slice_get, Some};
-ghost use Rattle.bale_streams.specs.Out.{Writes};
-ghost use Rattle.bale_types.specs.declared.triple.Triple.{Triple};
+ghost use Rattle.bale_types.specs.Out.{Writes};
+ghost use Rattle.bale_items.specs.declared.triple.Triple.{Triple};
 ghost use Rattle.app_histo_ig.specs.ColumnAnswers.{HaveSums};
 ghost use Rattle.app_histo_ig.specs.IgLines.{column_sum, ig_lines};
 
-use bale_streams::{Failed, Out, Sink};
-use bale_types::{Triple, value_of};
+use bale_items::{Triple, value_of};
+use bale_types::{Failed, Out, Sink};
 use mtx_text::{EntryLine, Kind, Matrix};
 use round_program::Progs;
 
@@ -76,6 +76,7 @@ fn sum_at<Q: Answered>(p: &Progs<Q>, m: &Matrix, at: Dealt) -> i64
     ensures { (t : Triple) → slice_get m.now.entries (at.turn * length p.now + at.rank) ≡ Some t
         → result ≡ column_sum t.j m.now.entries }
 {
+    m.known();
     let Some(own) = p.get(at.rank) else {
         unreachable!()
     };

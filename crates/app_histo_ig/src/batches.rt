@@ -8,7 +8,7 @@ ghost use Rattle.app_histo_ig.specs.code.Batches.{own_risen, all_risen, own_note
 
 use crate::ig_lists::{note, raise, rise};
 use crate::seat::Seat;
-use bale_types::{Item, NoMemory};
+use bale_items::{Item, NoMemory};
 use round_program::Arrivals;
 
 /// Adds the values that came to the sums of own columns.

@@ -6,7 +6,7 @@ ghost use Rattle.sparse_rows.specs.Owners.{places_for};
 
 use crate::batches::rise_each;
 use crate::seat::Seat;
-use bale_types::{Item, NoMemory};
+use bale_items::{Item, NoMemory};
 use round_program::{Arrivals, Program};
 use std::marker::Model;
 

@@ -2,7 +2,7 @@
 
 ghost use Rattle.round_program.specs.Ranks.{AreRanks};
 ghost use Rattle.std.specs.Prelude.{◌≡◌, ◌<◌, ◌≤◌, ◌+◌, ◌^◌, ◌%◌, ◌/◌, [], ◌∷◌, length, map, replicate, slice_index_or, IfOk};
-ghost use Rattle.bale_streams.specs.Out.{HandsOn, Writes};
+ghost use Rattle.bale_types.specs.Out.{HandsOn, Writes};
 ghost use Rattle.mtx_text.specs.Sparse.{Sparse};
 ghost use Rattle.sparse_rows.specs.Parts.{HasPart};
 ghost use Rattle.round_program.specs.Canonical.{InRound, EndsWithin};
@@ -11,8 +11,8 @@ ghost use Rattle.app_histo_ig.specs.HistoLines.{in_column, histo_line, histo_lin
 ghost use Rattle.app_histo_ig.specs.HistoRuns.{histo_begins, histo_starts, HistoEnded};
 
 use crate::histo::Histo;
-use bale_streams::{Failed, Line, Out, Sink};
-use bale_types::NoMemory;
+use bale_items::NoMemory;
+use bale_types::{Failed, Line, Out, Sink};
 use mtx_text::Matrix;
 use round_program::Progs;
 use sparse_rows::{Parts, split};
@@ -129,9 +129,9 @@ pub fn write_count<K: Sink>(out: &mut Out<'_, K>, j: u32, count: u64) -> Result<
     ensures { Writes K.taken K.faults (histo_line j count) out.old out.new result }
 {
     let mut line = Line::new();
-    line.natural((j + 1) as u64);
+    line.number((j + 1) as u64);
     line.byte(b' ');
-    line.natural(count);
+    line.number(count);
     line.byte(b'\n');
     out.line(&line)
 }

@@ -10,7 +10,7 @@ use crate::ig_lists::{note, raise, rise};
 use crate::ig_replies::{count_after, emit_replies, reply_at};
 use crate::ig_sent::{Own, count_of, emit_own, own_emission};
 use crate::seat::Seat;
-use bale_types::{Item, NoMemory};
+use bale_items::{Item, NoMemory};
 use round_program::{Arrivals, Departures, Program};
 use std::marker::Model;
 

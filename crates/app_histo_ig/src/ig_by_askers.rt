@@ -2,7 +2,7 @@
 
 ghost use Rattle.round_program.specs.Ranks.{AreRanks};
 ghost use Rattle.std.specs.Prelude.{◌≡◌, ◌<◌, [], ◌∷◌, length, map, IfOk};
-ghost use Rattle.bale_streams.specs.Out.{Writes};
+ghost use Rattle.bale_types.specs.Out.{Writes};
 ghost use Rattle.sparse_rows.specs.Parts.{HasPart};
 ghost use Rattle.round_program.specs.Canonical.{InRound, EndsWithin};
 ghost use Rattle.app_histo_ig.specs.Sums.{sums_rules};
@@ -15,8 +15,8 @@ use crate::answered::write_sums;
 use crate::ig_asker::IgAsker;
 use crate::ig_run::{own_of, zeros};
 use crate::ig_sums::IgSums;
-use bale_streams::{Failed, Out, Sink};
-use bale_types::NoMemory;
+use bale_items::NoMemory;
+use bale_types::{Failed, Out, Sink};
 use mtx_text::Matrix;
 use round_program::{Program, Progs};
 use sparse_rows::{Parts, split};

@@ -4,7 +4,7 @@ ghost use Rattle.std.specs.Prelude.{◌≡◌, ◌<◌, ◌^◌, ◌/◌, is_ok,
 ghost use Rattle.app_histo_ig.specs.Owners.{risen};
 ghost use Rattle.app_histo_ig.specs.Igs.{noted, answered};
 
-use bale_types::{Item, NoMemory};
+use bale_items::{Item, NoMemory};
 
 /// Adds the value `b` to the sum of column `a`, modulo 2^64.
 #[inline(always)]

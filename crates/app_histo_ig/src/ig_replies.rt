@@ -7,7 +7,7 @@ ghost use Rattle.round_program.specs.Handing.{MayHandOver, HandsUpTo};
 ghost use Rattle.app_histo_ig.specs.Igs.{reply_to, replies_from};
 ghost use Rattle.app_histo_ig.specs.code.Queries.{CanReply};
 
-use bale_types::{Item, NoMemory};
+use bale_items::{Item, NoMemory};
 use round_program::Departures;
 
 /// How many replies are sent after a round: after round 1 one to each query, and else none.

@@ -2,7 +2,7 @@
 
 ghost use Rattle.round_program.specs.Ranks.{AreRanks};
 ghost use Rattle.std.specs.Prelude.{◌≡◌, ◌<◌, [], ◌∷◌, length, map, replicate, slice_index_or, IfOk};
-ghost use Rattle.bale_streams.specs.Out.{Writes};
+ghost use Rattle.bale_types.specs.Out.{Writes};
 ghost use Rattle.sparse_rows.specs.Parts.{HasPart};
 ghost use Rattle.round_program.specs.Canonical.{InRound, EndsWithin};
 ghost use Rattle.app_histo_ig.specs.Igs.{ig_rules};
@@ -13,8 +13,8 @@ ghost use Rattle.app_histo_ig.specs.IgRuns.{ig_begins, ig_starts, IgEnded};
 use crate::answered::write_sums;
 use crate::ig::{Begins, Ig};
 use crate::ig_sent::Own;
-use bale_streams::{Failed, Out, Sink};
-use bale_types::{Item, NoMemory, Triple, bits_of};
+use bale_items::{Item, NoMemory, Triple, bits_of};
+use bale_types::{Failed, Out, Sink};
 use mtx_text::Matrix;
 use round_program::Progs;
 use sparse_rows::{Parts, split};

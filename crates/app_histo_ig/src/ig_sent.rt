@@ -5,7 +5,7 @@ ghost use Rattle.round_program.specs.Handing.{MayHandOver, HandsUpTo};
 ghost use Rattle.app_histo_ig.specs.Igs.{to_ask};
 ghost use Rattle.app_histo_ig.specs.code.IgSent.{number_and_column, question_of, to_add, sent_of, sent_of_own};
 
-use bale_types::Item;
+use bale_items::Item;
 use round_program::Departures;
 
 /// An entry of a rank: its number in the matrix, its column, and its value as `bits_of` gives it.

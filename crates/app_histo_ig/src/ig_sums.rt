@@ -8,7 +8,7 @@ use crate::batches::rise_each;
 use crate::ig_lists::rise;
 use crate::ig_sent::{Own, value_of_own};
 use crate::seat::Seat;
-use bale_types::{Item, NoMemory};
+use bale_items::{Item, NoMemory};
 use round_program::{Arrivals, Program};
 use std::marker::Model;
 

@@ -3,7 +3,7 @@
 ghost use Rattle.std.specs.Prelude.{◌≡◌, [], ◌∷◌};
 ghost use Rattle.app_histo_ig.specs.Histos.{may_count};
 
-use bale_types::Item;
+use bale_items::Item;
 
 /// A rank, as far as it says which items on columns the rank may be sent.
 #[derive(Clone, Copy)]

@@ -2,8 +2,8 @@
 use Rattle.std.proofs.Common.{◌<◌, ◌≤◌, ◌≡◌, ◌^◌, arith, refl, ℤ, pos, negsuc}
 use Rattle.std.specs.Prelude.{nat_abs}
 use Rattle.std.proofs.lemmas.Bool.Decides.{nat_tests}
-use Rattle.bale_types.specs.declared.triple.Triple.{Triple}
-use Rattle.bale_types.specs.Bits.{twos_complement, from_twos_complement}
+use Rattle.bale_items.specs.declared.triple.Triple.{Triple}
+use Rattle.bale_items.specs.Bits.{twos_complement, from_twos_complement}
 use Rattle.mtx_text.proofs.Raised.{same_triple}
 use Rattle.app_permute.specs.Carried.{cell_item, cell_of}
 

@@ -3,9 +3,9 @@ use Rattle.std.proofs.Common.{ℕ, ◌%◌, ◌^◌, ◌≡◌, ◌≢◌, ◌==
 use Rattle.std.specs.Prelude.{◌&&◌, nat_lt}
 use Rattle.std.specs.List.{All}
 use Rattle.std.proofs.lemmas.Bool.{eq-eqb, ne_eqb}
-use Rattle.bale_types.specs.declared.Item.{Item}
-use Rattle.bale_types.specs.declared.triple.Triple.{Triple}
-use Rattle.bale_types.specs.Bits.{from_twos_complement}
+use Rattle.bale_items.specs.declared.Item.{Item}
+use Rattle.bale_items.specs.declared.triple.Triple.{Triple}
+use Rattle.bale_items.specs.Bits.{from_twos_complement}
 use Rattle.mtx_text.specs.Cells.{InOrder, raised}
 use Rattle.mtx_text.proofs.Gathered.{raised_keeps}
 use Rattle.round_program.specs.Batches.{taken_in, all_taken_in}

@@ -1,7 +1,7 @@
 -- What a rank sends at its start, and in a round of permute from the cells that came in the one before.
 use Rattle.std.proofs.Common.{◌≡◌, ℕ, zero, suc, ◌+◌, ◌-◌, ◌^◌, ◌≤◌, ◌==◌, min, List, [], ◌∷◌, map, cond, refl, sym, ap, ◌∙◌, arith}
 use Rattle.std.proofs.lemmas.Bool.{ne_eqb}
-use Rattle.bale_types.specs.declared.triple.Triple.{Triple}
+use Rattle.bale_items.specs.declared.triple.Triple.{Triple}
 use Rattle.sparse_rows.specs.Owners.{Numbered, row_owner, column_owner}
 use Rattle.app_permute.specs.Carried.{cell_item}
 use Rattle.app_permute.specs.Moved.{turned}

@@ -1,7 +1,7 @@
 -- The answers: a matrix turned over its diagonal, and a matrix with its rows and columns in another order.
 use Rattle.std.specs.Prelude.{ℕ, ◌<◌, ◌≡◌, List, map, slice_index_or}
 use Rattle.std.specs.List.{All}
-use Rattle.bale_types.specs.declared.triple.Triple.{Triple}
+use Rattle.bale_items.specs.declared.triple.Triple.{Triple}
 use Rattle.mtx_text.specs.Sparse.{Sparse}
 use Rattle.mtx_text.specs.Maps.{at}
 use Rattle.mtx_text.specs.Cells.{InOrder, gathered, sparse}

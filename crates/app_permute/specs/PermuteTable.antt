@@ -1,8 +1,8 @@
 -- The rounds of permute.
 use Rattle.std.specs.Prelude.{◌≤◌, ℕ, ◌%◌, List, map}
-use Rattle.bale_types.specs.declared.Item.{Item}
-use Rattle.bale_types.specs.declared.triple.Triple.{Triple}
-use Rattle.bale_types.specs.Bits.{twos_complement}
+use Rattle.bale_items.specs.declared.Item.{Item}
+use Rattle.bale_items.specs.declared.triple.Triple.{Triple}
+use Rattle.bale_items.specs.Bits.{twos_complement}
 use Rattle.mtx_text.specs.Sparse.{Sparse, IsSparse}
 use Rattle.mtx_text.specs.Cells.{gathered}
 use Rattle.mtx_text.specs.Permutations.{Permutes}

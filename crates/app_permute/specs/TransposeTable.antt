@@ -1,7 +1,7 @@
 -- The round of transpose.
 use Rattle.std.specs.Prelude.{ℕ, ◌%◌, List, map}
-use Rattle.bale_types.specs.declared.Item.{Item}
-use Rattle.bale_types.specs.Bits.{twos_complement}
+use Rattle.bale_items.specs.declared.Item.{Item}
+use Rattle.bale_items.specs.Bits.{twos_complement}
 use Rattle.mtx_text.specs.Sparse.{Sparse}
 use Rattle.round_program.specs.Canonical.{HasRounds}
 use Rattle.sparse_rows.specs.Owners.{own_entries}

@@ -7,7 +7,7 @@ ghost use Rattle.app_permute.specs.Carried.{cell_item, cell_of, may_cell};
 ghost use Rattle.app_permute.specs.Permutes.{IsKept, kept_as};
 ghost use Rattle.app_permute.specs.code.Batches.{own_raised, all_raised};
 
-use bale_types::{Item, NoMemory, Triple, bits_of, value_of};
+use bale_items::{Item, NoMemory, Triple, bits_of, value_of};
 use mtx_text::Cells;
 use round_program::Arrivals;
 

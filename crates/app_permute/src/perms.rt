@@ -3,7 +3,7 @@ ghost use Rattle.std.specs.Prelude.{◌≡◌, ◌≤◌, IfOk};
 ghost use Rattle.mtx_text.specs.Permutations.{Permutes};
 ghost use Rattle.app_permute.specs.Perms.{perms_of};
 
-use bale_types::NoMemory;
+use bale_items::NoMemory;
 use mtx_text::Words;
 use std::alloc::Global;
 use std::marker::Model;

@@ -7,7 +7,7 @@ ghost use Rattle.app_permute.specs.code.Sent.{sent_of};
 use crate::carried::{RowOwner, Turned, raise_each, raise_kept};
 use crate::permute_lists::{renumber, take_cells};
 use crate::sending::{emission_of, emit_sent};
-use bale_types::{Item, NoMemory, Triple};
+use bale_items::{Item, NoMemory, Triple};
 use mtx_text::Cells;
 use round_program::{Arrivals, Departures, Program};
 use std::alloc::Global;

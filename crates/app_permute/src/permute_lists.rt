@@ -5,7 +5,7 @@ ghost use Rattle.std.specs.List.{All};
 ghost use Rattle.app_permute.specs.PermuteRuns.{own_numbers};
 ghost use Rattle.app_permute.specs.code.Sent.{with_new_row, with_new_column};
 
-use bale_types::{NoMemory, Triple};
+use bale_items::{NoMemory, Triple};
 use mtx_text::Cells;
 use std::alloc::Global;
 

@@ -11,7 +11,7 @@ ghost use Rattle.app_permute.specs.PermuteRuns.{permute_begins, permute_starts, 
 
 use crate::permute::{Begins, Permute};
 use crate::permute_lists::own_numbers;
-use bale_types::{NoMemory, Triple};
+use bale_items::{NoMemory, Triple};
 use mtx_text::{Cells, Matrix};
 use round_program::Progs;
 use sparse_rows::{Parts, split};

@@ -5,7 +5,7 @@ ghost use Rattle.round_program.specs.Handing.{MayHandOver, HandsUpTo};
 ghost use Rattle.app_permute.specs.code.Sent.{sent_of, to_owner};
 
 use crate::carried::cell_sent;
-use bale_types::{Item, Triple};
+use bale_items::{Item, Triple};
 use round_program::Departures;
 
 /// Hands on what is sent, from number `from` on, until one is refused or all are handed over, and says how many are by

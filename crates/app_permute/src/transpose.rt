@@ -6,7 +6,7 @@ ghost use Rattle.app_permute.specs.Transposes.{IsTransposing};
 
 use crate::carried::{RowOwner, cell_fits, raise_cell, raise_each};
 use crate::sending::{emission_of, emit_sent};
-use bale_types::{Item, NoMemory, Triple};
+use bale_items::{Item, NoMemory, Triple};
 use mtx_text::Cells;
 use round_program::{Arrivals, Departures, Program};
 use std::alloc::Global;

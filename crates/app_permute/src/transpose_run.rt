@@ -9,7 +9,7 @@ ghost use Rattle.app_permute.specs.Transposes.{transpose_rules};
 ghost use Rattle.app_permute.specs.TransposeRuns.{transpose_begins, transpose_starts, TransposeEnded};
 
 use crate::transpose::Transpose;
-use bale_types::{NoMemory, Triple};
+use bale_items::{NoMemory, Triple};
 use mtx_text::{Cells, Matrix};
 use round_program::Progs;
 use sparse_rows::{Parts, split};

@@ -5,7 +5,7 @@ use Rattle.std.proofs.lemmas.Bool.{cases_Bool, cases_lt, false≢true}
 use Rattle.std.proofs.lemmas.List.{length_push}
 use Rattle.std.proofs.lemmas.List.Elements.{All-contains}
 use Rattle.std.proofs.lemmas.Option.{same_Some}
-use Rattle.bale_types.specs.declared.triple.Triple.{Triple}
+use Rattle.bale_items.specs.declared.triple.Triple.{Triple}
 use Rattle.least_walks.specs.Walks.{IsWalk, weight_of, AtMost, IsLeast}
 use Rattle.least_walks.proofs.Settled.{cost, at_most_le, walk_push, weight_push, Walked, least_at}
 use Rattle.least_walks.proofs.Simple.{IsSimple, simple_of, simple_short}

@@ -3,8 +3,8 @@ use Rattle.std.proofs.Common.{ℕ, min, ◌/◌, ◌+◌, ◌-◌, ◌^◌, ◌<
 use Rattle.std.proofs.lemmas.Bool.Decides.{nat_tests}
 use Rattle.std.proofs.lemmas.List.{length-map}
 use Rattle.std.proofs.lemmas.List.Elements.{All-nil}
-use Rattle.bale_types.specs.declared.Item.{Item}
-use Rattle.bale_types.specs.declared.triple.Triple.{Triple}
+use Rattle.bale_items.specs.declared.Item.{Item}
+use Rattle.bale_items.specs.declared.triple.Triple.{Triple}
 use Rattle.mtx_text.specs.Cells.{InOrder, raised}
 use Rattle.mtx_text.proofs.Raised.{raised_ordered}
 use Rattle.mtx_text.proofs.Gathered.{raised_keeps}

@@ -1,8 +1,8 @@
 -- The runs of sssp: how its programs begin, and what it is to have ended.
 use Rattle.std.specs.Prelude.{ℕ, ◌<◌, ◌≤◌, ◌≡◌, true, ◌==◌, ◌%◌, ◌/◌, List, [], map, replicate, if◌then◌else◌}
 use Rattle.std.specs.List.{range_with_len}
-use Rattle.bale_types.specs.declared.Item.{Item}
-use Rattle.bale_types.specs.Bits.{twos_complement}
+use Rattle.bale_items.specs.declared.Item.{Item}
+use Rattle.bale_items.specs.Bits.{twos_complement}
 use Rattle.mtx_text.specs.Sparse.{Sparse, IsSparse}
 use Rattle.round_program.specs.Canonical.{HaveEnded}
 use Rattle.sparse_rows.specs.Owners.{Numbered, own_entries, places_for, row_owner}

@@ -3,7 +3,7 @@
 ghost use Rattle.std.specs.Prelude.{◌≡◌, ◌<◌, [], ◌∷◌};
 ghost use Rattle.app_sssp.specs.Sssps.{may_sssp};
 
-use bale_types::Item;
+use bale_items::Item;
 
 /// A rank in a round of sssp, as far as it says which items the rank may be sent.
 #[derive(Clone, Copy)]

@@ -1,7 +1,7 @@
 //! sssp: each rank has the edges of its vertices and the least weight found for each, and in each round offers weights
 //! along the edges of those that were improved.
 
-ghost use Rattle.bale_types.specs.Changes.{AllOrNothing};
+ghost use Rattle.bale_items.specs.Changes.{AllOrNothing};
 ghost use Rattle.std.specs.Prelude.{◌≡◌, ◌<◌, ◌/◌, ◌-◌, ◌^◌, ◌==◌, [], if◌then◌else◌, OnOk, OnErr, length};
 ghost use Rattle.std.specs.List.{All};
 ghost use Rattle.least_walks.specs.Tables.{table_of};
@@ -11,7 +11,7 @@ ghost use Rattle.app_sssp.specs.Sssps.{IsSssp, sssp_rules};
 ghost use Rattle.app_sssp.specs.code.SsspSeats.{IsSeat};
 
 use crate::seat::Seat;
-use bale_types::{Item, NoMemory, Triple, value_of};
+use bale_items::{Item, NoMemory, Triple, value_of};
 use least_walks::{Table, Vertices, put_offers};
 use mtx_text::Cells;
 use round_program::{Arrivals, Program};

@@ -3,8 +3,8 @@
 ghost use Rattle.round_program.specs.Ranks.{AreRanks};
 ghost use Rattle.std.specs.Prelude.{ℕ, true, ◌==◌, if◌then◌else◌, ◌≡◌, ◌<◌, ◌≤◌, ◌+◌, ◌%◌, ◌/◌, [], ◌∷◌, length, map, replicate, slice_index_or, Option, IfOk};
 ghost use Rattle.least_walks.specs.Vertices.{unreached, improved_at};
-ghost use Rattle.bale_streams.specs.Out.{HandsOn, Writes};
-ghost use Rattle.bale_types.specs.Bits.{twos_complement};
+ghost use Rattle.bale_types.specs.Out.{HandsOn, Writes};
+ghost use Rattle.bale_items.specs.Bits.{twos_complement};
 ghost use Rattle.mtx_text.specs.Sparse.{Sparse};
 ghost use Rattle.sparse_rows.specs.Parts.{HasPart};
 ghost use Rattle.sparse_rows.specs.Owners.{row_owner};
@@ -15,8 +15,8 @@ ghost use Rattle.app_sssp.specs.Sssps.{sssp_rules};
 ghost use Rattle.app_sssp.specs.SsspRuns.{edge_item, sssp_begins, sssp_starts, SsspEnded};
 
 use crate::sssp::Sssp;
-use bale_streams::{Failed, Out, Sink};
-use bale_types::{Item, NoMemory, Triple, bits_of};
+use bale_items::{Item, NoMemory, Triple, bits_of};
+use bale_types::{Failed, Out, Sink};
 use least_walks::{Vertices, write_vertex};
 use mtx_text::Matrix;
 use round_program::Progs;

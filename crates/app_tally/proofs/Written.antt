@@ -2,8 +2,8 @@
 use Rattle.std.proofs.Common.{ℕ, ◌+◌, ◌<◌, ◌≡◌, List, [], Option, Some, Result, Ok, Err, OnErr, map, get_or, take, length, slice_get, sym, ap, ◌∙◌, subst}
 use Rattle.std.specs.List.{flat_map}
 use Rattle.std.proofs.lemmas.Option.{get_or_from_slice_get}
-use Rattle.bale_streams.specs.Stream.{after, IsFront}
-use Rattle.bale_streams.proofs.Moves.{front_in_loop}
+use Rattle.bale_types.specs.Stream.{after, IsFront}
+use Rattle.bale_types.proofs.Moves.{front_in_loop}
 use Rattle.list_laws.proofs.Lists.{find, get_map, get_once}
 use Rattle.mtx_text.proofs.WrittenPieces.{pieces_more}
 use Rattle.app_tally.specs.Counts.{Entry, entry_text}

@@ -1,7 +1,7 @@
 -- The round of tally.
 use Rattle.std.specs.Prelude.{ℕ, ◌%◌, List, map}
 use Rattle.std.specs.List.{sum, flat_map}
-use Rattle.bale_types.specs.declared.Item.{Item}
+use Rattle.bale_items.specs.declared.Item.{Item}
 use Rattle.round_program.specs.Canonical.{HasRounds}
 use Rattle.elastic.specs.Spelling.{spelling}
 use Rattle.elastic.specs.Mails.{mail_rules}

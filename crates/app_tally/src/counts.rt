@@ -11,7 +11,7 @@ ghost use Rattle.app_tally.specs.Numbers.{front_number};
 
 use crate::numbered::Numbered;
 use crate::strings::Strings;
-use bale_types::NoMemory;
+use bale_items::NoMemory;
 use std::alloc::Global;
 use std::marker::Model;
 

@@ -10,7 +10,7 @@ ghost use Rattle.app_tally.specs.Cuts.{IsCut};
 ghost use Rattle.app_tally.specs.Lines.{IsLines};
 
 use crate::strings::{Span, Strings};
-use bale_types::NoMemory;
+use bale_items::NoMemory;
 use std::alloc::Global;
 use std::marker::Model;
 

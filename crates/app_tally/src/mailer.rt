@@ -3,7 +3,7 @@
 ghost use Rattle.std.specs.Prelude.{◌≡◌};
 
 use crate::tally::Tally;
-use bale_types::{Item, NoMemory};
+use bale_items::{Item, NoMemory};
 use elastic::Mailer;
 use round_program::Program;
 use std::marker::Model;

@@ -1,12 +1,12 @@
 //! The lines of the text that a source gives.
 
 ghost use Rattle.std.specs.Prelude.{◌≡◌, ℕ, List, Some, Err, drop};
-ghost use Rattle.bale_streams.specs.Stream.{Blames, TakesUpTo};
+ghost use Rattle.bale_types.specs.Stream.{Blames, TakesUpTo};
 ghost use Rattle.app_tally.specs.declared.lines.LinesFault.TheVariants as LinesFault;
 ghost use Rattle.app_tally.specs.Texts.{lines_of_text, LinesGive, OnRead};
 
 use crate::lines::{Lines, LinesFault, MOST_BYTES, lines_of};
-use bale_streams::{Source, Unread, read_text};
+use bale_types::{Source, Unread, read_text};
 use std::alloc::Global;
 
 /// The lines of the text that a source still has to give.

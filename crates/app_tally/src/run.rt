@@ -17,7 +17,7 @@ use crate::mailer::TallyMailer;
 use crate::numbered::{Numbered, numbered};
 use crate::strings::Strings;
 use crate::tally::Tally;
-use bale_types::NoMemory;
+use bale_items::NoMemory;
 use elastic::Mailer;
 use round_program::Progs;
 use std::alloc::Global;

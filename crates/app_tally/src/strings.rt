@@ -1,12 +1,12 @@
 //! Strings kept one behind the other: two allocations for all of them.
 
-ghost use Rattle.bale_types.specs.Changes.{AllOrNothing};
+ghost use Rattle.bale_items.specs.Changes.{AllOrNothing};
 ghost use Rattle.std.specs.Prelude.{◌≡◌, ◌<◌, ◌≤◌, ◌+◌, ◌++◌, ◌∷◌, [], nat_lt, Some, OnOk, OnErr, length, slice_get};
 ghost use Rattle.std.specs.List.{All};
 ghost use Rattle.elastic.specs.Spelling.{IsLetter};
 ghost use Rattle.app_tally.specs.Stores.{bytes_at, strings_at, IsStore};
 
-use bale_types::NoMemory;
+use bale_items::NoMemory;
 use std::alloc::Global;
 use std::marker::Model;
 

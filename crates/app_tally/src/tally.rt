@@ -5,7 +5,7 @@ ghost use Rattle.app_tally.specs.Counts.{tally_of};
 ghost use Rattle.app_tally.specs.Tallies.{IsTallying, counter_of};
 
 use crate::strings::Strings;
-use bale_types::NoMemory;
+use bale_items::NoMemory;
 use elastic::LetterProgram;
 use std::alloc::Global;
 use std::marker::Model;

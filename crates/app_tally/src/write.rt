@@ -1,11 +1,11 @@
 //! tally's answer as text.
 
 ghost use Rattle.std.specs.Prelude.{◌<◌};
-ghost use Rattle.bale_streams.specs.Out.{Writes};
+ghost use Rattle.bale_types.specs.Out.{Writes};
 ghost use Rattle.app_tally.specs.Counts.{entry_text, tally_text};
 
 use crate::counts::Counts;
-use bale_streams::{Failed, Line, Out, Sink};
+use bale_types::{Failed, Line, Out, Sink};
 
 /// Writes for each distinct line, in the order of bytes, how many times it was read, one space, the line and LF. No memory is
 /// taken.
@@ -26,10 +26,10 @@ pub fn tally_write<K: Sink>(c: &Counts, out: &mut Out<'_, K>) -> Result<(), Fail
 fn write_entry<K: Sink>(out: &mut Out<'_, K>, line: &[u8], times: u64) -> Result<(), Failed>
     ensures { Writes K.taken K.faults (entry_text (line.now, times)) out.old out.new result }
 {
-    let mut number = Line::new();
-    number.natural(times);
-    number.byte(b' ');
-    out.line(&number)?;
+    let mut count = Line::new();
+    count.number(times);
+    count.byte(b' ');
+    out.line(&count)?;
     out.text(line)?;
     out.byte(b'\n')
 }

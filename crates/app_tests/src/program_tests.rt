@@ -3,7 +3,7 @@
 ghost use Rattle.app_tests.specs.SmallTable.{SmallCount};
 
 use crate::rig::run;
-use bale_types::NoMemory;
+use bale_items::NoMemory;
 use round_examples::{Ask, Count, Lookup};
 use round_program::{Asker, Progs};
 use std::alloc::Global;

@@ -1,7 +1,7 @@
 //! The canonical run by hand: in each round every rank absorbs what all ranks sent it, sender by sender, and ends the round
 //! with the sum of the votes.
 
-use bale_types::{Item, NoMemory};
+use bale_items::{Item, NoMemory};
 use round_program::{Program, Progs};
 use std::alloc::Global;
 

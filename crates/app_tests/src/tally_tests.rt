@@ -2,8 +2,8 @@
 
 use crate::rig::sent;
 use app_tally::{Lines, LinesFault, read_lines, tally_start};
-use bale_streams::MemSource;
-use bale_types::{Item, NoMemory};
+use bale_items::{Item, NoMemory};
+use bale_types::MemSource;
 use round_program::Program;
 use std::alloc::Global;
 use std::test::Fail;

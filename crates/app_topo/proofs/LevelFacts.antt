@@ -8,7 +8,7 @@ use Rattle.std.proofs.Math.Seq.{take-append-add}
 use Rattle.std.proofs.lemmas.List.Elements.{All-nil, All-append, All-map, All-filter, All-contains, filter_passes, Contains-append_right}
 use Rattle.std.proofs.lemmas.List.FromFn.{length-range_with_len, get_or-range_with_len}
 use Rattle.std.proofs.lemmas.List.Sums.{count_by-le-length, length-filter}
-use Rattle.bale_types.specs.declared.triple.Triple.{Triple}
+use Rattle.bale_items.specs.declared.triple.Triple.{Triple}
 use Rattle.sparse_rows.proofs.Doubles.{one_if}
 use Rattle.app_topo.specs.Levels.{Claim, row_claims, col_claims, is_open, is_ready, open_columns, claimed_column, level, claims_after}
 use Rattle.app_topo.proofs.Counting.{count_cons, count_append, found_by, counted, only_one, sum_passing, sum_of_one}

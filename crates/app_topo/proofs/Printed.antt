@@ -5,7 +5,7 @@ use Rattle.std.proofs.lemmas.Bool.{eq-eqb, eqb-true, and_parts}
 use Rattle.std.proofs.lemmas.List.{length-reverse, get_or-reverse, get_or-take, length-take-le}
 use Rattle.std.proofs.lemmas.List.FromFn.{length-range_with_len, get_or-range_with_len}
 use Rattle.std.proofs.lemmas.List.Sorted.{IsPermutation-reverse, sum_by-IsPermutation}
-use Rattle.bale_types.specs.declared.triple.Triple.{Triple}
+use Rattle.bale_items.specs.declared.triple.Triple.{Triple}
 use Rattle.list_laws.proofs.Sums.{total_same, total_const}
 use Rattle.app_topo.specs.Triangular.{IsValid}
 use Rattle.app_topo.specs.Levels.{Claim, row_claims, col_claims, claims_after, is_complete, row_position, col_position}

@@ -7,8 +7,8 @@ use Rattle.std.proofs.Math.Seq.{take-add}
 use Rattle.std.proofs.lemmas.List.{map-append, get_or-take, get_or-drop, length-take}
 use Rattle.std.proofs.lemmas.List.Elements.{filter-append}
 use Rattle.std.proofs.lemmas.List.FromFn.{map-range_with_len_more}
-use Rattle.bale_types.specs.declared.Item.{Item}
-use Rattle.bale_types.specs.declared.triple.Triple.{Triple}
+use Rattle.bale_items.specs.declared.Item.{Item}
+use Rattle.bale_items.specs.declared.triple.Triple.{Triple}
 use Rattle.mtx_text.specs.Cells.{InOrder}
 use Rattle.mtx_text.proofs.PlaceOrder.{before_parts}
 use Rattle.app_topo.specs.Topos.{claims_of, claims_now, to_claim, number_at}

@@ -1,7 +1,7 @@
 -- The claims that the ranks have in the end, as cells by level and row.
 use Rattle.std.specs.Prelude.{ℕ}
-use Rattle.bale_types.specs.declared.triple.Triple.{Triple}
-use Rattle.bale_types.specs.Bits.{twos_complement, from_twos_complement}
+use Rattle.bale_items.specs.declared.triple.Triple.{Triple}
+use Rattle.bale_items.specs.Bits.{twos_complement, from_twos_complement}
 use Rattle.app_topo.specs.declared.placed.Placed.{Placed}
 
 -- a row that has claimed, as the cell of its level and itself, with the column as a value

@@ -1,7 +1,7 @@
 -- The runs of topo: how its programs begin, and what it is to have ended.
 use Rattle.std.specs.Prelude.{ℕ, ◌≡◌, ◌≤◌, List, [], ◌∷◌, map, replicate}
 use Rattle.std.specs.List.{range_with_len, flat_map}
-use Rattle.bale_types.specs.declared.Item.{Item}
+use Rattle.bale_items.specs.declared.Item.{Item}
 use Rattle.mtx_text.specs.Sparse.{Sparse, IsSparse}
 use Rattle.round_program.specs.Canonical.{HaveEnded}
 use Rattle.sparse_rows.specs.Owners.{Numbered, own_entries, row_owner, column_owner, places_for}

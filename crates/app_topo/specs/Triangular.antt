@@ -1,7 +1,7 @@
 -- Rows and columns in an order in which a matrix is upper triangular with a full diagonal.
 use Rattle.std.specs.Prelude.{ℕ, ◌<◌, ◌≤◌, ◌≡◌, List, Contains}
 use Rattle.std.specs.List.{All}
-use Rattle.bale_types.specs.declared.triple.Triple.{Triple}
+use Rattle.bale_items.specs.declared.triple.Triple.{Triple}
 
 -- New numbers p of the n rows and q of the n columns, under which no entry stands below the
 -- diagonal and each place of the diagonal has one.

@@ -2,7 +2,7 @@
 
 ghost use Rattle.std.specs.Prelude.{◌≡◌, ◌<◌, ◌+◌, ◌-◌, ◌/◌, ◌%◌, ◌^◌, ◌==◌, ◌++◌, ◌∷◌, ℕ, [], OnOk, if◌then◌else◌, length, map, min};
 ghost use Rattle.std.specs.List.{All, filter, flat_map};
-ghost use Rattle.bale_types.specs.declared.triple.Triple.{Triple};
+ghost use Rattle.bale_items.specs.declared.triple.Triple.{Triple};
 ghost use Rattle.mtx_text.specs.Cells.{InOrder};
 ghost use Rattle.app_topo.specs.Topos.{claims_of, sent_after, own_rows, placed_in};
 ghost use Rattle.app_topo.specs.code.TopoSent.{sent_of, to_other};
@@ -11,7 +11,7 @@ ghost use Rattle.app_topo.specs.code.TopoPlaces.{IsCounted, AreCounted};
 use crate::marks::number_at;
 use crate::placed::Placed;
 use crate::spans::{Span, entries_of_column, note_spans};
-use bale_types::{NoMemory, Triple};
+use bale_items::{NoMemory, Triple};
 use std::mem;
 
 /// Appends row `i`'s claim, where its number is 1 and its sum is a column.

@@ -5,7 +5,7 @@ ghost use Rattle.mtx_text.specs.Cells.{raised};
 ghost use Rattle.app_topo.specs.Topos.{added, number_at, spot};
 ghost use Rattle.app_topo.specs.code.TopoPlaces.{IsPlaced};
 
-use bale_types::NoMemory;
+use bale_items::NoMemory;
 use mtx_text::Cells;
 
 /// Lets the number at `x` rise by `b`, modulo 2^64.

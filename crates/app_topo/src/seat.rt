@@ -3,7 +3,7 @@
 ghost use Rattle.std.specs.Prelude.{◌≡◌, ◌<◌, ◌-◌, ◌%◌, ◌==◌, ◌&&◌, [], ◌∷◌, nat_lt, if◌then◌else◌};
 ghost use Rattle.app_topo.specs.Topos.{may_topo};
 
-use bale_types::Item;
+use bale_items::Item;
 
 /// A rank in a round of topo, as far as it says which items the rank may be sent.
 #[derive(Clone, Copy)]

@@ -5,7 +5,7 @@ ghost use Rattle.std.specs.List.{flat_map};
 ghost use Rattle.round_program.specs.Handing.{MayHandOver, HandsUpTo};
 ghost use Rattle.app_topo.specs.code.TopoSent.{for_both, sent_of, to_other};
 
-use bale_types::{Item, Triple};
+use bale_items::{Item, Triple};
 use round_program::Departures;
 
 /// How many items are sent in a round.

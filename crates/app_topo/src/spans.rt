@@ -3,11 +3,11 @@
 
 ghost use Rattle.std.specs.Prelude.{◌≡◌, ◌<◌, ◌≤◌, ◌==◌, ℕ, length, slice_index_or};
 ghost use Rattle.std.specs.List.{filter};
-ghost use Rattle.bale_types.specs.declared.triple.Triple.{Triple};
+ghost use Rattle.bale_items.specs.declared.triple.Triple.{Triple};
 ghost use Rattle.mtx_text.specs.Cells.{InOrder};
 ghost use Rattle.app_topo.specs.code.TopoPlaces.{SplitsAt};
 
-use bale_types::Triple;
+use bale_items::Triple;
 
 /// Places of entries, from the first one to behind the last one.
 #[derive(Clone, Copy)]

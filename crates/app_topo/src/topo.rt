@@ -1,6 +1,6 @@
 //! topo: rows claim columns, level by level.
 
-ghost use Rattle.bale_types.specs.Changes.{AllOrNothing};
+ghost use Rattle.bale_items.specs.Changes.{AllOrNothing};
 ghost use Rattle.std.specs.Prelude.{◌≡◌, ◌≢◌, ◌<◌, ℕ, [], OnOk, OnErr};
 ghost use Rattle.round_program.specs.Batches.{taken_in};
 ghost use Rattle.app_topo.specs.Topos.{IsTopo, topo_rules, entered, claimed_by, fallen};
@@ -14,7 +14,7 @@ use crate::placed::Placed;
 use crate::seat::Seat;
 use crate::sent::{count_of, emission_of, emit_kept};
 use crate::spans::Span;
-use bale_types::{Item, NoMemory, Triple};
+use bale_items::{Item, NoMemory, Triple};
 use mtx_text::Cells;
 use round_program::{Arrivals, Departures, Program};
 use std::alloc::Global;

@@ -2,7 +2,7 @@
 
 ghost use Rattle.std.specs.Prelude.{◌≡◌, ◌<◌, ◌^◌, ◌==◌, ◌%◌, ℕ, None, map, reverse, IfOk, IfSome, OnOk};
 ghost use Rattle.std.specs.List.{All, list_all, range_with_len};
-ghost use Rattle.bale_types.specs.Bits.{twos_complement};
+ghost use Rattle.bale_items.specs.Bits.{twos_complement};
 ghost use Rattle.mtx_text.specs.Cells.{raised_all};
 ghost use Rattle.app_topo.specs.Levels.{topo_order, claims_after, col_claims, row_position, col_position};
 ghost use Rattle.app_topo.specs.Triangular.{IsValid};
@@ -12,7 +12,7 @@ ghost use Rattle.app_topo.specs.TopoEnds.{cell_of, place_of};
 use crate::order::TopoOrder;
 use crate::placed::Placed;
 use crate::topo::Topo;
-use bale_types::{NoMemory, Triple, bits_of, value_of};
+use bale_items::{NoMemory, Triple, bits_of, value_of};
 use mtx_text::{Cells, Matrix};
 use round_program::Progs;
 use std::alloc::Global;

@@ -1,11 +1,11 @@
 //! The order as text.
 
 ghost use Rattle.std.specs.Prelude.{◌<◌, ◌+◌, ◌^◌};
-ghost use Rattle.bale_streams.specs.Out.{Writes};
+ghost use Rattle.bale_types.specs.Out.{Writes};
 ghost use Rattle.app_topo.specs.TopoLines.{topo_line, topo_lines};
 
 use crate::order::TopoOrder;
-use bale_streams::{Failed, Line, Out, Sink};
+use bale_types::{Failed, Line, Out, Sink};
 
 /// Writes a line for each position of an order: its number, its row and its column, from 1. No memory is taken.
 ///
@@ -30,11 +30,11 @@ fn write_line<K: Sink>(out: &mut Out<'_, K>, x: u64, row: u32, column: u32) -> R
     ensures { Writes K.taken K.faults (topo_line x (row, column)) out.old out.new result }
 {
     let mut line = Line::new();
-    line.natural(x + 1);
+    line.number(x + 1);
     line.byte(b' ');
-    line.natural(row as u64 + 1);
+    line.number(row as u64 + 1);
     line.byte(b' ');
-    line.natural(column as u64 + 1);
+    line.number(column as u64 + 1);
     line.byte(b'\n');
     out.line(&line)
 }

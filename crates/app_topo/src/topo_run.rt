@@ -9,7 +9,7 @@ ghost use Rattle.app_topo.specs.TopoRuns.{topo_begins, topo_starts};
 
 use crate::spans::Span;
 use crate::topo::{Begins, Topo};
-use bale_types::{NoMemory, Triple};
+use bale_items::{NoMemory, Triple};
 use mtx_text::Matrix;
 use round_program::Progs;
 use sparse_rows::{Parts, split};

@@ -2,7 +2,7 @@
 #![tactic(auto)]
 
 use bale_cli::{Refusal, report, run};
-use bale_streams::{StderrSink, StdinSource, StdoutSink};
+use bale_types::{StderrSink, StdinSource, StdoutSink};
 use rank_group::OpenGate;
 use std::env;
 use std::io::ErrorKind;

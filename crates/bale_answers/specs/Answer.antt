@@ -2,7 +2,7 @@
 use Rattle.std.specs.Prelude.{◌≡◌, ℕ, Bool, List, [], ◌==◌, ◌&&◌, Option, Some, None, is_some, Result, Ok, Err, OnOk}
 use Rattle.std.specs.Prelude.{if◌then◌else◌}
 use Rattle.std.specs.Prelude.{OnErr}
-use Rattle.bale_streams.specs.Stream.{after, IsFront, CountsFaults}
+use Rattle.bale_types.specs.Stream.{after, IsFront, CountsFaults}
 use Rattle.bale_words.specs.declared.command.Command.{Command}
 use Rattle.bale_words.specs.declared.command.Generated.{Generated}
 use Rattle.bale_words.specs.Words.{command_of}

@@ -1,6 +1,6 @@
 -- How the writing of an answer ended.
 use Rattle.std.specs.Prelude.{◌≡◌, ◌≤◌, ℕ, List, Option, OnOk}
-use Rattle.bale_streams.specs.Stream.{HasCause, IsFront}
+use Rattle.bale_types.specs.Stream.{HasCause, IsFront}
 use Rattle.bale_words.specs.declared.command.Generated.{Generated}
 use Rattle.bale_words.specs.declared.task.Task.{Task}
 use Rattle.bale_subjects.specs.declared.subject.Subject.{Subject}

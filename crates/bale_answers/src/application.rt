@@ -2,7 +2,7 @@
 
 ghost use Rattle.round_program.specs.Ranks.{AreRanks};
 ghost use Rattle.std.specs.Prelude.{◌≡◌, ◌≤◌, ℕ, List, map, IfOk};
-ghost use Rattle.bale_streams.specs.Out.{HandsOn, Writes};
+ghost use Rattle.bale_types.specs.Out.{HandsOn, Writes};
 ghost use Rattle.round_program.specs.Canonical.{InRound, EndsWithin, HaveEnded};
 ghost use Rattle.bale_words.specs.declared.task.Task.{Task};
 ghost use Rattle.bale_subjects.specs.declared.subject.Subject.{Subject};
@@ -10,8 +10,8 @@ ghost use Rattle.bale_answers.specs.Needs.{CanWrite};
 ghost use Rattle.bale_answers.specs.Tasks.{IsAnswer, starts_of, task_status};
 
 use app_cases::Case;
-use bale_streams::{Failed, Out, Sink};
-use bale_types::NoMemory;
+use bale_items::NoMemory;
+use bale_types::{Failed, Out, Sink};
 use round_program::Progs;
 use std::alloc::Global;
 

@@ -11,8 +11,8 @@ use crate::application::{Application, Written};
 use app_histo_ig::{
     Histo, Ig, IgAsker, histo_start, histo_write, ig_heard_write, ig_start, ig_write,
 };
-use bale_streams::{Failed, Out, Sink};
-use bale_types::NoMemory;
+use bale_items::NoMemory;
+use bale_types::{Failed, Out, Sink};
 use mtx_text::Matrix;
 use round_program::Progs;
 use std::alloc::Global;

@@ -6,7 +6,7 @@ ghost use Rattle.bale_answers.specs.Logs.{bytes_of};
 ghost use Rattle.list_laws.specs.Counts.{counted};
 ghost use Rattle.bale_answers.specs.Summary.{ends_line};
 
-use bale_streams::{Failed, Sink};
+use bale_types::{Failed, Sink};
 use std::marker::Model;
 use std::snapshot::Snapshot;
 

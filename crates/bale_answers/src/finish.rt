@@ -1,8 +1,8 @@
 //! The end of a run: the programs after their last round, and then the answer, written.
 
 ghost use Rattle.std.specs.Prelude.{◌≡◌, ◌≤◌, ◌<◌, ℕ, length, OnOk, OnErr, IfOk};
-ghost use Rattle.bale_streams.specs.Stream.{after, IsFront};
-ghost use Rattle.bale_streams.specs.Out.{appended, HandsOn};
+ghost use Rattle.bale_types.specs.Stream.{after, IsFront};
+ghost use Rattle.bale_types.specs.Out.{appended, HandsOn};
 ghost use Rattle.round_program.specs.Canonical.{HaveEnded};
 ghost use Rattle.app_cases.specs.Any.{any_rules};
 ghost use Rattle.app_histo_ig.specs.ColumnAnswers.{IgHeard};
@@ -18,9 +18,9 @@ use crate::column_answers::IgHeardAnswer;
 use crate::counter::Counter;
 use app_cases::{AnyProgram, take_all};
 use app_histo_ig::IgAsker;
-use bale_streams::{Failed, Line, Out, Sink};
+use bale_items::NoMemory;
 use bale_subjects::Subject;
-use bale_types::NoMemory;
+use bale_types::{Failed, Line, Out, Sink};
 use bale_words::{Generated, Task};
 use mtx_text::Matrix;
 use round_program::Progs;

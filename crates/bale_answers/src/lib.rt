@@ -3,8 +3,8 @@
 //!
 //! | Call | For |
 //! |---|---|
-//! | [`started`] | the programs of a task on its subject, in round 0 |
-//! | [`finished`] | the same programs after their last round, to the bytes of the answer or their summary |
+//! | [`start_task`] | the programs of a task on its subject, in round 0 |
+//! | [`finish_task`] | the same programs after their last round, to the bytes of the answer or their summary |
 //! | [`finish_by_asking`] | the same of ig, by the ranks that asked one another |
 //!
 //! Read `specs/Answer` first: the serial answer, about the words and the text alone. Then `specs/Tasks` (what each task runs and answers),

@@ -9,8 +9,8 @@ ghost use Rattle.app_tally.specs.TallyRuns.{tally_starts};
 
 use crate::application::{Application, Written};
 use app_tally::{Counts, Lines, TallyMailer, tally_end, tally_start, tally_write};
-use bale_streams::{Failed, Out, Sink};
-use bale_types::NoMemory;
+use bale_items::NoMemory;
+use bale_types::{Failed, Out, Sink};
 use round_program::Progs;
 use std::alloc::Global;
 

@@ -14,9 +14,9 @@ use crate::application::{Application, Written};
 use app_permute::{
     Permute, Transpose, permute_end, permute_start, seed_perms, transpose_end, transpose_start,
 };
-use bale_streams::{Failed, Out, Sink};
+use bale_items::NoMemory;
 use bale_subjects::new_numbers;
-use bale_types::NoMemory;
+use bale_types::{Failed, Out, Sink};
 use bale_words::Permutations;
 use mtx_text::{Matrix, write_matrix};
 use round_program::Progs;

@@ -1,7 +1,7 @@
 //! topo, from a matrix to its lines, or to `not triangular`.
 
 ghost use Rattle.std.specs.Prelude.{ℕ, ◌≡◌, ◌≤◌, IfOk};
-ghost use Rattle.bale_streams.specs.Out.{Writes};
+ghost use Rattle.bale_types.specs.Out.{Writes};
 ghost use Rattle.round_program.specs.Canonical.{HaveEnded};
 ghost use Rattle.app_topo.specs.Levels.{topo_order};
 ghost use Rattle.app_topo.specs.Topos.{topo_rules};
@@ -10,8 +10,8 @@ ghost use Rattle.bale_answers.specs.Orders.{order_text};
 
 use crate::application::{Application, Written};
 use app_topo::{Topo, TopoOrder, topo_end, topo_start, topo_write};
-use bale_streams::{Failed, Out, Sink};
-use bale_types::NoMemory;
+use bale_items::NoMemory;
+use bale_types::{Failed, Out, Sink};
 use mtx_text::Matrix;
 use round_program::Progs;
 use std::alloc::Global;

@@ -10,8 +10,8 @@ ghost use Rattle.bale_answers.specs.Needs.{HasWalks, HasBuckets};
 
 use crate::application::{Application, Written};
 use app_sssp::{Sssp, sssp_start, sssp_write};
-use bale_streams::{Failed, Out, Sink};
-use bale_types::NoMemory;
+use bale_items::NoMemory;
+use bale_types::{Failed, Out, Sink};
 use delta_step::{Delta, delta_start, delta_write};
 use mtx_text::Matrix;
 use round_program::Progs;

@@ -2,9 +2,9 @@
 use Rattle.std.proofs.Common.{ℕ, ◌≡◌, ◌≢◌, ◌⊎◌, Bool, true, false, not, is_some, List, Option, None, Some, Result, Ok, Err, OnOk, OnErr, IfOk, IfErr, drop, refl, sym, ap, subst, ◌∙◌, inl, inr, IsOk}
 use Rattle.std.proofs.lemmas.Bool.{false≢true}
 use Rattle.std.proofs.lemmas.Option.{none-some, same_Some}
-use Rattle.bale_streams.specs.Stream.{after, IsFront}
-use Rattle.bale_types.specs.Counters.{RoseOrFull}
-use Rattle.bale_streams.proofs.Moves.{front_same}
+use Rattle.bale_types.specs.Stream.{after, IsFront}
+use Rattle.bale_items.specs.Counters.{RoseOrFull}
+use Rattle.bale_types.proofs.Moves.{front_same}
 use Rattle.bale_words.specs.declared.command.Command.{Command}
 use Rattle.bale_words.specs.declared.command.Generated.{Generated}
 use Rattle.bale_runs.specs.declared.exchange.RunEnd.{RunEnd}

@@ -1,8 +1,8 @@
 -- The promises of the top calls, from what is known of an answer and of how it is told.
 use Rattle.std.proofs.Common.{ℕ, zero, suc, ◌≡◌, ◌≢◌, ◌≤◌, ◌⊎◌, Bool, true, false, List, [], Option, None, Some, Result, Ok, Err, OnOk, OnErr, IfOk, IfErr, ◌<◌, drop, sym, ap, subst, ◌∙◌, arith, inl, inr, refl, IsOk}
-use Rattle.bale_streams.specs.Stream.{after, IsFront}
-use Rattle.bale_types.specs.Counters.{RoseOrFull}
-use Rattle.bale_streams.proofs.Moves.{after-nil, front_same}
+use Rattle.bale_types.specs.Stream.{after, IsFront}
+use Rattle.bale_items.specs.Counters.{RoseOrFull}
+use Rattle.bale_types.proofs.Moves.{after-nil, front_same}
 use Rattle.rank_group.specs.declared.closed_round.ClosedRound.{ClosedRound}
 use Rattle.bale_words.specs.declared.command.Command.{Command}
 use Rattle.bale_runs.specs.declared.exchange.RunEnd.{RunEnd}

@@ -2,8 +2,8 @@
 use Rattle.std.specs.Prelude.{◌≡◌, ◌≢◌, ◌⊎◌, ◌≤◌, ℕ, Bool, true, false, List, [], Option, None, Some, Result, Err, drop}
 use Rattle.std.specs.Prelude.{OnOk, OnErr, IfOk, IfErr}
 use Rattle.std.specs.Result.{IsErrAnd}
-use Rattle.bale_streams.specs.Stream.{after, HasCause, IsFront}
-use Rattle.bale_types.specs.Counters.{RoseOrFull}
+use Rattle.bale_types.specs.Stream.{after, HasCause, IsFront}
+use Rattle.bale_items.specs.Counters.{RoseOrFull}
 use Rattle.rank_group.specs.declared.closed_round.ClosedRound.{ClosedRound}
 use Rattle.bale_words.specs.declared.command.Command.{Command}
 use Rattle.bale_runs.specs.declared.exchange.RunEnd.{RunEnd}

@@ -1,7 +1,7 @@
 -- What the two top calls promise alike.
 use Rattle.std.specs.Prelude.{◌≡◌, ◌≢◌, ◌⊎◌, ℕ, Bool, true, false, List, [], Option, None, Some, drop}
-use Rattle.bale_streams.specs.Stream.{after, IsFront}
-use Rattle.bale_types.specs.Counters.{RoseOrFull}
+use Rattle.bale_types.specs.Stream.{after, IsFront}
+use Rattle.bale_items.specs.Counters.{RoseOrFull}
 use Rattle.rank_group.specs.declared.closed_round.ClosedRound.{ClosedRound}
 use Rattle.bale_words.specs.declared.command.Command.{Command}
 use Rattle.bale_words.specs.Words.{command_of}

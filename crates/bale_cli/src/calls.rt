@@ -7,15 +7,14 @@ ghost use Rattle.bale_cli.specs.Outcomes.{Answered, IsOutcome};
 ghost use Rattle.bale_cli.specs.Run.{AreFewest, AreTurns, IsRun};
 
 use bale_runs::{RunEnd, drives_serially, run_command, run_serially};
-use bale_streams::{Sink, Source};
 use bale_subjects::{Refusal, Subject, read_words, report, subject_for};
+use bale_types::{Sink, Source};
 use bale_words::Command;
 use rank_group::{Gate, Rounds, Steps};
 use std::alloc::Global;
 use std::sync::Wait;
 use std::sync::ledger::Ledger;
 use std::thread::Threads;
-use std::time::Clock;
 
 /// How a run ended.
 #[derive(Drop)]
@@ -33,7 +32,7 @@ pub struct Outcome {
 /// Where the source tells its text, out and err take exactly what the serial answer says, unless a read or a
 /// write failed or an allocation was refused. It waits for its threads, and returns where they do. `IsRun` of
 /// specs/Run says it field by field.
-pub fn run<R: Threads + Wait + Clock + Sync, S: Source, K: Sink, E: Sink, G: Gate + Sync>(
+pub fn run<R: Threads + Wait + Sync, S: Source, K: Sink, E: Sink, G: Gate + Sync>(
     rt: &R,
     alloc: Global,
     words: &[String],
@@ -106,7 +105,7 @@ fn outcome_of<E: Sink>(alloc: Global, answered: Result<RunEnd, Refusal>, err: &m
 }
 
 /// The run that the words ask for, and its answer on out, or why there is none.
-fn answer<R: Threads + Wait + Clock + Sync, S: Source, K: Sink, G: Gate + Sync>(
+fn answer<R: Threads + Wait + Sync, S: Source, K: Sink, G: Gate + Sync>(
     rt: &R,
     alloc: Global,
     words: &[String],
@@ -124,7 +123,7 @@ fn answer<R: Threads + Wait + Clock + Sync, S: Source, K: Sink, G: Gate + Sync>(
 }
 
 /// The run of a command, and its answer on out, or why there is none.
-fn answer_of<R: Threads + Wait + Clock + Sync, S: Source, K: Sink, G: Gate + Sync>(
+fn answer_of<R: Threads + Wait + Sync, S: Source, K: Sink, G: Gate + Sync>(
     rt: &R,
     alloc: Global,
     command: &Command,

@@ -21,9 +21,9 @@ use crate::exchange::RunEnd;
 use app_cases::{AnyProgram, put_all, take_all};
 use app_histo_ig::{IgAsker, IgSums, ig_askers, ig_sums_start};
 use bale_answers::finish_by_asking;
-use bale_streams::Sink;
+use bale_items::NoMemory;
 use bale_subjects::{Refusal, Subject, in_order};
-use bale_types::NoMemory;
+use bale_types::Sink;
 use bale_words::{Command, Task, Travel};
 use biconvey::{bi_serial, bi_threads};
 use case_table::{case_serial, case_threads};
@@ -34,7 +34,6 @@ use std::alloc::Global;
 use std::sync::Wait;
 use std::sync::ledger::Ledger;
 use std::thread::Threads;
-use std::time::Clock;
 
 /// Runs a command that goes by asking, and writes its answer.
 pub(crate) fn ask_serially<K: Sink, L: Ledger>(
@@ -58,7 +57,7 @@ pub(crate) fn ask_serially<K: Sink, L: Ledger>(
 }
 
 /// The same on threads.
-pub(crate) fn ask_on_threads<R: Threads + Wait + Clock + Sync, K: Sink, G: Gate + Sync>(
+pub(crate) fn ask_on_threads<R: Threads + Wait + Sync, K: Sink, G: Gate + Sync>(
     rt: &R,
     alloc: Global,
     command: &Command,
@@ -103,7 +102,7 @@ fn ask_matrix_serially<K: Sink, L: Ledger>(
 }
 
 /// The same on threads.
-fn ask_matrix_on_threads<R: Threads + Wait + Clock + Sync, K: Sink, G: Gate + Sync>(
+fn ask_matrix_on_threads<R: Threads + Wait + Sync, K: Sink, G: Gate + Sync>(
     rt: &R,
     alloc: Global,
     command: &Command,
@@ -162,7 +161,7 @@ fn sum_serially<L: Ledger>(
 }
 
 /// The same on threads.
-fn sum_on_threads<R: Threads + Wait + Clock + Sync, G: Gate + Sync>(
+fn sum_on_threads<R: Threads + Wait + Sync, G: Gate + Sync>(
     rt: &R,
     alloc: Global,
     command: &Command,
@@ -221,7 +220,7 @@ fn hear_serially<L: Ledger>(
 }
 
 /// The same on threads.
-fn hear_on_threads<R: Threads + Wait + Clock + Sync, G: Gate + Sync>(
+fn hear_on_threads<R: Threads + Wait + Sync, G: Gate + Sync>(
     rt: &R,
     alloc: Global,
     command: &Command,

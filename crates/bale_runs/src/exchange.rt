@@ -4,14 +4,14 @@ ghost use Rattle.bale_runs.specs.Asking.{TellsCommand, TurnsOfCommand, FewestOfC
 ghost use Rattle.bale_runs.specs.RunEnds.{Fits, IsRunEnd};
 ghost use Rattle.bale_runs.specs.Jobs.{as_asked, by_asking, via_of, manner_for};
 ghost use Rattle.bale_runs.specs.Runs.{made_for, HaveRun, TellsTask, IsTaskRun, TurnsOfTask, FewestOfTask};
-ghost use Rattle.bale_types.specs.Ledgers.{IsBlankOf};
+ghost use Rattle.bale_items.specs.Ledgers.{IsBlankOf};
 
 use crate::asking::{ask_on_threads, ask_serially};
 use app_cases::AnyProgram;
 use bale_answers::{AnswerEnd, finish_task, start_task};
-use bale_streams::Sink;
+use bale_items::NoMemory;
 use bale_subjects::{Refusal, Subject, in_order};
-use bale_types::NoMemory;
+use bale_types::Sink;
 use bale_words::{Command, Driving, Task, Transport, Travel};
 use case_table::{case_serial, case_threads};
 use rank_group::{Finished, Gate, Rounds, Steps, Via};
@@ -20,7 +20,6 @@ use std::marker::Brand;
 use std::sync::Wait;
 use std::sync::ledger::{Blank, Ledger};
 use std::thread::Threads;
-use std::time::Clock;
 
 /// A run that came to its end: how its answer was written, and what was exchanged.
 #[derive(Drop)]
@@ -36,7 +35,7 @@ pub struct RunEnd {
 ///
 /// # Errors
 /// `NoMemory` where the programs, the drive or the answer found none: then nothing is written.
-pub fn run_command<R: Threads + Wait + Clock + Sync, K: Sink, G: Gate + Sync>(
+pub fn run_command<R: Threads + Wait + Sync, K: Sink, G: Gate + Sync>(
     rt: &R,
     alloc: Global,
     command: &Command,
@@ -105,7 +104,7 @@ pub fn run_serially<K: Sink, L: Ledger>(
 }
 
 /// The same on threads.
-fn run_on_threads<R: Threads + Wait + Clock + Sync, K: Sink, G: Gate + Sync>(
+fn run_on_threads<R: Threads + Wait + Sync, K: Sink, G: Gate + Sync>(
     rt: &R,
     alloc: Global,
     command: &Command,
@@ -152,7 +151,7 @@ fn exchange_serially<K: Sink, L: Ledger>(
 }
 
 /// The same on threads.
-fn exchange_on_threads<R: Threads + Wait + Clock + Sync, K: Sink, G: Gate + Sync>(
+fn exchange_on_threads<R: Threads + Wait + Sync, K: Sink, G: Gate + Sync>(
     rt: &R,
     alloc: Global,
     command: &Command,
@@ -207,7 +206,7 @@ fn drive_serially<L: Ledger>(
 }
 
 /// The application's programs after their last round, on threads, and that run's closed round.
-fn drive_on_threads<R: Threads + Wait + Clock + Sync, G: Gate + Sync>(
+fn drive_on_threads<R: Threads + Wait + Sync, G: Gate + Sync>(
     rt: &R,
     alloc: Global,
     command: &Command,

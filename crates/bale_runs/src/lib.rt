@@ -2,7 +2,7 @@
 //!
 //! | Call | For |
 //! |---|---|
-//! | [`ran`] | the run that the words ask for, the ranks on threads or all on one |
+//! | [`run_command`] | the run that the words ask for, the ranks on threads or all on one |
 //! | [`run_serially`] | the run on this thread, whatever the words say: its turns are bounded |
 //! | [`drives_serially`] | whether the words ask for one thread |
 //! | [`RunEnd`] | how a run ended: the answer's status, whether it was written, and what was exchanged |

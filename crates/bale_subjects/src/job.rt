@@ -1,7 +1,7 @@
 //! The command of words, and what it is asked of.
 
 ghost use Rattle.std.specs.Prelude.{◌≡◌, ◌≢◌, ◌⊎◌, ℕ, true, false, is_some, List, map, drop, string_bytes, Some, None, OnOk, IfOk, IfErr, Ok, Err};
-ghost use Rattle.bale_streams.specs.Stream.{Blames};
+ghost use Rattle.bale_types.specs.Stream.{Blames};
 ghost use Rattle.mtx_text.specs.Generated.{generated};
 ghost use Rattle.app_tally.specs.Texts.{lines_of_text};
 ghost use Rattle.bale_words.specs.Ranges.{InRanges, MayGenerate};
@@ -16,8 +16,8 @@ use crate::refusal::Refusal;
 use crate::subject::Subject;
 use crate::unfit::{Unfit, unfitness};
 use app_tally::read_lines;
-use bale_streams::Source;
-use bale_types::NoMemory;
+use bale_items::NoMemory;
+use bale_types::Source;
 use bale_words::{Command, Generated, Task, WordsFault, read_command};
 use mtx_text::{Matrix, gen_matrix, read_matrix};
 use std::alloc::Global;

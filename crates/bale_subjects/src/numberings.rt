@@ -4,7 +4,7 @@ ghost use Rattle.std.specs.Prelude.{◌≡◌, nat_lt, IfOk};
 ghost use Rattle.std.specs.List.{list_all, range_with_len};
 ghost use Rattle.bale_subjects.specs.Numberings.{from_zero, has_each, numbers_all, new_numbers};
 
-use bale_types::NoMemory;
+use bale_items::NoMemory;
 use bale_words::Numbers;
 use sparse_rows::is_permutation;
 use std::alloc::Global;

@@ -1,13 +1,13 @@
 //! Why a run ended without an answer.
 ghost use Rattle.std.specs.Prelude.{◌≡◌, ◌≤◌, ◌++◌, [], length, codes, decimal};
-ghost use Rattle.bale_streams.specs.Stream.{after, IsFront};
-ghost use Rattle.bale_types.specs.Counters.{RoseOrFull};
-ghost use Rattle.bale_streams.specs.Out.{appended};
+ghost use Rattle.bale_types.specs.Stream.{after, IsFront};
+ghost use Rattle.bale_items.specs.Counters.{RoseOrFull};
+ghost use Rattle.bale_types.specs.Out.{appended};
 ghost use Rattle.bale_subjects.specs.Refusals.{bad_line_text, bad_text, refusal_text, status_of, unfit_text};
 
 use crate::unfit::Unfit;
 use app_tally::LinesFault;
-use bale_streams::{Line, Out, Sink};
+use bale_types::{Line, Out, Sink};
 use mtx_text::BadLine;
 
 /// Why a text isn't what a command is asked of. Lines count from 1.
@@ -69,13 +69,13 @@ impl From<LinesFault> for Refusal {
     }
 }
 
-impl From<bale_types::NoMemory> for Refusal {
+impl From<bale_items::NoMemory> for Refusal {
     ghost use Rattle.std.specs.Prelude.{◌≡◌};
     ghost use Rattle.bale_subjects.specs.declared.refusal.Refusal.TheVariants.{NoMemory};
 
     ghost from_gives = { λ _ refusal. refusal ≡ NoMemory };
 
-    fn from(_: bale_types::NoMemory) -> Refusal {
+    fn from(_: bale_items::NoMemory) -> Refusal {
         Refusal::NoMemory
     }
 }

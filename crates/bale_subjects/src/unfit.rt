@@ -8,7 +8,7 @@ ghost use Rattle.bale_subjects.specs.Fitness.{task_unfitness, unfitness};
 
 use crate::numberings::numbers_all;
 use crate::subject::Subject;
-use bale_types::NoMemory;
+use bale_items::NoMemory;
 use bale_words::{Command, Numbers, Permutations, Task, Transport};
 use least_walks::no_negative;
 use mtx_text::Matrix;

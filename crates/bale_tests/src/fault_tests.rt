@@ -4,7 +4,6 @@ use std::alloc::Global;
 use std::sync::Wait;
 use std::test::Fail;
 use std::thread::Threads;
-use std::time::Clock;
 
 const READ_FAULT: &str = "3 bale: read fault\n";
 
@@ -24,7 +23,7 @@ const COLUMNS: &[u8] = b"%%MatrixMarket matrix coordinate pattern general\n1000 
 const BY_BICONVEY: &str = "ig --via biconvey --grid 2x2 --buffer 1";
 
 /// Makes a call on both drives: whether its status, out and err are these.
-fn tells<R: Threads + Wait + Clock + Sync>(
+fn tells<R: Threads + Wait + Sync>(
     rt: &R,
     alloc: Global,
     call: Call,

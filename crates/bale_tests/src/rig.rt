@@ -1,8 +1,8 @@
 //! What the tests of the top calls share: a run with its source, its sinks and its gate, and what it tells.
-ghost use Rattle.bale_types.specs.Ledgers.{IsBlankOf};
+ghost use Rattle.bale_items.specs.Ledgers.{IsBlankOf};
 
 use bale_cli::{Outcome, run, run_serial};
-use bale_streams::{MemSink, MemSource};
+use bale_types::{MemSink, MemSource};
 use rank_group::{Gate, Steps};
 use std::alloc::{AllocError, Global};
 use std::marker::Brand;
@@ -13,7 +13,6 @@ use std::sync::ledger::{Blank, Ledger};
 use std::test::Fail;
 use std::thread;
 use std::thread::Threads;
-use std::time::Clock;
 
 /// The text of most runs: one rank's worth of everything.
 pub(crate) const ONE: &[u8] =
@@ -97,10 +96,6 @@ impl Gate for Watch {
         }
         self.gave_up.store(true, Ordering::SeqCst);
     }
-
-    fn holds(&self) -> bool {
-        self.held.is_some()
-    }
 }
 
 /// A serial run whose turns nobody asks for.
@@ -153,7 +148,7 @@ fn told_of(alloc: Global, outcome: &Outcome, out: &[u8], err: &[u8]) -> Result<T
 }
 
 /// Makes a call: as its words ask for it, with this gate, or serially.
-pub(crate) fn make<R: Threads + Wait + Clock + Sync>(
+pub(crate) fn make<R: Threads + Wait + Sync>(
     rt: &R,
     alloc: Global,
     call: Call,

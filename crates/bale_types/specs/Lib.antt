@@ -1,4 +1,4 @@
-pub mod Bits
-pub mod Changes
-pub mod Counters
-pub mod Ledgers
+pub mod Digits
+pub mod Memory
+pub mod Out
+pub mod Stream

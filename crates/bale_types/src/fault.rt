@@ -1,19 +1,5 @@
-//! The fault of an allocation.
-use std::alloc::{AllocError, AllocFailed};
+//! The fault of a read or a write.
 
-/// An allocation was refused.
+/// A read or a write failed; the object's count of faults tells of it.
 #[derive(Clone, Copy, PartialEq, Eq, Debug)]
-pub struct NoMemory;
-
-impl From<AllocError> for NoMemory {
-    fn from(_refused: AllocError) -> NoMemory {
-        NoMemory
-    }
-}
-
-// So that `list.push(value)?` converts too. The value is dropped.
-impl<T: Drop> From<AllocFailed<T>> for NoMemory {
-    fn from(_refused: AllocFailed<T>) -> NoMemory {
-        NoMemory
-    }
-}
+pub struct Failed;

@@ -12,3 +12,4 @@ pub mod Ended
 pub mod OnPorts
 pub mod Placing
 pub mod Threaded
+pub mod Crosses

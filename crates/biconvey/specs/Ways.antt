@@ -2,7 +2,7 @@
 use Rattle.std.specs.Prelude.{◌≡◌, ℕ, ◌+◌, ◌-◌, ◌<◌, ◌≤◌, Bool, false, List, [], ◌++◌, length, Option, Some, None}
 use Rattle.std.specs.Prelude.{slice_get}
 use Rattle.std.specs.List.{flat_map}
-use Rattle.bale_types.specs.declared.item.Entry.{Entry}
+use Rattle.bale_items.specs.declared.item.Entry.{Entry}
 use Rattle.item_buffer.specs.Contents.{Shipped}
 use Rattle.list_laws.specs.Lists.{Begins}
 use Rattle.list_laws.specs.Sums.{total}
@@ -13,6 +13,7 @@ use Rattle.port_bank.specs.Logs.{Logs, starting_at, ending_at, starting_elsewher
 use Rattle.port_bank.specs.Link.{LinkLaw}
 use Rattle.port_bank.specs.Relay.{RelayLaw}
 use Rattle.port_bank.specs.Shapes.{IsConveyorShape}
+use Rattle.hop_core.specs.Lent.Lent.{Given}
 use Rattle.hop_core.specs.declared.phase.Phase.TheVariants.{Dormant}
 use Rattle.hop_core.specs.State.{State}
 use Rattle.convey.specs.Buffers.{in_of}
@@ -34,6 +35,7 @@ conveyor_in None =
       done = false;
       phase = Dormant;
       epoch = 0;
+      lent = Given;
       pulled = None;
     }
 conveyor_in (Some c) = c

@@ -1,9 +1,9 @@
 //! A rank of an exchange at its two ports, of two slot banks.
 
-use bale_types::Steps;
+use bale_items::Steps;
 use port_bank::Port;
 use query_node::BiNode;
-use rank_group::{Gate, NotingPort, Seated, await_turn};
+use rank_group::{GateLog, NotingPort, Seated, await_turn};
 use round_program::Asker;
 use std::marker::Model;
 use std::sync::Wait;
@@ -42,6 +42,8 @@ impl<'a, A: Asker, const CAP: usize, const HOPS: usize> Seated for AtPorts<'a, A
 
     ghost ran = { λ told x y. Ran A.talk CAP told x y };
 
+    ghost number = { λ x. x.queries.rank };
+
     ghost turns = { λ x. x.turns };
 
     ghost over = { λ x. is_over x.node };
@@ -52,18 +54,20 @@ impl<'a, A: Asker, const CAP: usize, const HOPS: usize> Seated for AtPorts<'a, A
 
     ghost still_laws = { same_laws };
 
+    fn rank(&self) -> u32 {
+        self.queries.rank()
+    }
+
+    fn turn_count(&self) -> u64 {
+        self.turns
+    }
+
     fn is_over(&self) -> bool {
         self.node.is_over()
     }
 
-    fn turn<R: Wait, G: Gate, L: Ledger>(
-        &mut self,
-        rt: &R,
-        gate: &G,
-        steps: &mut Steps<L>,
-    ) -> bool {
+    fn turn<R: Wait, J: GateLog, L: Ledger>(&mut self, rt: &R, steps: &mut Steps<L>) -> bool {
         await_turn(rt, self.turns);
-        gate.turn(self.queries.rank(), self.turns);
         self.turns += 1;
         self.queries.watch();
         self.replies.watch();

@@ -18,7 +18,7 @@ ghost use Rattle.rank_node.specs.Fits.{FitsGrid};
 use crate::nodes::{nodes_of, take_askers};
 use crate::running::run_all;
 use crate::sweeping::Banks;
-use bale_types::{NoMemory, Steps};
+use bale_items::{NoMemory, Steps};
 use convey::closes_law;
 use port_bank::PlainBank;
 use query_node::BiNode;

@@ -20,9 +20,10 @@ mod serial;
 mod sweeping;
 mod threads;
 
-pub use bale_types::Steps;
+pub use bale_items::Steps;
 pub use drive::drive_both;
 pub use on_threads::{thread_both, thread_with};
+pub use query_node::BiNode;
 pub use rank_node::Turn;
 pub use serial::bi_serial;
 pub use threads::bi_threads;

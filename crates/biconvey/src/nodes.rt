@@ -5,7 +5,7 @@ ghost use Rattle.route_tensor.specs.Grid.{ranks};
 ghost use Rattle.biconvey.specs.Drives.{AreAskers, AreFresh, askers_of};
 ghost use Rattle.rank_node.specs.Fits.{FitsGrid};
 
-use bale_types::NoMemory;
+use bale_items::NoMemory;
 use query_node::BiNode;
 use rank_group::one_by_one;
 use round_program::{Asker, Progs};

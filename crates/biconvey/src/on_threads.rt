@@ -9,20 +9,21 @@ ghost use Rattle.rank_node.specs.Fits.{FitsGrid};
 
 use crate::nodes::{nodes_of, take_askers};
 use crate::seating::{gather_all, seat_all};
-use bale_types::NoMemory;
+use bale_items::NoMemory;
 use convey::closes_law;
 use link_slots::SlotBank;
-use rank_group::{ClosedRound, Finished, Gate, Rounds, run_together, threads_for};
+use rank_group::{
+    ClosedRound, Finished, Gate, Rounds, ThreadLimit, Workers, run_together, threads_for,
+};
 use round_program::{Asker, Progs};
 use route_tensor::Grid;
 use std::alloc::Global;
 use std::sync::Wait;
 use std::thread::Threads;
-use std::time::Clock;
 
-/// Drives the askers of all ranks on threads, as many as `drive_threads` takes and in crews as there, over two slot banks, of
-/// queries and of replies, with parcels of `CAP` entries and `slots` (1, 2, 4 or 8) parcels on a link at a time. Before each turn
-/// of a rank the gate is told of it.
+/// Drives the askers of all ranks on threads, as many as `drive_threads` takes and with the ranks assigned as there, over two slot
+/// banks, of queries and of replies, with parcels of `CAP` entries and `slots` (1, 2, 4 or 8) parcels on a link at a time. The gate
+/// is notified of each turn of a rank before it is made.
 ///
 /// It waits for its threads, and returns where they do.
 ///
@@ -31,7 +32,7 @@ use std::time::Clock;
 pub fn thread_both<
     const CAP: usize,
     const HOPS: usize,
-    R: Threads + Wait + Clock + Sync,
+    R: Threads + Wait + Sync,
     A: Asker + Send,
     G: Gate + Sync,
 >(
@@ -49,23 +50,32 @@ pub fn thread_both<
     ensures exchanged { IfOk result (HasExchanged A.talk askers
         (record { dims = grid.now; cap = CAP; slots = slots; by_slots = true }) steady) }
 
-    // This gate was told of the turns of each rank, which made one at least.
+    // This gate was notified of the turns of each rank, which made one at least.
     ensures told { OnOk result ((r : ℕ) → r < ranks grid.now → G.told gate.now r 0 ≡ true) }
 {
-    let threads = threads_for(rt, grid.ranks());
+    let number = threads_for(rt, grid.ranks());
     thread_with::<CAP, HOPS, R, A, G>(
-        rt, alloc, grid, slots, steady, askers, gate, threads, threads,
+        rt,
+        alloc,
+        grid,
+        slots,
+        steady,
+        askers,
+        gate,
+        Workers { number },
+        ThreadLimit { number },
     )
 }
 
-/// The same in `crews` crews, of which the first `threads` have a thread each, and the caller turns the others.
+/// `thread_both` with so many workers, of which the first have a thread each, as many as `threads` says. The caller polls the
+/// ranks of the others.
 ///
 /// # Errors
 /// As those of `thread_both`.
 pub fn thread_with<
     const CAP: usize,
     const HOPS: usize,
-    R: Threads + Wait + Clock + Sync,
+    R: Threads + Wait + Sync,
     A: Asker + Send,
     G: Gate + Sync,
 >(
@@ -76,8 +86,8 @@ pub fn thread_with<
     steady: bool,
     askers: Progs<A>,
     gate: &G,
-    crews: usize,
-    threads: usize,
+    workers: Workers,
+    threads: ThreadLimit,
 ) -> Result<Finished<A>, NoMemory>
     requires fits { FitsGrid CAP HOPS grid.now }
     requires slots { IsSlots slots }
@@ -99,7 +109,7 @@ pub fn thread_with<
         &mut of_replies,
         all,
     )?;
-    let ended = run_together(rt, alloc, gate, crews, threads, seated)?;
+    let ended = run_together(rt, alloc, gate, workers, threads, seated)?;
     let over = gather_all(
         alloc,
         &queries,

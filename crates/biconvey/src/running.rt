@@ -8,7 +8,7 @@ ghost use Rattle.query_node.specs.States.{BiState};
 ghost use Rattle.biconvey.specs.Worlds.{AreBanks, PostedWithin, World, is_over, queries_in, sides_of, turns_of};
 
 use crate::sweeping::{Banks, sweep};
-use bale_types::{NoMemory, Steps};
+use bale_items::{NoMemory, Steps};
 use convey::{closes_law, rest_law};
 use query_node::BiNode;
 use round_program::Asker;

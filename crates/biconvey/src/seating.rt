@@ -8,7 +8,7 @@ ghost use Rattle.biconvey.specs.Drives.{AreFresh};
 ghost use Rattle.biconvey.specs.Seats.{bank_at, AreSeated};
 
 use crate::at_ports::AtPorts;
-use bale_types::NoMemory;
+use bale_items::NoMemory;
 use link_slots::{GatherSeat, SlotBank};
 use query_node::BiNode;
 use rank_group::{NotingPort, one_by_one};

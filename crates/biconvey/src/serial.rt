@@ -11,7 +11,7 @@ ghost use Rattle.biconvey.specs.Drives.{AreAskers};
 ghost use Rattle.biconvey.specs.Driven.{HasExchanged, HasSweptBoth};
 
 use crate::drive::drive_both;
-use bale_types::{NoMemory, Steps};
+use bale_items::{NoMemory, Steps};
 use item_buffer::by_capacity;
 use rank_group::Finished;
 use round_program::{Asker, Progs};
@@ -52,7 +52,7 @@ pub fn bi_serial<A: Asker, L: Ledger>(
     }
 }
 
-/// The cases of so many hops.
+/// Chooses among the eleven cases of `HOPS` hops by the capacity.
 #[tactic(auto, unfolding(item_buffer::specs::Capacity::IsCapacity))]
 fn over_hops<const HOPS: usize, A: Asker, L: Ledger>(
     alloc: Global,

@@ -10,7 +10,7 @@ ghost use Rattle.query_node.specs.States.{BiState};
 ghost use Rattle.query_node.specs.Ranks.{HasRank};
 ghost use Rattle.biconvey.specs.Worlds.{AreBanks, AfterRank, PostedWithin, World, SweptTo, sides_of};
 
-use bale_types::{NoMemory, Steps};
+use bale_items::{NoMemory, Steps};
 use port_bank::PlainBank;
 use query_node::BiNode;
 use round_program::Asker;

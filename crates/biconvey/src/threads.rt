@@ -8,7 +8,7 @@ ghost use Rattle.biconvey.specs.Drives.{AreAskers};
 ghost use Rattle.biconvey.specs.Driven.{HasExchanged};
 
 use crate::on_threads::thread_both;
-use bale_types::NoMemory;
+use bale_items::NoMemory;
 use item_buffer::by_capacity;
 use rank_group::{Finished, Gate};
 use round_program::{Asker, Progs};
@@ -16,14 +16,13 @@ use route_tensor::Grid;
 use std::alloc::Global;
 use std::sync::Wait;
 use std::thread::Threads;
-use std::time::Clock;
 
 /// Drives the askers of all ranks, on threads, as `thread_both` does, over parcels of `cap` entries (a power of
 /// two from 1 to 1,024) and routes of as many hops as the grid has numbers. It waits for its threads, and returns where they do.
 ///
 /// # Errors
 /// `NoMemory` where a rank, a bank or the result found none. The askers are dropped.
-pub fn bi_threads<R: Threads + Wait + Clock + Sync, A: Asker + Send, G: Gate + Sync>(
+pub fn bi_threads<R: Threads + Wait + Sync, A: Asker + Send, G: Gate + Sync>(
     rt: &R,
     alloc: Global,
     grid: &Grid,
@@ -49,9 +48,9 @@ pub fn bi_threads<R: Threads + Wait + Clock + Sync, A: Asker + Send, G: Gate + S
     }
 }
 
-/// The cases of so many hops.
+/// Chooses among the eleven cases of `HOPS` hops by the capacity.
 #[tactic(auto, unfolding(item_buffer::specs::Capacity::IsCapacity))]
-fn over_hops<const HOPS: usize, R: Threads + Wait + Clock + Sync, A: Asker + Send, G: Gate + Sync>(
+fn over_hops<const HOPS: usize, R: Threads + Wait + Sync, A: Asker + Send, G: Gate + Sync>(
     rt: &R,
     alloc: Global,
     grid: &Grid,

@@ -7,7 +7,7 @@ ghost use Rattle.rank_group.specs.Ranks.{IsOrder};
 ghost use Rattle.rank_group.specs.Driven.{MayRun, HasFinished, HasSwept, WithinTurns};
 ghost use Rattle.item_buffer.specs.Capacity.{IsCapacity};
 
-use bale_types::NoMemory;
+use bale_items::NoMemory;
 use item_buffer::by_capacity;
 use rank_group::{Finished, Steps, Via, drive_serial};
 use round_program::{Program, Progs};
@@ -20,7 +20,6 @@ use std::sync::ledger::Ledger;
 ///
 /// # Errors
 /// `NoMemory` where a program, a node, the bank or the result found none. The programs are dropped.
-#[tactic(auto, unfolding(item_buffer::specs::Capacity::IsCapacity))]
 pub fn case_serial<Q: Program, L: Ledger>(
     alloc: Global,
     grid: &Grid,
@@ -46,20 +45,40 @@ pub fn case_serial<Q: Program, L: Ledger>(
     ensures steps { WithinTurns Q.rules progs (manner_of via steady) grid.now steps.old steps.new }
 {
     match grid.hops() {
-        1 => by_capacity!(
-            cap,
-            drive_serial::<1, Q, L>,
-            (alloc, grid, via, slots, steady, order, progs, steps)
-        ),
-        2 => by_capacity!(
-            cap,
-            drive_serial::<2, Q, L>,
-            (alloc, grid, via, slots, steady, order, progs, steps)
-        ),
-        _ => by_capacity!(
-            cap,
-            drive_serial::<3, Q, L>,
-            (alloc, grid, via, slots, steady, order, progs, steps)
-        ),
+        1 => over_hops::<1, Q, L>(alloc, grid, cap, via, slots, steady, order, progs, steps),
+        2 => over_hops::<2, Q, L>(alloc, grid, cap, via, slots, steady, order, progs, steps),
+        _ => over_hops::<3, Q, L>(alloc, grid, cap, via, slots, steady, order, progs, steps),
     }
+}
+
+/// Chooses among the eleven cases of `HOPS` hops by the capacity.
+#[tactic(auto, unfolding(item_buffer::specs::Capacity::IsCapacity))]
+fn over_hops<const HOPS: usize, Q: Program, L: Ledger>(
+    alloc: Global,
+    grid: &Grid,
+    cap: u32,
+    via: Via,
+    slots: u32,
+    steady: bool,
+    order: &[u32],
+    progs: Progs<Q>,
+    steps: &mut Steps<L>,
+) -> Result<Finished<Q>, NoMemory>
+    requires hops { length grid.now ≡ HOPS }
+    requires capacity { IsCapacity cap }
+    requires slots { IsSlots slots }
+    requires order { IsOrder (ranks grid.now) order.now }
+    requires run { MayRun Q.rules grid.now via progs }
+    ensures finished { IfOk result (HasFinished Q.rules progs
+        (record { dims = grid.now; cap = cap; slots = slots; by_slots = false }) (manner_of via steady)) }
+    ensures swept { IfOk result (HasSwept Q.rules progs
+        (record { dims = grid.now; cap = cap; slots = slots; by_slots = false }) (manner_of via steady)
+        order.now steps.old steps.new) }
+    ensures steps { WithinTurns Q.rules progs (manner_of via steady) grid.now steps.old steps.new }
+{
+    by_capacity!(
+        cap,
+        drive_serial::<HOPS, Q, L>,
+        (alloc, grid, via, slots, steady, order, progs, steps)
+    )
 }

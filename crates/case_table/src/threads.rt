@@ -5,7 +5,7 @@ ghost use Rattle.rank_node.specs.Movers.{manner_of};
 ghost use Rattle.rank_group.specs.Driven.{MayRun, HasFinished, ToldOfTurns};
 ghost use Rattle.item_buffer.specs.Capacity.{IsCapacity};
 
-use bale_types::NoMemory;
+use bale_items::NoMemory;
 use item_buffer::by_capacity;
 use rank_group::{Finished, Gate, Via, drive_threads};
 use round_program::{Program, Progs};
@@ -13,15 +13,13 @@ use route_tensor::Grid;
 use std::alloc::Global;
 use std::sync::Wait;
 use std::thread::Threads;
-use std::time::Clock;
 
 /// Drives the programs of all ranks, on threads, as `drive_threads` does, over parcels of `cap` entries (a power of two from 1 to 1,024) and
 /// routes of as many hops as the grid has numbers.
 ///
 /// # Errors
 /// `NoMemory` where a program, a node, the bank or the result found none. The programs are dropped.
-#[tactic(auto, unfolding(item_buffer::specs::Capacity::IsCapacity))]
-pub fn case_threads<R: Threads + Wait + Clock + Sync, Q: Program + Send, G: Gate + Sync>(
+pub fn case_threads<R: Threads + Wait + Sync, Q: Program + Send, G: Gate + Sync>(
     rt: &R,
     alloc: Global,
     grid: &Grid,
@@ -42,20 +40,36 @@ pub fn case_threads<R: Threads + Wait + Clock + Sync, Q: Program + Send, G: Gate
     ensures told { OnOk result (ToldOfTurns Q.rules progs grid.now (G.told gate.now)) }
 {
     match grid.hops() {
-        1 => by_capacity!(
-            cap,
-            drive_threads::<1, R, Q, G>,
-            (rt, alloc, grid, via, slots, steady, progs, gate)
-        ),
-        2 => by_capacity!(
-            cap,
-            drive_threads::<2, R, Q, G>,
-            (rt, alloc, grid, via, slots, steady, progs, gate)
-        ),
-        _ => by_capacity!(
-            cap,
-            drive_threads::<3, R, Q, G>,
-            (rt, alloc, grid, via, slots, steady, progs, gate)
-        ),
+        1 => over_hops::<1, R, Q, G>(rt, alloc, grid, cap, via, slots, steady, progs, gate),
+        2 => over_hops::<2, R, Q, G>(rt, alloc, grid, cap, via, slots, steady, progs, gate),
+        _ => over_hops::<3, R, Q, G>(rt, alloc, grid, cap, via, slots, steady, progs, gate),
     }
+}
+
+/// Chooses among the eleven cases of `HOPS` hops by the capacity.
+#[tactic(auto, unfolding(item_buffer::specs::Capacity::IsCapacity))]
+fn over_hops<const HOPS: usize, R: Threads + Wait + Sync, Q: Program + Send, G: Gate + Sync>(
+    rt: &R,
+    alloc: Global,
+    grid: &Grid,
+    cap: u32,
+    via: Via,
+    slots: u32,
+    steady: bool,
+    progs: Progs<Q>,
+    gate: &G,
+) -> Result<Finished<Q>, NoMemory>
+    requires hops { length grid.now ≡ HOPS }
+    requires capacity { IsCapacity cap }
+    requires slots { IsSlots slots }
+    requires run { MayRun Q.rules grid.now via progs }
+    ensures finished { IfOk result (HasFinished Q.rules progs
+        (record { dims = grid.now; cap = cap; slots = slots; by_slots = true }) (manner_of via steady)) }
+    ensures told { OnOk result (ToldOfTurns Q.rules progs grid.now (G.told gate.now)) }
+{
+    by_capacity!(
+        cap,
+        drive_threads::<HOPS, R, Q, G>,
+        (rt, alloc, grid, via, slots, steady, progs, gate)
+    )
 }

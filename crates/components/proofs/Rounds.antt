@@ -3,7 +3,7 @@ use Rattle.std.proofs.Common.{ℕ, ◌%◌, ◌<◌, ◌≤◌, ◌≡◌, ◌==
 use Rattle.std.specs.Prelude.{Contains}
 use Rattle.std.specs.List.{filter}
 use Rattle.std.proofs.lemmas.List.Elements.{All-map, All-filter, All-contains_itself}
-use Rattle.bale_types.specs.declared.triple.Triple.{Triple}
+use Rattle.bale_items.specs.declared.triple.Triple.{Triple}
 use Rattle.mtx_text.specs.Sparse.{Sparse}
 use Rattle.round_program.specs.Canonical.{round_of, emitted_by, InRound}
 use Rattle.reductions.specs.declared.reduced.Reduction.TheVariants.{Least}

@@ -1,7 +1,7 @@
 -- What the label of a vertex means.
 use Rattle.std.specs.Prelude.{ℕ, ◌≡◌, ◌≤◌, List, [], ◌∷◌, Contains, length}
 use Rattle.std.specs.List.{flat_map}
-use Rattle.bale_types.specs.declared.triple.Triple.{Triple}
+use Rattle.bale_items.specs.declared.triple.Triple.{Triple}
 use Rattle.list_laws.specs.Lists.{EachAt}
 use Rattle.mtx_text.specs.Sparse.{Sparse}
 use Rattle.components.specs.declared.labels.Link.{Link}

@@ -2,7 +2,7 @@
 use Rattle.std.specs.Prelude.{ℕ, ◌+◌, ◌-◌, ◌*◌, ◌%◌, ◌^◌, ◌<◌, ◌≤◌, ◌≡◌, ◌==◌, ◌&&◌, not, nat_lt, min, Bool, false}
 use Rattle.std.specs.Prelude.{List, [], ◌∷◌, map, length, slice_index_or}
 use Rattle.std.specs.List.{All, filter}
-use Rattle.bale_types.specs.declared.Item.{Item}
+use Rattle.bale_items.specs.declared.Item.{Item}
 use Rattle.round_program.specs.Rules.{Rules}
 use Rattle.round_program.specs.Laws.{is_item}
 use Rattle.reductions.specs.declared.reduced.Reduction.TheVariants.{Least}

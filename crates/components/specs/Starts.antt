@@ -1,7 +1,7 @@
 -- How the ranks begin.
 use Rattle.std.specs.Prelude.{ℕ, ◌%◌, List, map}
 use Rattle.std.specs.List.{range_with_len}
-use Rattle.bale_types.specs.declared.triple.Triple.{Triple}
+use Rattle.bale_items.specs.declared.triple.Triple.{Triple}
 use Rattle.mtx_text.specs.Sparse.{Sparse}
 use Rattle.sparse_rows.specs.Deals.{dealt}
 use Rattle.reductions.specs.Reductions.{begun}

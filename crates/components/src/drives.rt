@@ -9,7 +9,7 @@ ghost use Rattle.components.specs.Starts.{starts};
 
 use crate::labels::Labels;
 use crate::starting::start;
-use bale_types::NoMemory;
+use bale_items::NoMemory;
 use mtx_text::Matrix;
 use rank_group::{Settings, drive_in_turn, drive_on_threads};
 use reductions::owned;
@@ -18,7 +18,6 @@ use route_tensor::Grid;
 use std::alloc::Global;
 use std::sync::Wait;
 use std::thread::Threads;
-use std::time::Clock;
 
 /// The label of each vertex, found by the ranks of a grid of one number, which one thread turns.
 ///
@@ -41,7 +40,7 @@ pub fn components_serial(alloc: Global, m: &Matrix, grid: &Grid) -> Result<Vec<u
 /// # Errors
 /// `NoMemory` where there was none.
 #[tactic(auto, using(crate::proofs::Ranks::some_ranks))]
-pub fn components_threads<R: Threads + Wait + Clock + Sync>(
+pub fn components_threads<R: Threads + Wait + Sync>(
     rt: &R,
     alloc: Global,
     m: &Matrix,

@@ -8,7 +8,7 @@ ghost use Rattle.components.specs.LabelRules.{IsLink};
 ghost use Rattle.components.specs.Starts.{begins};
 
 use crate::starting::{links_of, numbers};
-use bale_types::{Item, NoMemory};
+use bale_items::{Item, NoMemory};
 use mtx_text::Matrix;
 use reductions::{HasCells, Reduced, Reduction};
 use round_program::Program;

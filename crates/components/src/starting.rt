@@ -8,7 +8,7 @@ ghost use Rattle.components.specs.LabelRules.{label_rules, most_rounds};
 ghost use Rattle.components.specs.Starts.{own_links, starts};
 
 use crate::labels::{Labels, Link};
-use bale_types::{NoMemory, Triple};
+use bale_items::{NoMemory, Triple};
 use mtx_text::Matrix;
 use reductions::programs;
 use round_program::Progs;

@@ -1,14 +1,13 @@
 //! Worked graphs on grids of one to five ranks, in turn and on threads.
 
 use crate::drives::{components_serial, components_threads};
-use bale_types::NoMemory;
+use bale_items::NoMemory;
 use mtx_text::parse_matrix;
 use route_tensor::Grid;
 use std::alloc::Global;
 use std::sync::Wait;
 use std::test::Fail;
 use std::thread::Threads;
-use std::time::Clock;
 
 /// Joined are 1-6, 6-3, 3-5 and 2-7; vertex 4 has an entry to itself.
 const TWO: &[u8] =
@@ -18,7 +17,7 @@ const TWO: &[u8] =
 const WAY: &[u8] = b"%%MatrixMarket matrix coordinate pattern general\n5 5 4\n5 4\n4 3\n3 2\n2 1\n";
 
 /// Whether both drives find these labels, on all grids.
-fn both_find<R: Threads + Wait + Clock + Sync>(
+fn both_find<R: Threads + Wait + Sync>(
     rt: &R,
     alloc: Global,
     text: &[u8],

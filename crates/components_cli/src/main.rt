@@ -5,7 +5,7 @@
 //! 0, 3 and 4 where a read or a write failed, 5 and 6 where there is no matrix or no square one, 7 without memory.
 #![tactic(auto)]
 
-use bale_streams::{Failed, Line, Out, Sink, StdinSource, StdoutSink};
+use bale_types::{Failed, Line, Out, Sink, StdinSource, StdoutSink};
 use components::components_threads;
 use mtx_text::{ReadFault, read_matrix};
 use route_tensor::Grid;
@@ -40,9 +40,9 @@ fn write_labels<K: Sink>(labels: &[u64], sink: &mut K) -> Result<(), Failed> {
     let mut out = Out::new(sink);
     for vertex in 0..labels.len() {
         let mut line = Line::new();
-        line.natural(vertex as u64 + 1);
+        line.number(vertex as u64 + 1);
         line.byte(b' ');
-        line.natural(labels[vertex].saturating_add(1));
+        line.number(labels[vertex].saturating_add(1));
         line.byte(b'\n');
         out.line(&line)?;
     }

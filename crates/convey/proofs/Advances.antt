@@ -1,15 +1,13 @@
 -- An advance as a whole.
-use Rattle.std.proofs.Common.{◌≡◌, ℕ, zero, suc, ◌+◌, ◌<◌, Bool, true, false, List, [], ◌++◌, replicate, slice_index_or, Option, None, refl, sym, ap, subst, ◌∙◌}
+use Rattle.std.proofs.Common.{◌≡◌, ℕ, zero, suc, ◌+◌, Bool, true, false, List, [], ◌++◌, replicate, slice_index_or, Option, None, refl, sym, ap, subst, ◌∙◌}
 use Rattle.std.specs.List.{All}
 use Rattle.std.proofs.lemmas.Bool.{false≢true}
 use Rattle.std.proofs.lemmas.List.Elements.{All-append}
 use Rattle.item_buffer.specs.Contents.{Shipped}
-use Rattle.route_tensor.specs.Link.{links}
-use Rattle.route_tensor.specs.Ends.{hop_at, reader_at}
+use Rattle.route_tensor.specs.Ends.{hop_at}
 use Rattle.route_tensor.specs.Tag.{IsFair}
 use Rattle.route_tensor.specs.Neighbour.{out_index, in_index}
 use Rattle.port_bank.specs.declared.port.Port.{Ghosts}
-use Rattle.port_bank.specs.Calls.{once_more_if}
 use Rattle.port_bank.specs.Logs.{Logs, lasts_in}
 use Rattle.port_bank.specs.Shapes.{IsFilled, IsConveyorShape}
 use Rattle.port_bank.specs.Flow.{hop_link}
@@ -17,7 +15,7 @@ use Rattle.route_tensor.specs.Pair.{belongs}
 use Rattle.port_bank.proofs.Closing.{law_nothing}
 use Rattle.port_bank.proofs.Fronts.{begins_nil}
 use Rattle.hop_core.specs.declared.phase.Phase.{Phase}
-use Rattle.hop_core.specs.Link.{no_out, no_in, is_wanted}
+use Rattle.hop_core.specs.Link.{no_out, no_in}
 use Rattle.hop_core.specs.declared.phase.Phase.TheVariants.{Dormant, Working, Endgame, Cleanup}
 use Rattle.hop_core.specs.declared.phase.Phase.TheVariants.{Complete as Over}
 use Rattle.convey.specs.Advance.{ListsGrow, WereAsked}
@@ -138,6 +136,5 @@ module _ {P : Type 0} {cap : ℕ} {M : Type 0} (G : Ghosts P cap M) (old mid : S
             subst (IsConveyorShape old.steady cap) (sym b.is) (All-append (λ (s : Shipped). s.last ≡ false → IsFilled old.steady cap s) (G.sent p l) b.rest before (fills l b.rest b.is));
       }
 
-  pub were_asked : (phase : Phase) (pulled : Option ℕ) → ((l : ℕ) → l < links old.dims → reader_at old.dims l ≡ old.rank → G.collects q l ≡ once_more_if (is_wanted (in_of old l)) (G.collects p l))
-      → WereAsked G old (record mid { phase = phase; pulled = pulled }) p q
-  were_asked phase pulled collects = record { left = k.left; unasked = k.unasked; rose = k.asked; idle = k.idle; lies = k.lies; collects = collects }
+  pub were_asked : (phase : Phase) (pulled : Option ℕ) → WereAsked G old (record mid { phase = phase; pulled = pulled }) p q
+  were_asked phase pulled = record { left = k.left; unasked = k.unasked; rose = k.asked; idle = k.idle; lies = k.lies }

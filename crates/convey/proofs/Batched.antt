@@ -1,7 +1,7 @@
 -- Pulls of one inbox, one after the other.
 use Rattle.std.proofs.Common.{ℕ, zero, suc, ◌≡◌, ◌<◌, ◌≤◌, length, slice_get, Option, Some, None, arith, refl, ap, ◌∙◌}
 use Rattle.std.proofs.lemmas.Option.{slice_get_within}
-use Rattle.bale_types.specs.declared.item.Entry.{Entry}
+use Rattle.bale_items.specs.declared.item.Entry.{Entry}
 use Rattle.route_tensor.specs.Neighbour.{neighbour}
 use Rattle.route_tensor.specs.Tag.{sender_of}
 use Rattle.hop_core.specs.State.{State, in_at, lowest_unread, pulled_from, pulls, phase_of}

@@ -1,8 +1,8 @@
 -- Where a relay stopped: what it left can't go on, since the open parcel of its next link is full.
 use Rattle.std.proofs.Common.{◌≡◌, ◌≢◌, ℕ, ◌+◌, ◌<◌, ◌≤◌, List, [], ◌∷◌, length, sum, slice_get, slice_index_or, Some, None, refl, sym, ap, subst, ◌∙◌, arith}
 use Rattle.std.specs.List.{All}
-use Rattle.bale_types.specs.declared.item.Entry.{Entry}
-use Rattle.bale_types.specs.declared.item.Tag.{Tag}
+use Rattle.bale_items.specs.declared.item.Entry.{Entry}
+use Rattle.bale_items.specs.declared.item.Tag.{Tag}
 use Rattle.route_tensor.specs.Link.{links, links_before}
 use Rattle.route_tensor.specs.Ends.{hop_at, sender_at}
 use Rattle.route_tensor.specs.Tag.{digit, IsFair}

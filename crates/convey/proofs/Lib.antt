@@ -9,6 +9,7 @@ mod Steps
 mod Routes
 mod Ways
 mod Asks
+mod Ascending
 mod States
 mod Collects
 mod Posts
@@ -23,3 +24,4 @@ mod Pushes
 mod Pulls
 pub mod Batched
 pub mod Together
+pub mod Crosses

@@ -2,7 +2,7 @@
 use Rattle.std.proofs.Common.{◌≡◌, ℕ, ◌+◌, ◌-◌, ◌<◌, ◌≤◌, ◌==◌, ◌⊎◌, Bool, true, false, cond, List, [], ◌++◌, length, take, drop, inl, inr, refl, sym, ap, subst, ◌∙◌, arith, eq-eqb, ne_eqb}
 use Rattle.std.proofs.lemmas.Bool.{cases_eq}
 use Rattle.std.proofs.lemmas.List.{append-nil, take-append-drop, take_all}
-use Rattle.bale_types.specs.declared.item.Item.{Item}
+use Rattle.bale_items.specs.declared.item.Item.{Item}
 use Rattle.route_tensor.specs.Grid.{ranks, IsGrid}
 use Rattle.route_tensor.specs.Link.{links}
 use Rattle.route_tensor.proofs.Places.{place-zero, place-all}

@@ -1,6 +1,6 @@
 -- To which pair an entry on a rank's first or last link belongs.
 use Rattle.std.proofs.Common.{◌≡◌, ℕ, ◌-◌, ◌<◌, ◌≤◌, ◌==◌, ◌&&◌, List, length, true, false, refl, sym, ap, ◌∙◌, arith, eq-eqb}
-use Rattle.bale_types.specs.declared.item.Entry.{Entry}
+use Rattle.bale_items.specs.declared.item.Entry.{Entry}
 use Rattle.route_tensor.specs.Grid.{ranks, place, IsGrid}
 use Rattle.route_tensor.specs.Link.{IsOnRoute}
 use Rattle.route_tensor.specs.Tag.{IsFair, tag_at, tag_rank, sender_of, destination_of}

@@ -1,7 +1,7 @@
 -- The pair of an entry, by the number of the link on which it came.
 use Rattle.std.proofs.Common.{◌≡◌, ℕ, zero, suc, ◌+◌, ◌-◌, ◌<◌, ◌≤◌, Bool, true, false, List, length, refl, sym, ap, subst, ◌∙◌, arith}
 use Rattle.std.proofs.lemmas.Bool.{false≢true}
-use Rattle.bale_types.specs.declared.item.Entry.{Entry}
+use Rattle.bale_items.specs.declared.item.Entry.{Entry}
 use Rattle.route_tensor.specs.Grid.{ranks, coord, place, IsGrid}
 use Rattle.route_tensor.specs.Link.{link, links}
 use Rattle.route_tensor.specs.Tag.{IsFair, tag_rank, sender_of, destination_of}

@@ -4,8 +4,8 @@ use Rattle.std.proofs.lemmas.Bool.{cases_eq}
 use Rattle.std.specs.List.{flat_map}
 use Rattle.std.proofs.lemmas.List.{append-nil, append_assoc, append_cancel_left}
 use Rattle.std.proofs.lemmas.List.Elements.{All-append}
-use Rattle.bale_types.specs.Counters.{RoseOrFull}
-use Rattle.bale_types.specs.declared.item.Entry.{Entry}
+use Rattle.bale_items.specs.Counters.{RoseOrFull}
+use Rattle.bale_items.specs.declared.item.Entry.{Entry}
 use Rattle.item_buffer.specs.Contents.{Shipped}
 use Rattle.route_tensor.specs.Grid.{ranks, IsGrid}
 use Rattle.route_tensor.specs.Link.{links}
@@ -145,28 +145,28 @@ module _ {P : Type 0} {cap : ℕ} {M : Type 0} (G : Ghosts P cap M) where
     same_port = port_then x.same_port y.same_port;
   }
 
--- Collecting: the links in from number i on were asked, and the others are as they were.
+-- Collecting: the first i links in were asked, and the others are as they were.
 pub record NotAsked (b c : State) (l : ℕ) (log log' : List Shipped) (at at' : ℕ) : Type 0 where
   pub inbox : in_of c l ≡ in_of b l
   pub got : log' ≡ log
   pub noted : at' ≡ at
 
 pub record Collecting (dims : List ℕ) (rank i : ℕ) (b c : State) (got got' : Logs) (noted noted' : ℕ → ℕ) (idle' : ℕ → Bool) : Type 0 where
-  pub asked : (l : ℕ) → l < links dims → reader_at dims l ≡ rank → i ≤ in_index dims l → WasAsked b l (got l) (got' l) (noted l) (noted' l) (idle' l)
-  pub to_ask : (l : ℕ) → l < links dims → reader_at dims l ≡ rank → in_index dims l < i → NotAsked b c l (got l) (got' l) (noted l) (noted' l)
+  pub asked : (l : ℕ) → l < links dims → reader_at dims l ≡ rank → in_index dims l < i → WasAsked b l (got l) (got' l) (noted l) (noted' l) (idle' l)
+  pub to_ask : (l : ℕ) → l < links dims → reader_at dims l ≡ rank → i ≤ in_index dims l → NotAsked b c l (got l) (got' l) (noted l) (noted' l)
   pub lies : (l : ℕ) (more : List Shipped) → l < links dims → reader_at dims l ≡ rank → got' l ≡ got l ++ more → (in_of c l).parcel.untaken ≡ (in_of b l).parcel.untaken ++ flat_map (λ p. p.entries) more
 
-pub collecting_none : (dims : List ℕ) (rank i : ℕ) (b : State) (got : Logs) (noted : ℕ → ℕ) (idle : ℕ → Bool) → IsGrid dims → i ≡ sum dims → Collecting dims rank i b b got got noted noted idle
-collecting_none dims rank i b got noted idle g all = record {
-  asked = λ l h to le. absurd (omega (arith, le, all, (in_stands dims rank l g h to).below));
+pub collecting_none : (dims : List ℕ) (rank : ℕ) (b : State) (got : Logs) (noted : ℕ → ℕ) (idle : ℕ → Bool) → Collecting dims rank 0 b b got got noted noted idle
+collecting_none dims rank b got noted idle = record {
+  asked = λ l h to less. absurd (omega arith);
   to_ask = λ l h to le. record { inbox = refl; got = refl; noted = refl };
   lies = λ l more h to e. sym (ap (λ m. (in_of b l).parcel.untaken ++ flat_map (λ p. p.entries) m) (no_more (got l) more e) ∙ append-nil (in_of b l).parcel.untaken);
 }
 
-pub collecting_all : (dims : List ℕ) (rank i : ℕ) (b c : State) (got got' : Logs) (noted noted' : ℕ → ℕ) (idle' : ℕ → Bool) → i ≡ 0
+pub collecting_all : (dims : List ℕ) (rank i : ℕ) (b c : State) (got got' : Logs) (noted noted' : ℕ → ℕ) (idle' : ℕ → Bool) → IsGrid dims → i ≡ sum dims
     → Collecting dims rank i b c got got' noted noted' idle' → (l : ℕ) → l < links dims → reader_at dims l ≡ rank
     → WasAsked b l (got l) (got' l) (noted l) (noted' l) (idle' l)
-collecting_all dims rank i b c got got' noted noted' idle' all k l h to = k.asked l h to (omega (arith, all))
+collecting_all dims rank i b c got got' noted noted' idle' g all k l h to = k.asked l h to (omega (arith, all, (in_stands dims rank l g h to).below))
 
 -- what asking one link leaves of the others
 pub record OthersStay (dims : List ℕ) (rank link : ℕ) (b c : State) (got got' : Logs) (noted noted' : ℕ → ℕ) (idle idle' : ℕ → Bool) : Type 0 where
@@ -204,7 +204,7 @@ asked_now b c l log log' log'' noted noted' noted'' idle n w =
     }
 
 module _ (dims : List ℕ) (rank i link : ℕ) (b c d : State) (got got' got'' : Logs) (noted noted' noted'' : ℕ → ℕ) (idle' idle'' : ℕ → Bool)
-    (g : IsGrid dims) (own : rank < ranks dims) (below : i < sum dims) (n : ℕ) (next : n ≡ i + 1) (k : Collecting dims rank n b c got got' noted noted' idle')
+    (g : IsGrid dims) (own : rank < ranks dims) (below : i < sum dims) (k : Collecting dims rank i b c got got' noted noted' idle')
     (here : link ≡ link_from dims rank i) (w : WasAsked c link (got' link) (got'' link) (noted' link) (noted'' link) (idle'' link))
     (o : OthersStay dims rank link c d got' got'' noted' noted'' idle' idle'') where
   -- links of other numbers are others
@@ -214,25 +214,25 @@ module _ (dims : List ℕ) (rank i link : ℕ) (b c d : State) (got got' got'' :
   same_in : (l : ℕ) → l < links dims → reader_at dims l ≡ rank → in_index dims l ≡ i → link ≡ l
   same_in l h to e = here ∙ ap (link_from dims rank) (sym e) ∙ (in_stands dims rank l g h to).number
 
-  pub collecting_more : Collecting dims rank i b d got got'' noted noted'' idle''
+  pub collecting_more : Collecting dims rank (i + 1) b d got got'' noted noted'' idle''
   collecting_more = record {
     asked = λ l h to le. elim (cases_eq (in_index dims l) i) [
       | inl same ↦
           let e = same_in l h to same in
           let v = subst (λ m. WasAsked c m (got' m) (got'' m) (noted' m) (noted'' m) (idle'' m)) e w in
-          asked_now b c l (got l) (got' l) (got'' l) (noted l) (noted' l) (noted'' l) (idle'' l) (k.to_ask l h to (omega (arith, next))) v
+          asked_now b c l (got l) (got' l) (got'' l) (noted l) (noted' l) (noted'' l) (idle'' l) (k.to_ask l h to (omega arith)) v
       | inr ne ↦
           let x = other_in l ne in
           asked_still b l (got l) (got' l) (got'' l) (noted l) (noted' l) (noted'' l) (idle' l) (idle'' l)
-          (o.got_stays l x) (o.noted_stays l x) (o.idle_stays l x) (k.asked l h to (omega (arith, next)))
+          (o.got_stays l x) (o.noted_stays l x) (o.idle_stays l x) (k.asked l h to (omega arith))
     ];
-    to_ask = λ l h to less.
+    to_ask = λ l h to le.
         let x = other_in l (λ e. omega arith) in
-        let t = k.to_ask l h to (omega (arith, next)) in
+        let t = k.to_ask l h to (omega arith) in
         record { inbox = o.inbox l h to x ∙ t.inbox; got = o.got_stays l x ∙ t.got; noted = o.noted_stays l x ∙ t.noted };
     lies = λ l more h to e. elim (cases_eq (in_index dims l) i) [
       | inl same ↦
-          let t = k.to_ask l h to (omega (arith, next)) in
+          let t = k.to_ask l h to (omega arith) in
           subst (λ m. got'' m ≡ got' m ++ more → (in_of d m).parcel.untaken ≡ (in_of c m).parcel.untaken ++ flat_map (λ p. p.entries) more) (same_in l h to same) (o.lies more) (e ∙ ap (λ log. log ++ more) (sym t.got))
           ∙ ap (λ x. x.parcel.untaken ++ flat_map (λ p. p.entries) more) t.inbox
       | inr ne ↦

@@ -1,26 +1,24 @@
 -- What an advance leaves of a conveyor and of its port, from old to new and from port to port'.
 use Rattle.std.specs.Prelude.{◌≡◌, ◌≢◌, ℕ, ◌+◌, ◌<◌, ◌≤◌, Bool, true, false, List, ◌++◌, length, slice_get, Some}
 use Rattle.std.specs.List.{flat_map}
-use Rattle.bale_types.specs.Counters.{RoseOrFull}
-use Rattle.bale_types.specs.declared.item.Entry.{Entry}
+use Rattle.bale_items.specs.Counters.{RoseOrFull}
+use Rattle.bale_items.specs.declared.item.Entry.{Entry}
 use Rattle.item_buffer.specs.Contents.{Shipped}
 use Rattle.list_laws.specs.Lists.{Begins, Ends}
 use Rattle.route_tensor.specs.Link.{links}
 use Rattle.route_tensor.specs.Ends.{hop_at, sender_at, reader_at}
 use Rattle.port_bank.specs.declared.port.Port.{Ghosts}
-use Rattle.port_bank.specs.Calls.{once_more_if}
 use Rattle.port_bank.specs.Frames.{SamePort}
 use Rattle.port_bank.specs.Machine.{IsOwnStep}
 use Rattle.port_bank.specs.Shapes.{IsConveyorShape}
 use Rattle.hop_core.specs.declared.phase.Phase.TheVariants.{Dormant, Working}
-use Rattle.hop_core.specs.Link.{is_wanted}
 use Rattle.hop_core.specs.State.{State, phase_of, at_end}
 use Rattle.convey.specs.declared.progress.Progress.{Progress}
 use Rattle.convey.specs.declared.progress.Progress.TheVariants as progress
 use Rattle.convey.specs.Arrived.{HasArrived}
 use Rattle.convey.specs.Buffers.{buffers_of, is_complete, out_of, in_of}
 use Rattle.convey.specs.Conveyors.{AgreesWith}
-use Rattle.convey.specs.Due.{Wants, IsOver, WasServed, NextIs, HeldUp, was_served}
+use Rattle.convey.specs.Due.{Wants, IsOver, WasServed, NextIs, HeldUp}
 use Rattle.convey.specs.Parts.{part_of}
 use Rattle.convey.specs.Progress.{progress_of, advance_step}
 
@@ -76,7 +74,7 @@ pub record ListsGrow {P : Type 0} {cap : ℕ} {M : Type 0} (G : Ghosts P cap M) 
       → IsConveyorShape old.steady cap more
   pub shape : (l : ℕ) → IsConveyorShape old.steady cap (G.sent port l) → IsConveyorShape old.steady cap (G.sent port' l)
 
--- Each link in that wanted a parcel was asked once, and no other.
+-- What the links in show of the collects.
 -- left, unasked: one that wanted none got none, and the port noted nothing of it.
 -- rose, idle: of one that wanted a parcel and got none the port has listened since it was asked before, and knows of
 -- nothing more, but for what was posted there.
@@ -94,10 +92,8 @@ pub record WereAsked {P : Type 0} {cap : ℕ} {M : Type 0} (G : Ghosts P cap M) 
   pub lies : (l : ℕ) (more : List Shipped) → l < links old.dims → reader_at old.dims l ≡ old.rank
       → G.got port' l ≡ G.got port l ++ more
       → Ends ((in_of old l).parcel.untaken ++ flat_map (λ p. p.entries) more) (in_of new l).parcel.untaken
-  pub collects : (l : ℕ) → l < links old.dims → reader_at old.dims l ≡ old.rank
-      → G.collects port' l ≡ once_more_if (is_wanted (in_of old l)) (G.collects port l)
 
--- Each link out that was due was served once, and no other, where all posts had memory.
+-- What the links out show of the posts, where all of them had memory.
 -- each: one that is due still was looked at in vain.
 -- full, ending, closing: where nothing was sent on a link it is crowded if its parcel was full, or
 -- if its hop has reached its end and it isn't closed.
@@ -106,8 +102,6 @@ pub record WereServed {P : Type 0} {cap : ℕ} {M : Type 0} (G : Ghosts P cap M)
     (port port' : P) : Type 0 where
   pub each : (l : ℕ) → l < links old.dims → sender_at old.dims l ≡ old.rank
       → WasServed new l (G.looks_out port l) (G.looks_out port' l) (G.crowded port' l)
-  pub posts : (l : ℕ) → l < links old.dims → sender_at old.dims l ≡ old.rank
-      → G.posts port' l ≡ once_more_if (was_served new l (G.sent port l) (G.sent port' l)) (G.posts port l)
   pub full : (l : ℕ) → l < links old.dims → sender_at old.dims l ≡ old.rank → G.sent port' l ≡ G.sent port l
       → length (out_of old l).parcel.untaken ≡ cap → G.crowded port' l ≡ true
   pub ending : (l : ℕ) → l < links old.dims → sender_at old.dims l ≡ old.rank

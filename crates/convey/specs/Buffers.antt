@@ -1,6 +1,6 @@
 -- What contracts see of one rank's buffers, by the numbers of its links.
 use Rattle.std.specs.Prelude.{ℕ, Bool, true, false, List, Option, Some, None}
-use Rattle.bale_types.specs.declared.item.Entry.{Entry}
+use Rattle.bale_items.specs.declared.item.Entry.{Entry}
 use Rattle.route_tensor.specs.Neighbour.{link_from, out_index, in_index}
 use Rattle.hop_core.specs.declared.phase.Phase.{Phase}
 use Rattle.hop_core.specs.declared.phase.Phase.TheVariants.{Dormant, Working, Endgame, Cleanup, Complete}

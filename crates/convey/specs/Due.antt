@@ -1,14 +1,16 @@
 -- Which links an advance serves, and why it leaves entries in an inbox.
-use Rattle.std.specs.Prelude.{◌≡◌, ◌⊎◌, ℕ, ◌+◌, ◌<◌, ◌≤◌, nat_lt, Bool, true, ◌||◌, List, [], ◌∷◌, ◌++◌, length}
+use Rattle.std.specs.Prelude.{◌≡◌, ◌⊎◌, ℕ, ◌+◌, ◌<◌, nat_lt, ◌==◌, Bool, true, ◌||◌, ◌&&◌, List, [], ◌∷◌, ◌++◌, length}
 use Rattle.std.specs.Prelude.{slice_get, Some}
-use Rattle.bale_types.specs.declared.item.Entry.{Entry}
-use Rattle.bale_types.specs.declared.item.Tag.{Tag}
-use Rattle.bale_types.specs.Counters.{RoseOrFull}
+use Rattle.bale_items.specs.declared.item.Entry.{Entry}
+use Rattle.bale_items.specs.declared.item.Tag.{Tag}
+use Rattle.bale_items.specs.Counters.{RoseOrFull}
 use Rattle.item_buffer.specs.Contents.{Shipped}
 use Rattle.route_tensor.specs.Ends.{hop_at, sender_at, reader_at}
 use Rattle.route_tensor.specs.Link.{links, links_before}
 use Rattle.route_tensor.specs.Tag.{digit}
-use Rattle.route_tensor.specs.Neighbour.{link_to, out_index}
+use Rattle.route_tensor.specs.Neighbour.{link_to}
+use Rattle.port_bank.specs.Calls.{Call, swept}
+use Rattle.port_bank.specs.Calls.Call.{Post, Collect}
 use Rattle.port_bank.specs.Logs.{Logs}
 use Rattle.hop_core.specs.Link.{is_due, is_wanted}
 use Rattle.hop_core.specs.State.{State, at_end}
@@ -34,15 +36,24 @@ was_served st l log log' =
     nat_lt (length log) (length log')
     || is_due st.cap st.steady (at_end st.dims st.ins st.done (hop_at st.dims l)) (out_of st l)
 
--- Where an advance without memory stopped: at a link out that is due, and neither on it nor on one to a later neighbour
--- was anything posted.
-pub record StopsAt (st : State) (posts posts' : ℕ → ℕ) : Type 0 where
+-- The collects of an advance, by the state before it: one on each link in that wants a parcel, in ascending order.
+-- On the grid 2 rank 0 collects from link 0, and then from link 2.
+abbrev pub collects_of : State → List Call
+collects_of st = swept (λ l. (reader_at st.dims l == st.rank) && is_wanted (in_of st l)) Collect (links st.dims)
+
+-- The posts of an advance on the links below m, by the state after it: one on each link out that was served, in ascending
+-- order.
+abbrev pub posts_below : State → Logs → Logs → ℕ → List Call
+posts_below st sent sent' m =
+    swept (λ l. (sender_at st.dims l == st.rank) && was_served st l (sent l) (sent' l)) Post m
+
+-- Where an advance without memory stopped: at a link out that is due, after the posts on the links below it.
+pub record StopsAt (st : State) (sent sent' : Logs) (before calls : List Call) : Type 0 where
   pub link : ℕ
   pub below : link < links st.dims
   pub starts_here : sender_at st.dims link ≡ st.rank
   pub due : IsDue st link
-  pub later : (l : ℕ) → l < links st.dims → sender_at st.dims l ≡ st.rank → out_index st.dims link ≤ out_index st.dims l
-      → posts' l ≡ posts l
+  pub calls_are : calls ≡ before ++ posts_below st sent sent' link
 
 -- The epoch is over for a rank: it is done, each link is closed or has ended, and nothing is unread.
 pub record IsOver (st : State) : Type 0 where

@@ -1,7 +1,7 @@
 -- A running rank's part of the exchange machine, by its buffers and its port's lists.
 use Rattle.std.specs.Prelude.{ℕ, ◌-◌, ◌==◌, List, [], ◌++◌, length, take, if◌then◌else◌}
 use Rattle.std.specs.Option.{option_map}
-use Rattle.bale_types.specs.declared.item.Item.{Item}
+use Rattle.bale_items.specs.declared.item.Item.{Item}
 use Rattle.route_tensor.specs.Grid.{ranks}
 use Rattle.route_tensor.specs.Tag.{sender_of}
 use Rattle.route_tensor.specs.Ends.{sender_at}

@@ -5,20 +5,19 @@ ghost use Rattle.item_buffer.specs.Contents.{Shipped, blank};
 ghost use Rattle.route_tensor.specs.Link.{links};
 ghost use Rattle.route_tensor.specs.Ends.{reader_at};
 ghost use Rattle.route_tensor.specs.Neighbour.{in_index};
-ghost use Rattle.port_bank.specs.Calls.{once_more_if};
+ghost use Rattle.port_bank.specs.Calls.{once_if};
+ghost use Rattle.port_bank.specs.Calls.Call.{Collect};
 ghost use Rattle.port_bank.specs.Frames.{InsElsewhere};
 ghost use Rattle.convey.specs.Buffers.{in_of};
 ghost use Rattle.hop_core.specs.Link.{is_wanted};
+ghost use Rattle.convey.specs.Due.{collects_of};
 ghost use Rattle.convey.specs.Way.{IsReady, WasAsked, LeftByCollects};
 
 use hop_core::RankState;
 use item_buffer::Parcel;
 use port_bank::{Collected, Port};
 
-/// Asks each link in once, in descending order, where it wants a parcel. The spare parcel, which is empty, goes round.
-///
-/// Of ranks that have their turns in ascending order on one thread, those above a rank post last. So their links are asked
-/// first: a doorbell is heard then, and the links that it marks are still to be asked.
+/// Collects once on each link in that wants a parcel, in ascending order. The spare parcel, which is empty, goes round.
 pub(crate) fn collect_all<const CAP: usize, const HOPS: usize, P: Port<CAP>>(
     state: &mut RankState<CAP, HOPS>,
     spare: &mut Parcel<CAP>,
@@ -30,14 +29,14 @@ pub(crate) fn collect_all<const CAP: usize, const HOPS: usize, P: Port<CAP>>(
     ensures asked { (l : ℕ) → l < links (P.dims port.old) → reader_at (P.dims port.old) l ≡ P.rank port.old
         → WasAsked state.old l (P.got port.old l) (P.got port.new l) (P.noted port.old l) (P.noted port.new l)
         (P.idle port.new l) }
-    ensures collects { (l : ℕ) → l < links (P.dims port.old) → reader_at (P.dims port.old) l ≡ P.rank port.old
-        → P.collects port.new l ≡ once_more_if (is_wanted (in_of state.old l)) (P.collects port.old l) }
+    ensures calls { P.calls port.new ≡ P.calls port.old ++ collects_of state.old }
     ensures lies { (l : ℕ) (more : List Shipped) → l < links (P.dims port.old)
         → reader_at (P.dims port.old) l ≡ P.rank port.old → P.got port.new l ≡ P.got port.old l ++ more
         → (in_of state.new l).parcel.untaken ≡ (in_of state.old l).parcel.untaken ++ flat_map (λ p. p.entries) more }
     ensures leaves { LeftByCollects P.Port state.old state.new port.old port.new }
 {
-    for i in (0..state.routes().neighbours()).rev() {
+    let count = state.routes().neighbours();
+    for i in 0..count {
         let link = state.routes().neighbour(i).link_from;
         collect_one(state, spare, port, i, link);
     }
@@ -59,8 +58,8 @@ pub(crate) fn collect_one<const CAP: usize, const HOPS: usize, P: Port<CAP>>(
     ensures empty { spare.new ≡ blank state.new.epoch }
     ensures asked { WasAsked state.old link (P.got port.old link) (P.got port.new link) (P.noted port.old link)
         (P.noted port.new link) (P.idle port.new link) }
-    ensures collects { P.collects port.new link
-        ≡ once_more_if (is_wanted (in_of state.old link)) (P.collects port.old link) }
+    ensures calls { P.calls port.new
+        ≡ P.calls port.old ++ once_if (is_wanted (in_of state.old link)) (Collect link) }
     ensures lies { (more : List Shipped) → P.got port.new link ≡ P.got port.old link ++ more
         → (in_of state.new link).parcel.untaken ≡ (in_of state.old link).parcel.untaken ++ flat_map
         (λ p. p.entries) more }

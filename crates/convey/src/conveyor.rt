@@ -1,10 +1,11 @@
 //! The conveyor of one rank: what a program pushes, advances and pulls.
-ghost use Rattle.std.specs.Prelude.{◌≡◌, ◌≢◌, ℕ, ◌+◌, ◌<◌, ◌^◌, true, false, [], length, sum, replicate, map, is_some, slice_get, Some, None, IfOk, IfSome, OnOk, IsOk, IsErr, Ok};
-ghost use Rattle.bale_types.specs.declared.item.Entry.{Entry};
+ghost use Rattle.std.specs.Prelude.{◌≡◌, ◌≢◌, ℕ, ◌+◌, ◌<◌, ◌^◌, ◌++◌, true, false, [], length, sum, replicate, map, is_some, slice_get, Some, None, IfOk, IfSome, OnOk, IsOk, IsErr, Ok};
+ghost use Rattle.bale_items.specs.declared.item.Entry.{Entry};
 ghost use Rattle.route_tensor.specs.Grid.{ranks};
 ghost use Rattle.route_tensor.specs.Link.{links};
 ghost use Rattle.route_tensor.specs.Ends.{hop_at, sender_at, reader_at};
 ghost use Rattle.list_laws.specs.Lists.{Begins};
+ghost use Rattle.hop_core.specs.Lent.Lent.{Given};
 ghost use Rattle.hop_core.specs.Link.{no_out, no_in};
 ghost use Rattle.hop_core.specs.State.{phase_of, in_at, lowest_unread, pull_from, pulled_from, pulls, unpulled, with_pushed, reopened, resumed};
 ghost use Rattle.route_tensor.specs.Neighbour.{hop_to, neighbour};
@@ -17,12 +18,12 @@ ghost use Rattle.convey.specs.Conveyors.{Stands, AgreesWith, HoldsAtMost, IsStep
 ghost use Rattle.convey.specs.Progress.{progress_of};
 ghost use Rattle.item_buffer.specs.Capacity.{IsCap};
 ghost use Rattle.hop_core.specs.Standing.{IsState};
-ghost use Rattle.convey.specs.Due.{StopsAt, NextIs, WasFull};
+ghost use Rattle.convey.specs.Due.{StopsAt, NextIs, WasFull, collects_of, posts_below};
 
 use crate::moving::move_on;
 use crate::progress::Progress;
 use crate::spare::Spare;
-use bale_types::{Entry, Item, NoMemory, Tag};
+use bale_items::{Entry, Item, NoMemory, Tag};
 use hop_core::{Phase, Pushed, RankState};
 use port_bank::Port;
 use route_tensor::{Grid, Routes};
@@ -66,13 +67,16 @@ impl<const CAP: usize, const HOPS: usize> Conveyor<CAP, HOPS> {
           done = false;
           phase = Phase.Dormant;
           epoch = 0;
+          lent = Given;
           pulled = None;
         }) }
         ensures agrees { IfOk result (λ c. AgreesWith c (λ l. []) (λ l. [])) }
     {
+        let mut state = RankState::new(alloc, grid, rank, steady)?;
+        let parcel = state.take_spare();
         Ok(Conveyor {
-            state: RankState::new(alloc, grid, rank, steady)?,
-            spare: Spare::new(alloc)?,
+            state,
+            spare: Spare { parcel },
         })
     }
 
@@ -247,11 +251,16 @@ impl<const CAP: usize, const HOPS: usize> Conveyor<CAP, HOPS> {
         // The lists only grow.
         ensures grows { ListsGrow P.Port self.old port.old port.new }
 
-        // Each link in that wanted a parcel was asked once; each link out that was due was served once, where that had
-        // memory, and else none after the one that found none.
+        // The calls on the port: a collect on each link in that wanted a parcel, in ascending order, and then a post on each
+        // link out that was due, in ascending order, up to one that found no memory.
+        ensures calls { OnOk result (P.calls port.new ≡ (P.calls port.old ++ collects_of self.old)
+            ++ posts_below self.new (P.sent port.old) (P.sent port.new) (links self.new.dims)) }
+        ensures stops { IsErr result → StopsAt self.new (P.sent port.old) (P.sent port.new)
+            (P.calls port.old ++ collects_of self.old) (P.calls port.new) }
+
+        // What they answered.
         ensures asked { WereAsked P.Port self.old self.new port.old port.new }
         ensures served { OnOk result (WereServed P.Port self.old self.new port.old port.new) }
-        ensures stops { IsErr result → StopsAt self.new (P.posts port.old) (P.posts port.new) }
 
         // Where nothing was sent on a link out, its open parcel begins with what it held. An entry is left in an inbox
         // below the last hop only where the open parcel that it goes to was full.

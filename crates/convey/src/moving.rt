@@ -1,23 +1,21 @@
 //! Moves an exchange on: what an advance does before it settles the phase.
-ghost use Rattle.std.specs.Prelude.{◌≡◌, ◌≢◌, ◌⊎◌, ℕ, ◌<◌, true, false, None, Some, length, slice_get, OnOk, IsOk, IsErr};
-ghost use Rattle.port_bank.specs.Calls.{once_more_if};
+ghost use Rattle.std.specs.Prelude.{◌≡◌, ◌≢◌, ◌⊎◌, ℕ, ◌<◌, ◌++◌, true, false, None, Some, length, slice_get, OnOk, IsOk, IsErr};
 ghost use Rattle.port_bank.specs.Frames.{SamePort};
 ghost use Rattle.hop_core.specs.Standing.{IsState};
 ghost use Rattle.convey.specs.Buffers.{is_complete};
 ghost use Rattle.convey.specs.Conveyors.{IsConveyor};
-ghost use Rattle.bale_types.specs.declared.item.Entry.{Entry};
+ghost use Rattle.bale_items.specs.declared.item.Entry.{Entry};
 ghost use Rattle.route_tensor.specs.Link.{links};
-ghost use Rattle.route_tensor.specs.Ends.{hop_at, sender_at, reader_at};
-ghost use Rattle.hop_core.specs.Link.{is_wanted};
+ghost use Rattle.route_tensor.specs.Ends.{hop_at, reader_at};
 ghost use Rattle.convey.specs.Buffers.{in_of};
-ghost use Rattle.convey.specs.Due.{StopsAt, was_served, NextIs, WasFull};
+ghost use Rattle.convey.specs.Due.{StopsAt, NextIs, WasFull, collects_of, posts_below};
 ghost use Rattle.convey.specs.Way.{IsReady, MovesOn, HasServed};
 
 use crate::collecting::collect_all;
 use crate::posting::post_all;
 use crate::relaying::relay_all;
 use crate::spare::Spare;
-use bale_types::NoMemory;
+use bale_items::NoMemory;
 use hop_core::{Phase, RankState};
 use port_bank::Port;
 
@@ -42,17 +40,15 @@ pub(crate) fn move_on<const CAP: usize, const HOPS: usize, P: Port<CAP>>(
         (P.got port.new) (P.noted port.old) (P.noted port.new) (P.idle port.new) }
     ensures served { OnOk result (HasServed state.old state.new (P.sent port.old) (P.sent port.new)
         (P.looks_out port.old) (P.looks_out port.new) (P.crowded port.new)) }
-    ensures posts { OnOk result ((l : ℕ) → l < links state.old.dims → sender_at state.old.dims l ≡ state.old.rank
-        → P.posts port.new l
-        ≡ once_more_if (was_served state.new l (P.sent port.old l) (P.sent port.new l)) (P.posts port.old l)) }
+    ensures calls { OnOk result (P.calls port.new ≡ (P.calls port.old ++ collects_of state.old)
+        ++ posts_below state.new (P.sent port.old) (P.sent port.new) (links state.new.dims)) }
     ensures held { (l : ℕ) (e : Entry) → l < links state.old.dims → reader_at state.old.dims l ≡ state.old.rank
         → hop_at state.old.dims l < length state.old.dims
         → slice_get (in_of state.new l).parcel.untaken 0 ≡ Some e
         → NextIs state.old.dims state.old.rank l e.tag
         (WasFull state.old.cap state.new (P.sent port.old) (P.sent port.new)) }
-    ensures stops { IsErr result → StopsAt state.new (P.posts port.old) (P.posts port.new) }
-    ensures collects { (l : ℕ) → l < links state.old.dims → reader_at state.old.dims l ≡ state.old.rank
-        → P.collects port.new l ≡ once_more_if (is_wanted (in_of state.old l)) (P.collects port.old l) }
+    ensures stops { IsErr result → StopsAt state.new (P.sent port.old) (P.sent port.new)
+        (P.calls port.old ++ collects_of state.old) (P.calls port.new) }
     ensures complete { state.old.phase ≡ Phase.Complete → state.new ≡ state.old }
     ensures complete_port { state.old.phase ≡ Phase.Complete → port.new ≡ port.old }
     ensures incomplete { IsErr result → is_complete state.old.phase ≡ false }

@@ -1,16 +1,17 @@
 //! Posts on the links out that are due.
-ghost use Rattle.std.specs.Prelude.{◌≡◌, ◌≢◌, ℕ, ◌<◌, false, None, IsOk, IsErr, OnOk};
+ghost use Rattle.std.specs.Prelude.{◌≡◌, ◌≢◌, ℕ, ◌<◌, ◌++◌, false, None, IsOk, IsErr, OnOk};
 ghost use Rattle.item_buffer.specs.Contents.{blank};
 ghost use Rattle.route_tensor.specs.Link.{links};
 ghost use Rattle.route_tensor.specs.Ends.{sender_at};
 ghost use Rattle.route_tensor.specs.Neighbour.{out_index};
-ghost use Rattle.port_bank.specs.Calls.{once_more_if};
+ghost use Rattle.port_bank.specs.Calls.{once_if};
+ghost use Rattle.port_bank.specs.Calls.Call.{Post};
 ghost use Rattle.port_bank.specs.Frames.{OutsElsewhere};
 ghost use Rattle.convey.specs.Buffers.{out_of};
-ghost use Rattle.convey.specs.Due.{IsDue, WasServed, StopsAt, was_served};
+ghost use Rattle.convey.specs.Due.{IsDue, WasServed, StopsAt, was_served, posts_below};
 ghost use Rattle.convey.specs.Way.{IsReady, WasPosted, LeftByPosts};
 
-use bale_types::NoMemory;
+use bale_items::NoMemory;
 use hop_core::RankState;
 use item_buffer::Parcel;
 use port_bank::{Port, Posted};
@@ -30,10 +31,10 @@ pub(crate) fn post_all<const CAP: usize, const HOPS: usize, P: Port<CAP>>(
     ensures served { OnOk result ((l : ℕ) → l < links (P.dims port.old)
         → sender_at (P.dims port.old) l ≡ P.rank port.old
         → WasServed state.new l (P.looks_out port.old l) (P.looks_out port.new l) (P.crowded port.new l)) }
-    ensures posts { OnOk result ((l : ℕ) → l < links (P.dims port.old) → sender_at (P.dims port.old) l ≡ P.rank port.old
-        → P.posts port.new l
-        ≡ once_more_if (was_served state.new l (P.sent port.old l) (P.sent port.new l)) (P.posts port.old l)) }
-    ensures stops { IsErr result → StopsAt state.new (P.posts port.old) (P.posts port.new) }
+    ensures calls { OnOk result (P.calls port.new
+        ≡ P.calls port.old ++ posts_below state.new (P.sent port.old) (P.sent port.new) (links state.new.dims)) }
+    ensures stops { IsErr result
+        → StopsAt state.new (P.sent port.old) (P.sent port.new) (P.calls port.old) (P.calls port.new) }
     ensures memory { P.Memory.GROWS ≡ false → IsOk result }
     ensures forgotten { IsErr result → state.new.pulled ≡ None }
     ensures waits { (l : ℕ) → l < links (P.dims port.old) → sender_at (P.dims port.old) l ≡ P.rank port.old
@@ -67,10 +68,9 @@ pub(crate) fn post_one<const CAP: usize, const HOPS: usize, P: Port<CAP>>(
     ensures empty { spare.new ≡ blank state.new.epoch }
     ensures served { OnOk result (WasServed state.new link (P.looks_out port.old link) (P.looks_out port.new link)
         (P.crowded port.new link)) }
-    ensures posts { OnOk result (P.posts port.new link
-        ≡ once_more_if (was_served state.new link (P.sent port.old link) (P.sent port.new link))
-        (P.posts port.old link)) }
-    ensures no_post { IsErr result → P.posts port.new ≡ P.posts port.old }
+    ensures calls { OnOk result (P.calls port.new ≡ P.calls port.old
+        ++ once_if (was_served state.new link (P.sent port.old link) (P.sent port.new link)) (Post link)) }
+    ensures no_post { IsErr result → P.calls port.new ≡ P.calls port.old }
     ensures still_due { IsErr result → IsDue state.new link }
     ensures memory { P.Memory.GROWS ≡ false → IsOk result }
     ensures forgotten { IsErr result → state.new.pulled ≡ None }

@@ -13,7 +13,7 @@ mod side;
 mod slots;
 mod taking;
 
-use bale_types::NoMemory;
+use bale_items::NoMemory;
 use rows::{Job, measure};
 use std::env;
 use std::process::ExitCode;

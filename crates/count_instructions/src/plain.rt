@@ -4,7 +4,7 @@ ghost use Rattle.std.specs.Prelude.{◌<◌, length};
 use crate::rows::Job;
 use crate::shape::Shape;
 use crate::side::Side;
-use bale_types::NoMemory;
+use bale_items::NoMemory;
 use convey::exchange_law;
 use port_bank::PlainBank;
 use std::alloc::Global;

@@ -4,7 +4,7 @@ ghost use Rattle.std.specs.Prelude.{◌<◌};
 use crate::plain::over_plain;
 use crate::shape::Shape;
 use crate::slots::over_slots;
-use bale_types::NoMemory;
+use bale_items::NoMemory;
 use route_tensor::Grid;
 use std::alloc::Global;
 

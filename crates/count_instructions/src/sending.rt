@@ -3,7 +3,7 @@ ghost use Rattle.std.specs.Prelude.{◌≡◌, ◌<◌, false};
 ghost use Rattle.route_tensor.specs.Grid.{ranks};
 ghost use Rattle.convey.specs.Conveyors.{KeepsAgreement};
 
-use bale_types::Item;
+use bale_items::Item;
 use convey::{Conveyor, Phase, Pushed};
 
 /// Pushes items from number `from` on, until one is refused or `items` are pushed. Answers how many are pushed then, and

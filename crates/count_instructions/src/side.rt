@@ -9,7 +9,7 @@ ghost use Rattle.convey.specs.Advance.{IsAtPort, KeepsPort};
 use crate::sending::push_some;
 use crate::shape::Shape;
 use crate::taking::sum_all;
-use bale_types::NoMemory;
+use bale_items::NoMemory;
 use convey::{Conveyor, Phase, Progress};
 use port_bank::Port;
 use std::alloc::Global;

@@ -5,7 +5,7 @@ ghost use Rattle.route_tensor.specs.Grid.{ranks};
 use crate::rows::Job;
 use crate::shape::Shape;
 use crate::side::Side;
-use bale_types::NoMemory;
+use bale_items::NoMemory;
 use link_slots::{GatherSeat, SlotBank, SlotPort};
 use std::alloc::Global;
 use std::marker::Model;

@@ -7,7 +7,7 @@ use Rattle.std.proofs.lemmas.Bool.{cases_Bool, cases_lt, eqb-true, eq-eqb, and_f
 use Rattle.std.proofs.lemmas.Nat.{div-add-mod', div-mul-add}
 use Rattle.std.proofs.lemmas.List.Elements.{All-contains}
 use Rattle.std.proofs.lemmas.Option.{same_Some}
-use Rattle.bale_types.specs.declared.triple.Triple.{Triple}
+use Rattle.bale_items.specs.declared.triple.Triple.{Triple}
 use Rattle.least_walks.specs.Walks.{IsWalk, weight_of, AtMost}
 use Rattle.least_walks.specs.Vertices.{weight_in}
 use Rattle.least_walks.proofs.Settled.{cost, at_most_le, walk_push, weight_push, Walked}

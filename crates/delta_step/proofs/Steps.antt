@@ -3,12 +3,12 @@ use Rattle.std.proofs.Common.{ℕ, ◌+◌, ◌/◌, ◌<◌, ◌≤◌, ◌≡�
 use Rattle.std.proofs.Math.Nat.{div-le_self}
 use Rattle.std.proofs.lemmas.List.{length-map}
 use Rattle.std.proofs.lemmas.List.Elements.{All-nil, All-append}
-use Rattle.bale_types.specs.declared.triple.Triple.{Triple}
+use Rattle.bale_items.specs.declared.triple.Triple.{Triple}
 use Rattle.mtx_text.specs.Cells.{InOrder, raised}
 use Rattle.mtx_text.proofs.Raised.{raised_ordered}
 use Rattle.mtx_text.proofs.Gathered.{raised_keeps}
 use Rattle.sparse_rows.proofs.Places.{place_below}
-use Rattle.bale_types.specs.declared.Item.{Item}
+use Rattle.bale_items.specs.declared.Item.{Item}
 use Rattle.least_walks.specs.Tables.{offers}
 use Rattle.least_walks.specs.declared.table.Edge.{Edge}
 use Rattle.least_walks.specs.declared.vertices.Vertex.{Vertex}

@@ -1,6 +1,6 @@
 //! One rank's part of delta-stepping.
 
-ghost use Rattle.bale_types.specs.Changes.{AllOrNothing};
+ghost use Rattle.bale_items.specs.Changes.{AllOrNothing};
 ghost use Rattle.std.specs.Prelude.{◌≡◌, ◌≢◌, ◌<◌, ◌/◌, ◌+◌, ◌-◌, ◌&&◌, ◌==◌, [], OnOk, min};
 ghost use Rattle.std.specs.List.{All};
 ghost use Rattle.round_program.specs.Laws.{Fits};
@@ -12,7 +12,7 @@ ghost use Rattle.delta_step.specs.code.DeltaSeats.{IsSeat, TakesIn, BeginsRound}
 
 use crate::phase::Phase;
 use crate::seat::Seat;
-use bale_types::{Item, NoMemory, value_of};
+use bale_items::{Item, NoMemory, value_of};
 use least_walks::{Table, Vertices, put_offers};
 use mtx_text::Cells;
 use round_program::{Arrivals, Program};

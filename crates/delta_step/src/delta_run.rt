@@ -2,7 +2,7 @@
 
 ghost use Rattle.round_program.specs.Ranks.{AreRanks};
 ghost use Rattle.std.specs.Prelude.{ℕ, true, ◌≡◌, ◌<◌, ◌≤◌, ◌+◌, ◌*◌, ◌%◌, ◌/◌, [], ◌∷◌, Option, IfOk};
-ghost use Rattle.bale_streams.specs.Out.{HandsOn, Writes};
+ghost use Rattle.bale_types.specs.Out.{HandsOn, Writes};
 ghost use Rattle.mtx_text.specs.Sparse.{Sparse};
 ghost use Rattle.sparse_rows.specs.Parts.{HasPart};
 ghost use Rattle.round_program.specs.Canonical.{InRound, EndsWithin};
@@ -13,8 +13,8 @@ ghost use Rattle.delta_step.specs.DeltaRuns.{delta_begins, delta_starts, DeltaEn
 
 use crate::delta::Delta;
 use app_sssp::{edges_of, vertices_of};
-use bale_streams::{Failed, Out, Sink};
-use bale_types::NoMemory;
+use bale_items::NoMemory;
+use bale_types::{Failed, Out, Sink};
 use least_walks::write_vertex;
 use mtx_text::Matrix;
 use round_program::Progs;

@@ -4,7 +4,7 @@ ghost use Rattle.std.specs.Prelude.{◌≡◌, ◌<◌, [], ◌∷◌};
 ghost use Rattle.delta_step.specs.Deltas.{may_delta};
 
 use crate::phase::Phase;
-use bale_types::Item;
+use bale_items::Item;
 
 /// A rank in a round of delta-stepping, as far as it says what is made of an item that comes.
 #[derive(Clone, Copy)]

@@ -4,12 +4,12 @@ ghost use Rattle.std.specs.Prelude.{◌<◌, ◌^◌, IfOk};
 ghost use Rattle.std.specs.List.{All};
 ghost use Rattle.drive_tests.specs.Adders.{adder_talk};
 ghost use Rattle.biconvey.specs.Drives.{AreAskers};
-ghost use Rattle.bale_types.specs.Ledgers.{IsBlankOf};
+ghost use Rattle.bale_items.specs.Ledgers.{IsBlankOf};
 ghost use Rattle.rank_node.specs.Fits.{FitsGrid};
 
 use crate::adder::Adder;
 use crate::serial_tests::order_of;
-use bale_types::NoMemory;
+use bale_items::NoMemory;
 use biconvey::{Steps, bi_serial, drive_both};
 use rank_group::Finished;
 use round_program::Progs;

@@ -5,18 +5,17 @@ ghost use Rattle.rank_node.specs.Fits.{FitsGrid};
 
 use crate::asking_tests::{Told, adders_of, have_heard};
 use crate::gates::TestGate;
-use bale_types::NoMemory;
+use bale_items::NoMemory;
 use biconvey::{bi_threads, thread_with};
-use rank_group::{Finished, Gate};
+use rank_group::{Finished, Gate, ThreadLimit, Workers};
 use route_tensor::Grid;
 use std::alloc::Global;
 use std::sync::Wait;
 use std::test::Fail;
 use std::thread::Threads;
-use std::time::Clock;
 
 /// Rank 0 asks rank 1, each on a thread.
-pub(crate) fn by_hand<R: Threads + Wait + Clock + Sync, G: Gate + Sync>(
+pub(crate) fn by_hand<R: Threads + Wait + Sync, G: Gate + Sync>(
     rt: &R,
     alloc: Global,
     gate: &G,
@@ -29,13 +28,13 @@ pub(crate) fn by_hand<R: Threads + Wait + Clock + Sync, G: Gate + Sync>(
     Ok(Some((have_heard(&progs), rounds.len())))
 }
 
-/// All ranks ask, in so many crews, of which the caller turns those from the number `threads` on.
-fn ask_here<const CAP: usize, const HOPS: usize, R: Threads + Wait + Clock + Sync>(
+/// All ranks ask, with so many workers, of which the first have a thread each.
+fn ask_here<const CAP: usize, const HOPS: usize, R: Threads + Wait + Sync>(
     rt: &R,
     alloc: Global,
     grid: &Grid,
-    crews: usize,
-    threads: usize,
+    workers: Workers,
+    threads: ThreadLimit,
 ) -> Result<Told, NoMemory>
     requires fits { FitsGrid CAP HOPS grid.now }
 {
@@ -48,13 +47,13 @@ fn ask_here<const CAP: usize, const HOPS: usize, R: Threads + Wait + Clock + Syn
         true,
         askers,
         &TestGate::Open,
-        crews,
+        workers,
         threads,
     )?;
     Ok((have_heard(&progs), rounds.len()))
 }
 
-/// The gate is told of each rank's turns in their order.
+/// The gate is notified of each rank's turns in their order.
 #[test]
 fn askers_by_hand_on_threads(rt: HostRuntime) -> Result<(), Fail> {
     let gate = TestGate::counts(rt.alloc(), 2)?;
@@ -69,7 +68,9 @@ fn askers_kept_by_the_caller(rt: HostRuntime) -> Result<(), Fail> {
     let Ok(grid) = Grid::new(&[2, 2, 2]) else {
         return Err(Fail::new("no grid"));
     };
-    let told = ask_here::<64, 3, HostRuntime>(&rt, rt.alloc(), &grid, 3, 2)?;
+    let workers = Workers { number: 3 };
+    let threads = ThreadLimit { number: 2 };
+    let told = ask_here::<64, 3, HostRuntime>(&rt, rt.alloc(), &grid, workers, threads)?;
     assert_eq!(rt; told, (8, 2));
     Ok(())
 }

@@ -60,8 +60,8 @@ fn numbers_over_two_epochs(rt: HostRuntime) -> Result<(), Fail> {
     for (hands, via) in [
         (Hands::Threads, Via::Convey),
         (Hands::Threads, Via::Exstack),
-        (Hands::Crews(2, 2), Via::Convey),
-        (Hands::Crews(3, 1), Via::Exstack),
+        (Hands::Workers(2, 2), Via::Convey),
+        (Hands::Workers(3, 1), Via::Exstack),
     ] {
         let watch = Watch::new();
         let gate = TestGate::counts(rt.alloc(), 4)?;

@@ -1,21 +1,26 @@
 //! The gate of all runs here. For each run that had a gate of another type, the ranks' threads would be compiled anew.
 use crate::watched::Watch;
-use bale_types::NoMemory;
+use bale_items::NoMemory;
 use rank_group::Gate;
 use std::alloc::Global;
 use std::sync::atomic::{AtomicBool, AtomicU64, Ordering};
+use std::thread;
 
 /// What a test has the gate do.
 #[derive(Drop)]
 pub(crate) enum TestGate<'a> {
-    /// Holds nobody.
+    /// Holds no rank.
     Open,
     /// Holds turn 0 of this one of two ranks until turn 0 of the other was announced.
     Held(&'a Watch, u32),
     /// Holds rank 0's turn 0 until rank 1's turn 1 was announced, and its turn 1 until rank 1 absorbed.
     Holds(&'a Watch),
-    /// Holds nobody, and counts the turns.
+    /// Holds no rank, and counts the turns.
     Counts(Numbers),
+    /// The same, and notes if two ranks of one of two workers don't have their first turns in alternation.
+    Alternates(Numbers),
+    /// Counts the turns, gives other threads time at each, and notes if one of them notifies it meanwhile.
+    Alone(Numbers),
 }
 
 impl<'a> TestGate<'a> {
@@ -24,10 +29,21 @@ impl<'a> TestGate<'a> {
         Ok(TestGate::Counts(Numbers::new(alloc, ranks)?))
     }
 
-    /// Whether it counted so many turns of each rank at least, and none out of its order.
+    /// One of four ranks and two workers that expects the ranks of a worker in alternation.
+    pub(crate) fn alternates(alloc: Global) -> Result<Self, NoMemory> {
+        Ok(TestGate::Alternates(Numbers::new(alloc, 4)?))
+    }
+
+    /// One that expects so many ranks on one thread.
+    pub(crate) fn alone(alloc: Global, ranks: u32) -> Result<Self, NoMemory> {
+        Ok(TestGate::Alone(Numbers::new(alloc, ranks)?))
+    }
+
+    /// Whether it counted so many turns of each rank at least, and none out of the order that it expects.
     pub(crate) fn has_counted(&self, least: u64) -> bool {
         match self {
-            TestGate::Counts(numbers) => numbers.are_in_order(least),
+            TestGate::Counts(numbers) | TestGate::Alternates(numbers) | TestGate::Alone(numbers) =>
+                { numbers.are_in_order(least) }
             _ => false,
         }
     }
@@ -40,11 +56,15 @@ impl<'a> Gate for TestGate<'a> {
             TestGate::Held(watch, held) => hold_one(watch, *held, rank, n),
             TestGate::Holds(watch) => hold_rank_0(watch, rank, n),
             TestGate::Counts(numbers) => numbers.note(rank, n),
+            TestGate::Alternates(numbers) => {
+                numbers.expect_alternation(rank, n);
+                numbers.note(rank, n);
+            }
+            TestGate::Alone(numbers) => {
+                numbers.note(rank, n);
+                numbers.expect_no_other();
+            }
         }
-    }
-
-    fn holds(&self) -> bool {
-        matches!(self, TestGate::Held(_, _) | TestGate::Holds(_))
     }
 }
 
@@ -72,7 +92,10 @@ fn hold_rank_0(watch: &Watch, rank: u32, n: u64) {
     }
 }
 
-/// Counts the turns of each rank that it was told of, and notes a number that isn't the next.
+/// How often a gate yields to see whether other threads notify it.
+const LOOKS: u64 = 100;
+
+/// Counts the turns of each rank, and notes one that isn't the next.
 #[derive(Drop)]
 pub(crate) struct Numbers {
     told: Vec<AtomicU64>,
@@ -100,7 +123,48 @@ impl Numbers {
         self.skipped.store(true, Ordering::SeqCst);
     }
 
-    /// Whether each rank was told of so many turns at least, and of none out of its order.
+    /// The turns of a rank so far.
+    fn of(&self, rank: u32) -> u64 {
+        match self.told.get(rank as usize) {
+            Some(told) => told.load(Ordering::SeqCst),
+            None => 0,
+        }
+    }
+
+    /// Notes it if a rank's turn 0 or 1 doesn't come in turn with those of its worker's other rank, two numbers from it. Each rank
+    /// has two turns at least.
+    fn expect_alternation(&self, rank: u32, n: u64) {
+        let other = if rank < 2 {
+            self.of(rank.saturating_add(2)) == n
+        } else {
+            self.of(rank.saturating_sub(2)) == n.saturating_add(1)
+        };
+        if n < 2 && !other {
+            self.skipped.store(true, Ordering::SeqCst);
+        }
+    }
+
+    /// Gives other threads time to notify the gate, and notes it if one does.
+    fn expect_no_other(&self) {
+        let before = self.all();
+        for _ in 0..LOOKS {
+            thread::yield_now();
+        }
+        if self.all() != before {
+            self.skipped.store(true, Ordering::SeqCst);
+        }
+    }
+
+    /// The turns of all ranks so far.
+    fn all(&self) -> u64 {
+        let mut all = 0u64;
+        for told in self.told.iter() {
+            all = all.wrapping_add(told.load(Ordering::SeqCst));
+        }
+        all
+    }
+
+    /// Whether it was notified of so many turns of each rank at least, and of none out of its order.
     fn are_in_order(&self, least: u64) -> bool {
         !self.skipped.load(Ordering::SeqCst)
             && self

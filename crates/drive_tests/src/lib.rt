@@ -9,11 +9,11 @@ mod asking_tests;
 #[cfg(test)]
 mod asking_thread_tests;
 #[cfg(test)]
+mod fallback_tests;
+#[cfg(test)]
 mod gate_tests;
 #[cfg(test)]
 mod gates;
-#[cfg(test)]
-mod home_tests;
 #[cfg(test)]
 mod order_tests;
 #[cfg(test)]

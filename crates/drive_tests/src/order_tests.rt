@@ -1,10 +1,10 @@
 //! The order in which `drive_serial` turns the ranks: its clause says that a run in that order ends as this one did, and any order does.
 ghost use Rattle.std.specs.Prelude.{◌<◌};
-ghost use Rattle.bale_types.specs.Ledgers.{IsBlankOf};
+ghost use Rattle.bale_items.specs.Ledgers.{IsBlankOf};
 
 use crate::serial_tests::order_of;
 use crate::watched::{Deed, Watch, Watched, progs_of};
-use bale_types::NoMemory;
+use bale_items::NoMemory;
 use rank_group::{Steps, Via, drive_serial};
 use route_tensor::Grid;
 use std::alloc::Global;

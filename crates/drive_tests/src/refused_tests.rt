@@ -1,11 +1,11 @@
 //! A rank that refuses each absorb: both drives answer that memory was wanting, and every rank goes on turning.
 ghost use Rattle.std.specs.Prelude.{◌<◌};
-ghost use Rattle.bale_types.specs.Ledgers.{IsBlankOf};
+ghost use Rattle.bale_items.specs.Ledgers.{IsBlankOf};
 
 use crate::gates::TestGate;
 use crate::serial_tests::order_of;
 use crate::watched::{Deed, Hands, Watch, Watched, is_counted, progs_of};
-use bale_types::NoMemory;
+use bale_items::NoMemory;
 use rank_group::{Steps, Via, drive_serial};
 use route_tensor::Grid;
 use std::alloc::Global;
@@ -18,9 +18,9 @@ fn refused_absorbs(rt: HostRuntime) -> Result<(), Fail> {
     let all: &[u32] = &[0, 1, 2, 3];
     let lists = [all; 4];
     for (hands, via) in [
-        (Hands::Crews(1, 0), Via::Convey),
-        (Hands::Crews(4, 2), Via::Exstack),
-        (Hands::Crews(3, 3), Via::Convey),
+        (Hands::Workers(1, 0), Via::Convey),
+        (Hands::Workers(4, 2), Via::Exstack),
+        (Hands::Workers(3, 3), Via::Convey),
         (Hands::Threads, Via::Convey),
         (Hands::Threads, Via::Exstack),
     ] {

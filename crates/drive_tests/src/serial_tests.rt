@@ -6,10 +6,10 @@ ghost use Rattle.route_tensor.specs.Grid.{ranks};
 ghost use Rattle.round_program.specs.Canonical.{InRound, items_at};
 ghost use Rattle.round_examples.specs.Counts.{count_rules};
 ghost use Rattle.rank_group.specs.Ranks.{IsOrder};
-ghost use Rattle.bale_types.specs.Ledgers.{IsBlankOf};
+ghost use Rattle.bale_items.specs.Ledgers.{IsBlankOf};
 ghost use Rattle.rank_node.specs.Fits.{FitsGrid};
 
-use bale_types::NoMemory;
+use bale_items::NoMemory;
 use rank_group::{Finished, Steps, Via, drive_serial};
 use round_examples::Count;
 use round_program::Progs;

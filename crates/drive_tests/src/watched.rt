@@ -4,8 +4,8 @@ ghost use Rattle.std.specs.List.{All};
 ghost use Rattle.round_program.specs.Canonical.{InRound};
 ghost use Rattle.round_examples.specs.Counts.{count_rules};
 
-use bale_types::{Item, NoMemory};
-use rank_group::{Finished, Gate, Via, drive_threads, drive_with};
+use bale_items::{Item, NoMemory};
+use rank_group::{Finished, Gate, ThreadLimit, Via, Workers, drive_threads, drive_with};
 use round_examples::Count;
 use round_program::{Program, Progs};
 use route_tensor::Grid;
@@ -15,7 +15,6 @@ use std::sync::Wait;
 use std::sync::atomic::{AtomicBool, AtomicU64, Ordering};
 use std::thread;
 use std::thread::Threads;
-use std::time::Clock;
 
 /// How often a hold looks before it gives up.
 const TRIES: u64 = 1_000_000_000;
@@ -240,12 +239,12 @@ pub(crate) fn progs_of<'a>(
 pub(crate) enum Hands {
     /// Threads, as many as `drive_threads` finds right.
     Threads,
-    /// So many crews, of which the first few have a thread each: (crews, threads).
-    Crews(usize, usize),
+    /// So many workers, of which the first few have a thread each: (workers, threads).
+    Workers(usize, usize),
 }
 
 /// Drives watched programs over parcels of one entry.
-fn run_watched<'a, R: Threads + Wait + Clock + Sync, G: Gate + Sync>(
+fn run_watched<'a, R: Threads + Wait + Sync, G: Gate + Sync>(
     rt: &R,
     alloc: Global,
     grid: &Grid,
@@ -263,8 +262,17 @@ fn run_watched<'a, R: Threads + Wait + Clock + Sync, G: Gate + Sync>(
         Hands::Threads => {
             drive_threads::<1, 1, R, Watched<'a>, G>(rt, alloc, grid, via, 2, false, progs, gate)
         }
-        Hands::Crews(crews, threads) => drive_with::<1, 1, R, Watched<'a>, G>(
-            rt, alloc, grid, via, 2, false, progs, gate, crews, threads,
+        Hands::Workers(workers, threads) => drive_with::<1, 1, R, Watched<'a>, G>(
+            rt,
+            alloc,
+            grid,
+            via,
+            2,
+            false,
+            progs,
+            gate,
+            Workers { number: workers },
+            ThreadLimit { number: threads },
         ),
     }
 }
@@ -293,7 +301,7 @@ fn are_counted(progs: &Progs<Watched<'_>>, wanted: &[u64]) -> bool {
 }
 
 /// The same on a grid of one number, with a rank for each list: whether each column was named as often as wanted, in two epochs.
-pub(crate) fn is_counted<R: Threads + Wait + Clock + Sync, G: Gate + Sync>(
+pub(crate) fn is_counted<R: Threads + Wait + Sync, G: Gate + Sync>(
     rt: &R,
     alloc: Global,
     lists: &[&[u32]],

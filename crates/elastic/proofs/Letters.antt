@@ -4,7 +4,7 @@ use Rattle.std.specs.List.{flat_map}
 use Rattle.std.proofs.lemmas.Bool.{cases_lt, eq-eqb, ne_eqb}
 use Rattle.std.proofs.lemmas.Bool.Decides.{nat_tests}
 use Rattle.std.proofs.lemmas.List.{append_assoc, length-drop, length-append, take_at, drop_at}
-use Rattle.bale_types.specs.declared.Item.{Item}
+use Rattle.bale_items.specs.declared.Item.{Item}
 use Rattle.list_laws.proofs.Lists.{all_head, all_tail}
 use Rattle.elastic.specs.Spelling.{IsLetter, further, first_item, next_items, spelling, length_in, letter_from, letters_within, letters_of}
 use Rattle.elastic.specs.Mails.{is_whole, letter_of}

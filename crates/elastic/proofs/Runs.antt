@@ -7,7 +7,7 @@ use Rattle.std.proofs.lemmas.List.{length-map, length-set, length-replicate, get
 use Rattle.std.proofs.lemmas.List.Elements.{All-nil, All-cons}
 use Rattle.std.proofs.lemmas.List.Sums.{sum_by-cons}
 use Rattle.std.proofs.lemmas.Option.{slice_get-map, slice_get_past}
-use Rattle.bale_types.specs.declared.Item.{Item}
+use Rattle.bale_items.specs.declared.Item.{Item}
 use Rattle.list_laws.proofs.Lists.{all_head, all_tail, all_from_gets, all_get, got_map, get_map, find}
 use Rattle.round_program.specs.Laws.{Fits}
 use Rattle.round_program.specs.Canonical.{items_of, emitted_of, emitted_by, absorb_all, absorb_upto, absorbed_round, vote_sum, round_of, states_at, votes_at, shape_of, HasRounds, InRound, Member}

@@ -4,7 +4,7 @@ use Rattle.std.specs.Int.{w64, to_le_bytes}
 use Rattle.std.specs.List.{flat_map}
 use Rattle.std.proofs.lemmas.List.{append-nil, append_assoc, drop_more, set_at, length-replicate, length-drop, replicate-append-replicate, take_more}
 use Rattle.std.proofs.lemmas.Option.{get_or_from_slice_get}
-use Rattle.bale_types.specs.declared.Item.{Item}
+use Rattle.bale_items.specs.declared.Item.{Item}
 use Rattle.round_program.specs.Laws.{IsItem}
 use Rattle.list_laws.proofs.Lists.{find, get_map, get_once, map_set}
 use Rattle.elastic.specs.Spelling.{IsLetter, next_item, next_items, spelling, length_in, bytes_in, letter_from}

@@ -2,7 +2,7 @@
 use Rattle.std.specs.Prelude.{ℕ, ◌≡◌, List, map}
 use Rattle.std.specs.List.{All, flat_map}
 use Rattle.list_laws.specs.Lists.{Begins}
-use Rattle.bale_types.specs.declared.Item.{Item}
+use Rattle.bale_items.specs.declared.Item.{Item}
 use Rattle.round_program.specs.Laws.{Fits}
 use Rattle.round_program.specs.Canonical.{items_of, emitted_by, states_at, votes_at, HasRounds, InRound, HaveEnded}
 use Rattle.round_program.specs.Orders.{absorb_each}

@@ -5,7 +5,7 @@ ghost use Rattle.elastic.specs.Spelling.{IsLetter};
 ghost use Rattle.elastic.specs.LetterRules.{LetterRules};
 ghost use Rattle.elastic.specs.LetterLaws.{LetterLaws, StillSends};
 
-use bale_types::NoMemory;
+use bale_items::NoMemory;
 
 /// A letter program, as one rank runs it: a program whose items are letters of at most 65,535 bytes. Rounds count from 0.
 ///

@@ -8,7 +8,7 @@ ghost use Rattle.elastic.specs.Mails.{mailing};
 use crate::letter_program::LetterProgram;
 use crate::reading::{forget_all, take_from};
 use crate::spelling::spelled;
-use bale_types::{Item, NoMemory};
+use bale_items::{Item, NoMemory};
 use round_program::Program;
 use std::alloc::Global;
 use std::marker::Model;

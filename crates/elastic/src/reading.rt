@@ -5,7 +5,7 @@ ghost use Rattle.std.specs.List.{flat_map};
 ghost use Rattle.elastic.specs.Spelling.{further, bytes_in, letter_from};
 ghost use Rattle.elastic.specs.Mails.{is_whole, letter_of, begun_with, begun_after};
 
-use bale_types::{Item, NoMemory};
+use bale_items::{Item, NoMemory};
 
 /// Whether items, no more than one letter's, are a whole letter.
 fn is_whole(items: &[Item]) -> bool

@@ -5,7 +5,7 @@ ghost use Rattle.elastic.specs.Spelling.{word_of, first_item, next_item, spellin
 ghost use Rattle.elastic.specs.Mails.{spelled};
 
 use crate::letter_program::LetterProgram;
-use bale_types::{Item, NoMemory};
+use bale_items::{Item, NoMemory};
 use std::alloc::Global;
 
 /// Bytes of a letter in its first item.

@@ -7,7 +7,7 @@ use Rattle.std.proofs.lemmas.List.{length-set, length-drop, get_or-set_same, get
 use Rattle.std.proofs.lemmas.Option.{slice_get_within}
 use Rattle.std.proofs.lemmas.List.Folds.{position_or_len-set}
 use Rattle.std.proofs.lemmas.List.Quantifiers.{position-Some}
-use Rattle.bale_types.specs.declared.item.Entry.{Entry}
+use Rattle.bale_items.specs.declared.item.Entry.{Entry}
 use Rattle.exstack.specs.Links.{In, no_in, has_unread, with_first_read, read_on}
 use Rattle.exstack.specs.State.{Stack, in_at, lowest_unread, pop_from, popped_from, pops}
 use Rattle.exstack.specs.Parts.{GivesNext, IsPop, KeepsAgreement}

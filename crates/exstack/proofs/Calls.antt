@@ -6,7 +6,7 @@ use Rattle.std.proofs.lemmas.List.{length-set, length-map, get_or-set_same, get_
 use Rattle.std.proofs.Math.ListN.{get_or-map as map_read}
 use Rattle.std.proofs.lemmas.List.Quantifiers.{position-Some}
 use Rattle.list_laws.proofs.Lists.{each_set}
-use Rattle.bale_types.specs.declared.item.Entry.{Entry}
+use Rattle.bale_items.specs.declared.item.Entry.{Entry}
 use Rattle.exstack.specs.declared.stage.Stage.TheVariants.{Start, AllDone}
 use Rattle.exstack.specs.Links.{Out, In, no_out, no_in, has_unread, with_first_read, with_put_back, reopened, resumed}
 use Rattle.exstack.specs.State.{Stack, in_at, may_read, after_reset}

@@ -2,7 +2,7 @@
 -- in order; and where it completes, all links in have ended, so that all senders are through.
 use Rattle.std.proofs.Common.{◌≡◌, ◌≢◌, ℕ, ◌+◌, ◌<◌, Bool, true, false, cond, [], ◌∷◌, ◌++◌, length, slice_get, Some, inl, inr, refl, sym, ap, subst, ◌∙◌, arith, eq-eqb, ne_eqb}
 use Rattle.std.proofs.lemmas.Bool.{cases_eq}
-use Rattle.bale_types.specs.declared.item.Item.{Item}
+use Rattle.bale_items.specs.declared.item.Item.{Item}
 use Rattle.list_laws.specs.Lists.{Begins, changed}
 use Rattle.port_bank.specs.Logs.{Logs, starting_at, ending_at}
 use Rattle.port_bank.specs.Machine.{Part, ItemLists, for_ranks, Step, after, MayComplete, NamesRank, Allows, IsOwnStep, IsStep, IsThrough, completed_of, done_of, EpochsClose}

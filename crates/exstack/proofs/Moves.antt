@@ -7,7 +7,6 @@ use Rattle.exstack.specs.Links.{Out, In, parcel_of, gone, came}
 use Rattle.item_buffer.specs.Contents.{Shipped}
 use Rattle.port_bank.specs.declared.port.Port.{Ghosts}
 use Rattle.port_bank.specs.Logs.{Logs}
-use Rattle.port_bank.specs.Calls.{once_more_if}
 use Rattle.port_bank.specs.Frames.{OutsElsewhere, InsElsewhere}
 use Rattle.exstack.specs.State.{number}
 use Rattle.exstack.specs.Steps.{latest, was_moved, WasPosted, WasCollected, InVain}
@@ -47,13 +46,6 @@ Collected exchange i i' s s' = WasCollected exchange i i' s.log s'.log
 
 abbrev pub Asked : In → In → Sight → Sight → Type 0
 Asked i i' s s' = i'.due ≡ true → InVain s.count s'.count s'.stuck
-
--- how often the port was asked for it
-abbrev pub PostsCounted : Out → Out → ℕ → ℕ → Type 0
-PostsCounted o o' n n' = n' ≡ once_more_if o.due n
-
-abbrev pub CollectsCounted : In → In → ℕ → ℕ → Type 0
-CollectsCounted i i' n n' = n' ≡ once_more_if i.due n
 
 -- the number of the link into r from a
 abbrev pub in_number : ℕ → ℕ → ℕ → ℕ

@@ -5,7 +5,7 @@ use Rattle.std.proofs.lemmas.Bool.{cases_eq, cases_lt, false≢true}
 use Rattle.std.proofs.lemmas.List.{length-append, append_assoc, append-nil, get_or_append_left, get_or-append_right}
 use Rattle.std.proofs.lemmas.List.Concat.{flat_map-append}
 use Rattle.list_laws.proofs.Lists.{get_last}
-use Rattle.bale_types.specs.declared.item.Entry.{Entry}
+use Rattle.bale_items.specs.declared.item.Entry.{Entry}
 use Rattle.item_buffer.specs.Contents.{Shipped}
 use Rattle.port_bank.specs.Logs.{lasts, segment, lasts_in}
 use Rattle.port_bank.specs.Shapes.{IsExstackShape}

@@ -6,8 +6,8 @@ use Rattle.std.proofs.lemmas.Bool.{false≢true, cases_lt}
 use Rattle.std.proofs.lemmas.List.Sums.{sum_by-le}
 use Rattle.std.proofs.lemmas.List.Quantifiers.{position-Some}
 use Rattle.std.proofs.lemmas.List.{get_or_default}
-use Rattle.bale_types.specs.declared.item.Item.{Item}
-use Rattle.bale_types.specs.declared.item.Entry.{Entry}
+use Rattle.bale_items.specs.declared.item.Item.{Item}
+use Rattle.bale_items.specs.declared.item.Entry.{Entry}
 use Rattle.port_bank.specs.Logs.{Logs}
 use Rattle.port_bank.specs.Machine.{IsOwnStep}
 use Rattle.port_bank.specs.Machine.Step.{Push, Idle}

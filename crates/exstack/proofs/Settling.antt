@@ -137,4 +137,4 @@ exchange_rounds n (poll.NotYet link) = refl
 
 -- the stage says nothing of what was asked
 pub asks_staged : {P : Type 0} {cap : ℕ} {M : Type 0} (G : Ghosts P cap M) (begun st : Stack) (stage : Stage) (port port' : P) → AsksOnce G begun st port port' → AsksOnce G begun (record st { stage = stage }) port port'
-asks_staged G begun st stage port port' a = record { looked = a.looked; crowded = a.crowded; asked = a.asked; posts = a.posts; collects = a.collects }
+asks_staged G begun st stage port port' a = record { looked = a.looked; crowded = a.crowded; asked = a.asked; calls = a.calls }

@@ -1,7 +1,7 @@
 -- When a port's lists agree with an exstack.
 use Rattle.std.specs.Prelude.{◌≡◌, ℕ, ◌+◌, ◌*◌, ◌<◌, ◌==◌, Bool, true, false, List, length, Option, Some, None}
 use Rattle.std.specs.Prelude.{if◌then◌else◌}
-use Rattle.bale_types.specs.declared.item.Entry.{Entry}
+use Rattle.bale_items.specs.declared.item.Entry.{Entry}
 use Rattle.item_buffer.specs.Contents.{Shipped}
 use Rattle.list_laws.specs.Lists.{Begins, Ends}
 use Rattle.port_bank.specs.Logs.{Logs, lasts, segment, EndsLast, lasts_in}

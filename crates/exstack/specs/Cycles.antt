@@ -1,8 +1,8 @@
 -- Exstack cycles: what the parcels of a link's segment are.
 use Rattle.std.specs.Prelude.{ℕ, ◌+◌, ◌*◌, List, [], ◌∷◌, map, slice_get, Option, Some, None}
 use Rattle.std.specs.List.{flat_map}
-use Rattle.bale_types.specs.declared.item.Item.{Item}
-use Rattle.bale_types.specs.declared.item.Entry.{Entry}
+use Rattle.bale_items.specs.declared.item.Item.{Item}
+use Rattle.bale_items.specs.declared.item.Entry.{Entry}
 use Rattle.item_buffer.specs.Contents.{Shipped}
 use Rattle.port_bank.specs.Logs.{segment}
 

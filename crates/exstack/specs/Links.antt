@@ -1,9 +1,9 @@
 -- One rank's links, as contracts see them.
 use Rattle.std.specs.Prelude.{ℕ, ◌-◌, ◌==◌, Bool, false, not, if◌then◌else◌, List, [], ◌∷◌, ◌++◌, length, drop}
 use Rattle.std.specs.Prelude.{slice_get, Option, Some, None}
-use Rattle.bale_types.specs.declared.item.Item.{Item}
-use Rattle.bale_types.specs.declared.item.Tag.{Tag}
-use Rattle.bale_types.specs.declared.item.Entry.{Entry}
+use Rattle.bale_items.specs.declared.item.Item.{Item}
+use Rattle.bale_items.specs.declared.item.Tag.{Tag}
+use Rattle.bale_items.specs.declared.item.Entry.{Entry}
 use Rattle.item_buffer.specs.Contents.{Shipped}
 
 -- A link out: the entries that wait for its next exchange parcel; whether it is closed, that is, its last parcel of

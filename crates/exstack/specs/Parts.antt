@@ -1,7 +1,7 @@
 -- A running rank's part of the exchange machine, by its exstack and its port's lists.
 use Rattle.std.specs.Prelude.{◌≡◌, ℕ, ◌-◌, ◌<◌, ◌==◌, Bool, true, false, ◌&&◌, not, if◌then◌else◌, List, [], ◌∷◌, ◌++◌}
 use Rattle.std.specs.Prelude.{length, take, Option, Some, None, IfSome}
-use Rattle.bale_types.specs.declared.item.Item.{Item}
+use Rattle.bale_items.specs.declared.item.Item.{Item}
 use Rattle.port_bank.specs.declared.port.Port.{Ghosts}
 use Rattle.port_bank.specs.Frames.{SamePort}
 use Rattle.port_bank.specs.Logs.{Logs}

@@ -2,14 +2,15 @@
 use Rattle.std.specs.Prelude.{◌≡◌, ℕ, ◌-◌, ◌<◌, ◌≤◌, Bool, true, false, not, ◌&&◌, List, [], ◌∷◌, ◌++◌, length}
 use Rattle.std.specs.Prelude.{if◌then◌else◌}
 use Rattle.std.specs.Prelude.{slice_index_or}
-use Rattle.bale_types.specs.Counters.{RoseOrFull}
+use Rattle.bale_items.specs.Counters.{RoseOrFull}
 use Rattle.item_buffer.specs.Contents.{Shipped}
 use Rattle.port_bank.specs.declared.port.Port.{Ghosts}
-use Rattle.port_bank.specs.Calls.{once_more_if}
+use Rattle.port_bank.specs.Calls.{Call, swept}
+use Rattle.port_bank.specs.Calls.Call.{Post, Collect}
 use Rattle.port_bank.specs.Frames.{SamePort, SameIns, SameOuts}
 use Rattle.port_bank.specs.Logs.{Logs}
 use Rattle.list_laws.specs.Lists.{Begins}
-use Rattle.exstack.specs.Links.{Out, In, no_out, parcel_of, gone, came}
+use Rattle.exstack.specs.Links.{Out, In, no_out, no_in, parcel_of, gone, came}
 use Rattle.exstack.specs.State.{Stack, out_at, in_at, number, link_to, link_from}
 
 -- A parcel was due, and isn't any more.
@@ -36,13 +37,22 @@ pub record InVain (count count' : ℕ) (stuck : Bool) : Type 0 where
   pub rose : RoseOrFull count count'
   pub in_vain : stuck ≡ true
 
--- Where a round without memory stopped: at a link out whose parcel is due still, and neither on it nor on a later one
--- was anything posted.
-pub record StopsAt (ranks rank : ℕ) (outs : List Out) (posts posts' : ℕ → ℕ) : Type 0 where
+-- The posts of a round to the first n ranks, and its collects from them, in ascending order: one for each parcel that is
+-- due as it begins.
+-- Of two ranks rank 0, whose parcels are both due, posts on link 0 and then on link 1, and collects from link 0 and then
+-- from link 2.
+abbrev pub posts_to : ℕ → ℕ → List Out → ℕ → List Call
+posts_to ranks rank outs n = swept (λ b. (slice_index_or outs b no_out).due) (λ b. Post (number ranks rank b)) n
+
+abbrev pub collects_from : ℕ → ℕ → List In → ℕ → List Call
+collects_from ranks rank ins n = swept (λ a. (slice_index_or ins a no_in).due) (λ a. Collect (number ranks a rank)) n
+
+-- Where a round without memory stopped: at a link out whose parcel is due still, after the posts on the links below it.
+pub record StopsAt (ranks rank : ℕ) (begun outs : List Out) (before calls : List Call) : Type 0 where
   pub to : ℕ
   pub below : to < ranks
   pub due : (slice_index_or outs to no_out).due ≡ true
-  pub later : (b : ℕ) → to ≤ b → b < ranks → posts' (number ranks rank b) ≡ posts (number ranks rank b)
+  pub calls_are : calls ≡ before ++ posts_to ranks rank begun to
 
 -- What posts leave of a port: its links in, and what was sent.
 pub record LeftByPosts {P : Type 0} {cap : ℕ} {M : Type 0} (G : Ghosts P cap M) (port port' : P) : Type 0 where
@@ -74,8 +84,7 @@ pub record MadeRound (last exchange : Bool) (old new : Stack) (sent sent' got go
   pub sent_grows : (l : ℕ) → Begins (sent l) (sent' l)
   pub got_grows : (l : ℕ) → Begins (got l) (got' l)
 
--- What a round asks of its port where it has memory: once for each link on which a parcel is due as
--- it begins, and for no other.
+-- What a round asks of its port where it has memory: its posts, and then its collects.
 -- looked, crowded: for a link out whose parcel is due still the port looked for room in this call,
 -- and the link is crowded, unless something was got on it meanwhile.
 -- asked: on a link in whose parcel is due still it listened in vain.
@@ -88,13 +97,9 @@ pub record AsksOnce {P : Type 0} {cap : ℕ} {M : Type 0} (G : Ghosts P cap M) (
       → G.crowded port' (link_to begun b) ≡ true
   pub asked : (a : ℕ) → a < begun.ranks → (in_at new a).due ≡ true
       → InVain (G.noted port (link_from begun a)) (G.noted port' (link_from begun a)) (G.idle port' (link_from begun a))
-  pub posts : (b : ℕ) → b < begun.ranks
-      → G.posts port' (link_to begun b) ≡ once_more_if (out_at begun b).due (G.posts port (link_to begun b))
-  pub collects : (a : ℕ) → a < begun.ranks
-      → G.collects port' (link_from begun a) ≡ once_more_if (in_at begun a).due (G.collects port (link_from begun a))
+  pub calls : G.calls port' ≡ (G.calls port ++ posts_to begun.ranks begun.rank begun.outs begun.ranks)
+      ++ collects_from begun.ranks begun.rank begun.ins begun.ranks
 
 -- And without memory: it stops at the link that found none, and collects nothing.
-pub record StopsShort {P : Type 0} {cap : ℕ} {M : Type 0} (G : Ghosts P cap M) (new : Stack)
-    (port port' : P) : Type 0 where
-  pub stops : StopsAt new.ranks new.rank new.outs (G.posts port) (G.posts port')
-  pub no_collect : G.collects port' ≡ G.collects port
+abbrev pub StopsShort : {P : Type 0} {cap : ℕ} {M : Type 0} → Ghosts P cap M → Stack → Stack → P → P → Type 0
+StopsShort G begun new port port' = StopsAt new.ranks new.rank begun.outs new.outs (G.calls port) (G.calls port')

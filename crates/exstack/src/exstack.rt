@@ -17,7 +17,7 @@ use crate::rounds::{
     least_room, links_in, links_out, next_unread, reopen_all, resume_all, unread_in,
 };
 use crate::stage::Stage;
-use bale_types::{Entry, Item, NoMemory, Tag};
+use bale_items::{Entry, Item, NoMemory, Tag};
 use route_tensor::Grid;
 use std::alloc::Global;
 use std::marker::Model;

@@ -1,17 +1,18 @@
 //! One link into a rank: the parcel that came over it and is being read.
-ghost use Rattle.std.specs.Prelude.{◌≡◌, ◌<◌, ◌≤◌, true, length, slice_get, None, IsSome, IfOk};
+ghost use Rattle.std.specs.Prelude.{◌≡◌, ◌++◌, ◌<◌, ◌≤◌, true, length, slice_get, None, IsSome, IfOk};
 ghost use Rattle.list_laws.specs.Lists.{Begins};
 ghost use Rattle.item_buffer.specs.declared.capacity.TheConstants.{MOST_ENTRIES};
 ghost use Rattle.item_buffer.specs.Capacity.{IsCap};
 ghost use Rattle.route_tensor.specs.Link.{links};
 ghost use Rattle.route_tensor.specs.Ends.{sender_at, reader_at};
 ghost use Rattle.port_bank.specs.Logs.{lasts};
-ghost use Rattle.port_bank.specs.Calls.{once_more_if};
+ghost use Rattle.port_bank.specs.Calls.{once_if};
+ghost use Rattle.port_bank.specs.Calls.Call.{Collect};
 ghost use Rattle.port_bank.specs.Frames.{InsElsewhere};
 ghost use Rattle.exstack.specs.Links.{no_in, with_first_read, with_put_back, read_on, begun_in, resumed, has_unread};
 ghost use Rattle.exstack.specs.Steps.{WasCollected, InVain, LeftByCollects};
 
-use bale_types::{Entry, NoMemory};
+use bale_items::{Entry, NoMemory};
 use item_buffer::Parcel;
 use port_bank::{Collected, Port};
 use std::alloc::Global;
@@ -145,7 +146,7 @@ impl<const CAP: usize> InLink<CAP> {
         ensures moved { WasCollected exchange self.old self.new (P.got port.old link) (P.got port.new link) }
         ensures in_vain { self.new.due ≡ true → InVain (P.noted port.old link) (P.noted port.new link)
             (P.idle port.new link) }
-        ensures collects { P.collects port.new link ≡ once_more_if self.old.due (P.collects port.old link) }
+        ensures calls { P.calls port.new ≡ P.calls port.old ++ once_if self.old.due (Collect link) }
         ensures elsewhere { InsElsewhere P.Port link port.old port.new }
         ensures own { sender_at (P.dims port.old) link ≡ P.rank port.old
             → Begins (P.got port.old link) (P.sent port.old link)

@@ -1,17 +1,18 @@
 //! One link out of a rank: the parcel that is filled for it, and posted once a round.
-ghost use Rattle.std.specs.Prelude.{◌≡◌, ◌-◌, ◌<◌, ◌≤◌, true, false, length, IfOk, OnOk, IsOk, IsErr};
+ghost use Rattle.std.specs.Prelude.{◌≡◌, ◌++◌, ◌-◌, ◌<◌, ◌≤◌, true, false, length, IfOk, OnOk, IsOk, IsErr};
 ghost use Rattle.item_buffer.specs.Capacity.{IsCap};
 ghost use Rattle.route_tensor.specs.Grid.{IsGrid};
 ghost use Rattle.route_tensor.specs.Link.{links};
 ghost use Rattle.route_tensor.specs.Ends.{sender_at};
 ghost use Rattle.port_bank.specs.Logs.{lasts};
-ghost use Rattle.port_bank.specs.Calls.{once_more_if};
+ghost use Rattle.port_bank.specs.Calls.{once_if};
+ghost use Rattle.port_bank.specs.Calls.Call.{Post};
 ghost use Rattle.port_bank.specs.Relay.{RelayLaw};
 ghost use Rattle.port_bank.specs.Frames.{OutsElsewhere};
 ghost use Rattle.exstack.specs.Links.{no_out, no_tag, with_entry, headroom_of, begun_out, reopened};
 ghost use Rattle.exstack.specs.Steps.{WasPosted, InVain, LeftByPosts};
 
-use bale_types::{Entry, NoMemory};
+use bale_items::{Entry, NoMemory};
 use item_buffer::Parcel;
 use port_bank::{Port, Posted};
 use std::alloc::Global;
@@ -117,9 +118,9 @@ impl<const CAP: usize> OutLink<CAP> {
         ensures moved { WasPosted last epoch self.old self.new (P.sent port.old link) (P.sent port.new link) }
         ensures in_vain { IsOk result → self.new.due ≡ true
             → InVain (P.looks_out port.old link) (P.looks_out port.new link) (P.crowded port.new link) }
-        ensures posts { OnOk result (P.posts port.new link ≡ once_more_if self.old.due (P.posts port.old link)) }
+        ensures calls { OnOk result (P.calls port.new ≡ P.calls port.old ++ once_if self.old.due (Post link)) }
         ensures elsewhere { OutsElsewhere P.Port link port.old port.new }
-        ensures no_post { IsErr result → P.posts port.new ≡ P.posts port.old }
+        ensures no_post { IsErr result → P.calls port.new ≡ P.calls port.old }
         ensures still_due { IsErr result → self.new.due ≡ true }
         ensures law { RelayLaw (P.dims port.old) (P.rank port.old) (P.sent port.new) (P.got port.old) }
         ensures memory { P.Memory.GROWS ≡ false → IsOk result }

@@ -14,7 +14,7 @@ ghost use Rattle.exstack.specs.Standing.{IsStack};
 use crate::exstack::Exstack;
 use crate::rounds::{all_ended, begin_ins, begin_outs, collect_all, missing, post_all};
 use crate::stage::{Poll, Proceed, Stage};
-use bale_types::NoMemory;
+use bale_items::NoMemory;
 use port_bank::Port;
 
 impl<const CAP: usize> Exstack<CAP> {
@@ -64,7 +64,7 @@ impl<const CAP: usize> Exstack<CAP> {
 
         // What the port was asked, with memory and without.
         ensures asks { OnOk result (AsksOnce P.Port (in_proceed done self.old) self.new port.old port.new) }
-        ensures stops { IsErr result → StopsShort P.Port self.new port.old port.new }
+        ensures stops { IsErr result → StopsShort P.Port (in_proceed done self.old) self.new port.old port.new }
     {
         self.begin_proceed(done);
         let missing = self.go_round(port, done, false)?;
@@ -108,7 +108,7 @@ impl<const CAP: usize> Exstack<CAP> {
 
         // What the port was asked, with memory and without.
         ensures asks { OnOk result (AsksOnce P.Port (in_exchange self.old) self.new port.old port.new) }
-        ensures stops { IsErr result → StopsShort P.Port self.new port.old port.new }
+        ensures stops { IsErr result → StopsShort P.Port (in_exchange self.old) self.new port.old port.new }
 
         // A parcel that this poll collected is the exchange parcel of its cycle, and all of it is unread.
         ensures whole { (n a : ℕ) → AgreesIn n self.old (P.sent port.old) (P.got port.old) → a < self.old.ranks
@@ -173,7 +173,7 @@ impl<const CAP: usize> Exstack<CAP> {
             (P.got port.new) }
         ensures missing { IfOk result (λ o. o ≡ missing_link self.new) }
         ensures asks { OnOk result (AsksOnce P.Port self.old self.new port.old port.new) }
-        ensures stops { IsErr result → StopsShort P.Port self.new port.old port.new }
+        ensures stops { IsErr result → StopsShort P.Port self.old self.new port.old port.new }
         ensures memory { P.Memory.GROWS ≡ false → IsOk result }
         ensures same_port { SamePort P.Port port.old port.new }
     {

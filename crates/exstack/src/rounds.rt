@@ -1,19 +1,18 @@
 //! A round over all links of a rank: what begins it, what is posted and collected in it, and what it still waits for.
-ghost use Rattle.std.specs.Prelude.{◌≡◌, ℕ, ◌+◌, ◌*◌, ◌<◌, ◌≤◌, true, false, map, replicate, length, slice_index_or, IfOk, IfSome, OnOk, IsOk, IsErr};
+ghost use Rattle.std.specs.Prelude.{◌≡◌, ℕ, ◌+◌, ◌*◌, ◌<◌, ◌≤◌, ◌++◌, true, false, map, replicate, length, slice_index_or, IfOk, IfSome, OnOk, IsOk, IsErr};
 ghost use Rattle.std.specs.List.{list_all, position, sum_by};
 ghost use Rattle.list_laws.specs.Lists.{Begins};
 ghost use Rattle.item_buffer.specs.Capacity.{IsCap};
 ghost use Rattle.port_bank.specs.Logs.{lasts};
 ghost use Rattle.port_bank.specs.Relay.{RelayLaw};
-ghost use Rattle.port_bank.specs.Calls.{once_more_if};
 ghost use Rattle.exstack.specs.Links.{no_out, no_in, has_unread, begun_out, begun_in, reopened, resumed};
 ghost use Rattle.exstack.specs.State.{number, missing_out, least_headroom};
 ghost use Rattle.exstack.specs.Demands.{NoneBelow};
-ghost use Rattle.exstack.specs.Steps.{WasPosted, WasCollected, InVain, StopsAt, LeftByPosts, LeftByCollects, IsPortOf};
+ghost use Rattle.exstack.specs.Steps.{WasPosted, WasCollected, InVain, StopsAt, posts_to, collects_from, LeftByPosts, LeftByCollects, IsPortOf};
 
 use crate::in_link::InLink;
 use crate::out_link::OutLink;
-use bale_types::NoMemory;
+use bale_items::NoMemory;
 use port_bank::Port;
 use std::alloc::Global;
 
@@ -102,12 +101,10 @@ pub fn post_all<const CAP: usize, P: Port<CAP>>(
         → InVain (P.looks_out port.old (number (length outs.old.items) rank b))
         (P.looks_out port.new (number (length outs.old.items) rank b))
         (P.crowded port.new (number (length outs.old.items) rank b)) }
-    ensures posts { OnOk result ((b : ℕ) → b < length outs.old.items
-        → P.posts port.new (number (length outs.old.items) rank b)
-        ≡ once_more_if (slice_index_or outs.old.items b no_out).due
-        (P.posts port.old (number (length outs.old.items) rank b))) }
-    ensures stops { IsErr result
-        → StopsAt (length outs.old.items) rank outs.new.items (P.posts port.old) (P.posts port.new) }
+    ensures calls { OnOk result (P.calls port.new
+        ≡ P.calls port.old ++ posts_to (length outs.old.items) rank outs.old.items (length outs.old.items)) }
+    ensures stops { IsErr result → StopsAt (length outs.old.items) rank outs.old.items outs.new.items
+        (P.calls port.old) (P.calls port.new) }
     ensures law { RelayLaw (P.dims port.old) (P.rank port.old) (P.sent port.new) (P.got port.old) }
     ensures memory { P.Memory.GROWS ≡ false → IsOk result }
     ensures left { LeftByPosts P.Port port.old port.new }
@@ -139,10 +136,8 @@ pub fn collect_all<const CAP: usize, P: Port<CAP>>(
         → InVain (P.noted port.old (number (length ins.old.items) a rank))
         (P.noted port.new (number (length ins.old.items) a rank))
         (P.idle port.new (number (length ins.old.items) a rank)) }
-    ensures collects { (a : ℕ) → a < length ins.old.items
-        → P.collects port.new (number (length ins.old.items) a rank)
-        ≡ once_more_if (slice_index_or ins.old.items a no_in).due
-        (P.collects port.old (number (length ins.old.items) a rank)) }
+    ensures calls { P.calls port.new
+        ≡ P.calls port.old ++ collects_from (length ins.old.items) rank ins.old.items (length ins.old.items) }
     ensures own { Begins (P.got port.old (number (length ins.old.items) rank rank))
         (P.sent port.old (number (length ins.old.items) rank rank))
         → Begins (P.got port.new (number (length ins.old.items) rank rank))

@@ -7,8 +7,8 @@ use Rattle.std.proofs.lemmas.List.{length-set, length-drop, get_or-set_same, get
 use Rattle.std.proofs.lemmas.List.Elements.{All-drop}
 use Rattle.std.proofs.lemmas.Option.{same_Some, slice_get_within, slice_get-get_or}
 use Rattle.list_laws.proofs.Lists.{all_get}
-use Rattle.bale_types.specs.declared.item.Entry.{Entry}
-use Rattle.bale_types.specs.declared.item.Item.{Item}
+use Rattle.bale_items.specs.declared.item.Entry.{Entry}
+use Rattle.bale_items.specs.declared.item.Item.{Item}
 use Rattle.route_tensor.specs.Neighbour.{hop_to, neighbour}
 use Rattle.route_tensor.specs.Tag.{IsFair, sender_of}
 use Rattle.hop_core.specs.Link.{In, no_in, is_empty, with_first_taken, read_on}

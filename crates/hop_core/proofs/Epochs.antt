@@ -5,7 +5,7 @@ use Rattle.std.specs.Option.{IsSome}
 use Rattle.std.proofs.lemmas.Bool.{cond-true, cond-false, false≢true, not_from_true, not_from_false}
 use Rattle.std.proofs.lemmas.List.{length-map, length-replicate, get_or-map, get_or-replicate, get_or-set_other, get_or-drop, length-drop}
 use Rattle.std.proofs.lemmas.List.Elements.{All-cons}
-use Rattle.bale_types.specs.declared.item.Entry.{Entry}
+use Rattle.bale_items.specs.declared.item.Entry.{Entry}
 use Rattle.item_buffer.specs.Capacity.{IsCap}
 use Rattle.item_buffer.specs.Contents.{Contents}
 use Rattle.route_tensor.specs.Grid.{IsGrid, ranks, dim}
@@ -14,6 +14,7 @@ use Rattle.route_tensor.specs.Neighbour.{hop_to}
 use Rattle.route_tensor.specs.Tag.{IsFair}
 use Rattle.route_tensor.proofs.Neighbours.{hop_to_has, hop_to_is, number_made, number_below}
 use Rattle.hop_core.specs.declared.phase.Phase.TheVariants as phase
+use Rattle.hop_core.specs.Lent.Lent.{Nothing}
 use Rattle.hop_core.specs.Link.{Out, In, no_out, no_in, is_empty, is_finished, with_back}
 use Rattle.hop_core.specs.State.{State, at_end, ins_of_hop, all_closed, all_read, phase_of, reopened, resumed}
 use Rattle.hop_core.specs.Standing.{IsOut, IsIn, IsKept, CanUnpull}
@@ -106,6 +107,7 @@ new_state dims r cap steady = record {
   done = false;
   phase = phase.Dormant;
   epoch = 0;
+  lent = Nothing;
   pulled = None;
 }
 

@@ -4,17 +4,18 @@ use Rattle.std.specs.Int.{from_bool}
 use Rattle.std.specs.List.{All, list_all}
 use Rattle.std.proofs.lemmas.List.{length-set, get_or-set_same, get_or-set_other}
 use Rattle.std.proofs.lemmas.Bool.{cases_eq, false≢true}
-use Rattle.bale_types.specs.declared.item.Entry.{Entry}
+use Rattle.bale_items.specs.declared.item.Entry.{Entry}
 use Rattle.item_buffer.specs.Contents.{Contents, IsFresh, blank}
 use Rattle.route_tensor.specs.Link.{links_before}
 use Rattle.route_tensor.specs.Neighbour.{hop_to}
 use Rattle.route_tensor.specs.Tag.{IsFair}
 use Rattle.route_tensor.proofs.Neighbours.{hop_to_has}
+use Rattle.hop_core.specs.Lent.{Lent}
 use Rattle.hop_core.specs.Link.{Out, In, no_out, no_in, is_empty, is_wanted, is_finished}
 use Rattle.hop_core.specs.State.{State, out_at, in_at, at_end, ins_of_hop}
 use Rattle.hop_core.specs.Standing.{IsOut, IsState, IsKept, failing}
 use Rattle.hop_core.proofs.Marks.{at_end_other}
-use Rattle.hop_core.proofs.Counts.{passes_if, fails_now}
+use Rattle.hop_core.proofs.Counts.{as_before, passes_if, fails_now}
 use Rattle.hop_core.proofs.Standing.{out_written, in_written, state_out, state_in, kept_out, none_some, none_entry, wanted_open, open_unfinished, ends_open, ends_marked, not_last, ins_before, coming_less}
 
 -- an empty parcel of any epoch
@@ -36,6 +37,42 @@ out_taken_kept st ends from count count' coming i e o p last k q b l wrote open'
     (empty_out st.dims st.cap (hop_to st.dims i) e o (ap (λ y. y.parcel) wrote ∙ b))
     (λ z. sym l ∙ (sym (ap (λ y. y.closed) wrote) ∙ z)))
     (omega (arith, less, k.open_is, passes_if (λ (y : Out). y.closed) st.outs i o no_out last (omega (arith, q, k.standing.all_outs)) open' (ap (λ y. y.closed) wrote)))
+
+-- another parcel is lent, or none
+pub lent_kept : (st : State) (ends : List Bool) (from count coming : ℕ) (l : Lent) → IsKept st ends from count coming → IsKept (record st { lent = l }) ends from count coming
+lent_kept st ends from count coming l k =
+    let s = k.standing in
+    record {
+      standing = record {
+        grid = s.grid;
+        rank = s.rank;
+        cap = s.cap;
+        all_outs = s.all_outs;
+        all_ins = s.all_ins;
+        each_out = s.each_out;
+        each_in = s.each_in;
+        closed_at_end = s.closed_at_end;
+        can_unpull = λ i e. let u = s.can_unpull i e in record { within = u.within; last_hop = u.last_hop; back = u.back };
+      };
+      ends_all = k.ends_all;
+      ends_each = k.ends_each;
+      from_low = k.from_low;
+      from_high = k.from_high;
+      open_is = k.open_is;
+      coming_is = k.coming_is;
+      from_none = k.from_none;
+    }
+
+-- the place of an open parcel that is lent
+pub out_lent_kept : (st : State) (ends : List Bool) (from count coming i e : ℕ) (o : Out) (p : Contents) (l : Lent) → IsKept st ends from count coming → i < sum st.dims →
+    p ≡ blank e → o ≡ record { parcel = p; closed = false } → (out_at st i).closed ≡ false → IsKept (record (out_written st i o) { lent = l }) ends from count coming
+out_lent_kept st ends from count coming i e o p l k q b wrote open' =
+    let empty = empty_out st.dims st.cap (hop_to st.dims i) e o (ap (λ y. y.parcel) wrote ∙ b) in
+    let still : o.closed ≡ false = ap (λ y. y.closed) wrote in
+    lent_kept (out_written st i o) ends from count coming l
+    (kept_out st ends from count count coming i o k
+    (state_out st i o k.standing q empty (λ c. absurd (false≢true (sym still ∙ c))))
+    (k.open_is ∙ sym (as_before (λ (y : Out). y.closed) st.outs i o no_out (omega (arith, q, k.standing.all_outs)) (still ∙ sym open'))))
 
 -- one was put back
 pub out_back_kept : (st : State) (ends : List Bool) (from count count' coming i : ℕ) (o : Out) (p : Contents) → IsKept st ends from count coming → i < sum st.dims →

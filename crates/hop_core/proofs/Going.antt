@@ -7,9 +7,9 @@ use Rattle.std.proofs.lemmas.List.Elements.{All-push, All-drop}
 use Rattle.std.proofs.lemmas.Option.{slice_get-get_or}
 use Rattle.list_laws.specs.Lists.{EachAt}
 use Rattle.list_laws.proofs.Lists.{each_set}
-use Rattle.bale_types.specs.declared.item.Entry.{Entry}
-use Rattle.bale_types.specs.declared.item.Item.{Item}
-use Rattle.bale_types.specs.declared.item.Tag.{Tag}
+use Rattle.bale_items.specs.declared.item.Entry.{Entry}
+use Rattle.bale_items.specs.declared.item.Item.{Item}
+use Rattle.bale_items.specs.declared.item.Tag.{Tag}
 use Rattle.route_tensor.specs.declared.routes.Onward.{Onward}
 use Rattle.route_tensor.specs.declared.routes.Neighbour.{Neighbour}
 use Rattle.route_tensor.specs.Link.{links_before}

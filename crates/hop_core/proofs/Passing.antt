@@ -4,8 +4,8 @@ use Rattle.std.specs.List.{filter}
 use Rattle.std.proofs.lemmas.Bool.{cases_eq, cases_Bool, and_parts, eqb-true, false_from_ne_true, cond-true, cond-false}
 use Rattle.std.proofs.lemmas.List.{map-append, append-nil, get_or-set_same, get_or-set_other}
 use Rattle.std.proofs.lemmas.List.Elements.{filter-append}
-use Rattle.bale_types.specs.declared.item.Entry.{Entry}
-use Rattle.bale_types.specs.declared.item.Item.{Item}
+use Rattle.bale_items.specs.declared.item.Entry.{Entry}
+use Rattle.bale_items.specs.declared.item.Item.{Item}
 use Rattle.route_tensor.specs.Grid.{ranks, dim, coord, place, IsGrid}
 use Rattle.route_tensor.specs.Link.{IsLink, IsOnRoute, links_before}
 use Rattle.route_tensor.specs.Neighbour.{hop_to, neighbour}

@@ -1,7 +1,7 @@
 -- The links of one rank, as contracts see them.
 use Rattle.std.specs.Prelude.{◌≡◌, ℕ, Bool, true, false, ◌==◌, ◌&&◌, ◌||◌, not, ◌<◌, ◌≤◌, List, length, slice_get}
 use Rattle.std.specs.Prelude.{slice_index_or, drop, Option, Some, None, ◌+◌, ◌-◌, ◌∷◌, ◌++◌, []}
-use Rattle.bale_types.specs.declared.item.Entry.{Entry}
+use Rattle.bale_items.specs.declared.item.Entry.{Entry}
 use Rattle.item_buffer.specs.Contents.{Contents, blank, skipped}
 
 -- A link out: its open parcel, and whether it is closed, that is, its last parcel of this epoch was sent.

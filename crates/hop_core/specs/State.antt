@@ -3,13 +3,14 @@ use Rattle.std.specs.Prelude.{ℕ, zero, suc, Bool, false, ◌-◌, ◌==◌, no
 use Rattle.std.specs.Prelude.{drop, slice_get, slice_set, slice_index_or, Option, Some, None}
 use Rattle.std.specs.List.{list_all}
 use Rattle.std.specs.Option.{option_map}
-use Rattle.bale_types.specs.declared.item.Item.{Item}
+use Rattle.bale_items.specs.declared.item.Item.{Item}
 use Rattle.route_tensor.specs.Grid.{dim, coord}
 use Rattle.route_tensor.specs.Link.{links_before}
 use Rattle.route_tensor.specs.Neighbour.{neighbour}
 use Rattle.route_tensor.specs.Tag.{sender_of, tag_at}
 use Rattle.hop_core.specs.declared.phase.Phase.{Phase}
 use Rattle.hop_core.specs.declared.phase.Phase.TheVariants.{Working, Endgame, Cleanup, Complete}
+use Rattle.hop_core.specs.Lent.{Lent}
 use Rattle.hop_core.specs.Link.{Out, In, no_out, no_in, is_empty, is_finished, with_entry, with_first_taken, with_back}
 
 -- The state of one rank. The links out and in stand by the number of the neighbour at the other end.
@@ -24,6 +25,7 @@ pub record State : Type 0 where
   pub done : Bool
   pub phase : Phase
   pub epoch : ℕ
+  pub lent : Lent
   pub pulled : Option ℕ
 
 abbrev pub out_at : State → ℕ → Out

@@ -6,7 +6,7 @@ ghost use Rattle.item_buffer.specs.Capacity.{IsCap};
 ghost use Rattle.hop_core.specs.State.{ins_of_hop, resumed};
 ghost use Rattle.hop_core.specs.Link.{no_in, is_empty, FindsUnread, is_wanted, is_finished, with_first_taken, with_back, read_on};
 
-use bale_types::{Entry, NoMemory};
+use bale_items::{Entry, NoMemory};
 use item_buffer::Parcel;
 use route_tensor::Routes;
 use std::alloc::Global;

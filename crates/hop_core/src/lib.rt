@@ -3,7 +3,9 @@
 //! A rank has one *open parcel* for each link that starts there, which `push` and `relay` fill, and one
 //! *inbox* for each link that ends there, which `relay` and `pull` empty. Whoever carries parcels between
 //! ranks exchanges them for an empty one: `take_out` for an open parcel that is due, and `put_back` where it
-//! could not be sent; `take_in` for an inbox that is wanted. No entry is copied.
+//! could not be sent; `take_in` for an inbox that is wanted. Or they borrow them: `lend_out` and `note_sent`,
+//! `lend_in` and `note_got`. A lent parcel leaves the state by a move, and the rank's spare one is in its place
+//! until it comes back. No entry is copied.
 //!
 //! An epoch ends by *last marks*. A hop has reached its end when nothing more can come to it: hop 1 once
 //! `set_done` was called, hop h + 1 once every link in of hop h has ended and its entries were passed on.
@@ -22,6 +24,9 @@
 //! | `push` | appends an item to the open parcel toward its destination, or finds it full |
 //! | `due`, `due_to`, `take_out`, `put_back` | whether an open parcel is to be sent; exchanges it, and back where it was not sent |
 //! | `wants`, `wants_from`, `take_in` | whether an inbox is to be filled; exchanges it for a parcel that came |
+//! | `lend_out`, `note_sent` | lends an open parcel that is due; takes it back, sent or not |
+//! | `lend_in`, `note_got` | lends an inbox that is wanted; takes it back, filled or not |
+//! | `take_spare` | gives the spare parcel away to a caller that carries parcels by exchanges; then nothing can be lent |
 //! | `relay` | passes entries on from one hop to the next |
 //! | `pull`, `unpull` | the next item that came, with its sender; puts it back |
 //! | `unread`, `batch`, `sender_of`, `pull_all` | the items of one inbox at once, as so many pulls would give them |
@@ -32,12 +37,15 @@
 //! A rank's calls name a link by the number of the neighbour at its other end, ports by its number in the grid:
 //! route_tensor's `specs/Neighbour` leads from one to the other (`link_to`, `link_from`) and back (`out_index`, `in_index`).
 //!
-//! The definitions, in the order in which to read them: `Link` and `State` (what contracts see of a rank), `Relay` (what it passes on).
+//! The definitions, in the order in which to read them: `Link`, `Lent` and `State` (what contracts see of a rank), `Lending` (what holds
+//! while a parcel is lent), `Relay` (what it passes on).
 //! `Standing` is what the code keeps up.
 #![tactic(auto)]
 
 mod carrying;
 mod in_links;
+mod lending;
+mod loan;
 mod out_links;
 mod phase;
 mod phases;

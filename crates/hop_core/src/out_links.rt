@@ -6,7 +6,7 @@ ghost use Rattle.std.specs.Prelude.{replicate};
 ghost use Rattle.item_buffer.specs.Capacity.{IsCap};
 ghost use Rattle.hop_core.specs.Link.{no_out, is_due, with_entry};
 
-use bale_types::{Entry, NoMemory};
+use bale_items::{Entry, NoMemory};
 use item_buffer::Parcel;
 use std::alloc::Global;
 use std::marker::Model;

@@ -12,7 +12,7 @@ ghost use Rattle.hop_core.specs.declared.phase.Phase.{Phase};
 use crate::in_links::{first_unread, hop_finished};
 use crate::relay::relay_hop;
 use crate::state::RankState;
-use bale_types::{Entry, Item, Tag};
+use bale_items::{Entry, Item, Tag};
 use route_tensor::Routes;
 
 impl<const CAP: usize, const HOPS: usize> RankState<CAP, HOPS> {

@@ -13,7 +13,7 @@ ghost use Rattle.std.specs.List.{list_all};
 
 use crate::in_links::InLink;
 use crate::out_links::OutLink;
-use bale_types::{Entry, Item};
+use bale_items::{Entry, Item};
 use route_tensor::Routes;
 
 /// Passes the entries of link in number `i` on, in order, until none is left or the open parcel of the first one is

@@ -6,13 +6,16 @@ ghost use Rattle.route_tensor.specs.Grid.{ranks, coord};
 ghost use Rattle.route_tensor.specs.Neighbour.{hop_to, neighbour};
 ghost use Rattle.route_tensor.specs.Tag.{IsFair, tag_at};
 ghost use Rattle.route_tensor.specs.Routes.{first_step};
+ghost use Rattle.hop_core.specs.Lent.Lent.{Nothing};
 ghost use Rattle.hop_core.specs.Link.{no_out, no_in};
 ghost use Rattle.hop_core.specs.State.{out_at, at_end, with_pushed};
 
 use crate::in_links::{InLink, links_in};
+use crate::loan::Loan;
 use crate::out_links::{OutLink, links_out};
 use crate::phase::{Phase, Pushed};
-use bale_types::{Entry, Item, NoMemory, Tag};
+use bale_items::{Entry, Item, NoMemory, Tag};
+use item_buffer::Parcel;
 use route_tensor::{Grid, Onward, Routes};
 use std::alloc::Global;
 use std::marker::Model;
@@ -30,6 +33,7 @@ pub struct RankState<const CAP: usize, const HOPS: usize> {
     pub(crate) ends: [bool; 3],
     pub(crate) phase: Phase,
     pub(crate) epoch: u64,
+    pub(crate) loan: Loan<CAP>,
     /// Below it no link in of the last hop has an entry.
     pub(crate) from: u32,
     /// How many links out are not closed.
@@ -42,6 +46,7 @@ pub struct RankState<const CAP: usize, const HOPS: usize> {
 
 impl<const CAP: usize, const HOPS: usize> Model for RankState<CAP, HOPS> {
     ghost use Rattle.std.specs.Prelude.{◌≡◌, length};
+    ghost use Rattle.hop_core.specs.Lent.{lent_by};
     ghost use Rattle.hop_core.specs.State.{State};
 
     ghost Value = { State };
@@ -58,6 +63,7 @@ impl<const CAP: usize, const HOPS: usize> Model for RankState<CAP, HOPS> {
       done = t.done;
       phase = t.phase;
       epoch = t.epoch;
+      lent = lent_by t.loan;
       pulled = t.pulled;
     } };
 
@@ -71,6 +77,7 @@ impl<const CAP: usize, const HOPS: usize> Model for RankState<CAP, HOPS> {
       done = t.done;
       phase = t.phase;
       epoch = t.epoch;
+      lent = lent_by t.loan;
       pulled = t.pulled;
     }) t.ends t.from t.still_open t.still_coming };
 }
@@ -93,6 +100,7 @@ impl<const CAP: usize, const HOPS: usize> RankState<CAP, HOPS> {
           done = false;
           phase = Phase.Dormant;
           epoch = 0;
+          lent = Nothing;
           pulled = None;
         }) }
     {
@@ -109,6 +117,7 @@ impl<const CAP: usize, const HOPS: usize> RankState<CAP, HOPS> {
             ends,
             phase: Phase::Dormant,
             epoch: 0,
+            loan: Loan::Nothing(Parcel::new(alloc)?),
             from,
             still_open: neighbours,
             still_coming: neighbours - from,

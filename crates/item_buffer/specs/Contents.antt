@@ -1,7 +1,7 @@
 -- What contracts see of a parcel, and what a link's log keeps of one.
 use Rattle.std.specs.Prelude.{◌≡◌, ℕ, ◌+◌, ◌-◌, ◌==◌, Bool, false, if◌then◌else◌, List, [], drop, slice_get, Option}
 use Rattle.std.specs.Prelude.{None}
-use Rattle.bale_types.specs.declared.item.Entry.{Entry}
+use Rattle.bale_items.specs.declared.item.Entry.{Entry}
 
 -- A parcel: the entries that nobody took yet, its two marks, the entry that `untake` would put back, and
 -- the number of entries taken since the last clear and not put back.

@@ -4,7 +4,7 @@ ghost use Rattle.item_buffer.specs.Capacity.{IsCap};
 ghost use Rattle.item_buffer.specs.Contents.{Contents, blank, skipped};
 
 use arrayvec::ArrayVec;
-use bale_types::{Entry, NoMemory};
+use bale_items::{Entry, NoMemory};
 use std::alloc::Global;
 use std::marker::Model;
 

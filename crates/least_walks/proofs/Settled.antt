@@ -3,7 +3,7 @@ use Rattle.std.proofs.Common.{ℕ, ℤ, pos, negsuc, true, not, All, get_or, ◌
 use Rattle.std.specs.Prelude.{Contains, nat_abs, int_lt}
 use Rattle.std.proofs.lemmas.Option.{same_Some}
 use Rattle.std.proofs.lemmas.List.Sums.{AllPass-from_list_all, sum_by-cons, sum_by-append}
-use Rattle.bale_types.specs.declared.triple.Triple.{Triple}
+use Rattle.bale_items.specs.declared.triple.Triple.{Triple}
 use Rattle.least_walks.specs.Walks.{IsWalk, no_negative, weight_of, AtMost, IsLeast}
 
 -- the weight of an edge

@@ -1,7 +1,7 @@
 -- The lines of more vertices go on from those of fewer.
 use Rattle.std.proofs.Common.{◌≡◌, ℕ, zero, suc, ◌+◌, ◌<◌, ◌≤◌, ◌-◌, ◌∙◌, ◌++◌, List, [], sym, ap, subst, arith, append_assoc, append-nil, add-one, Option}
-use Rattle.bale_streams.specs.Stream.{after, IsFront}
-use Rattle.bale_streams.proofs.Moves.{after-after}
+use Rattle.bale_types.specs.Stream.{after, IsFront}
+use Rattle.bale_types.proofs.Moves.{after-after}
 use Rattle.least_walks.specs.Lines.{vertex_line, sssp_lines}
 
 -- one line more

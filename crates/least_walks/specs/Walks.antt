@@ -1,7 +1,7 @@
 -- Walks over the entries of a matrix, and the least weight of a walk.
 use Rattle.std.specs.Prelude.{ℕ, pos, int_lt, Bool, not, ◌≡◌, ◌≤◌, ◌<◌, List, [], ◌∷◌, Option, Some, Contains, nat_abs}
 use Rattle.std.specs.List.{sum_by, list_all}
-use Rattle.bale_types.specs.declared.triple.Triple.{Triple}
+use Rattle.bale_items.specs.declared.triple.Triple.{Triple}
 use Rattle.mtx_text.specs.Sparse.{Sparse}
 
 -- A walk from vertex s to vertex t: a list of entries that join up, each an edge from its row to its column.

@@ -1,10 +1,10 @@
 //! The line of a vertex in an answer.
 
 ghost use Rattle.std.specs.Prelude.{◌≡◌, ◌<◌, ◌≤◌, ◌+◌, ◌^◌, ◌++◌, length};
-ghost use Rattle.bale_streams.specs.Out.{Writes};
+ghost use Rattle.bale_types.specs.Out.{Writes};
 ghost use Rattle.least_walks.specs.Lines.{weight_text, vertex_line};
 
-use bale_streams::{Failed, Line, Out, Sink};
+use bale_types::{Failed, Line, Out, Sink};
 
 /// Writes the line of vertex `v`: its number from 1, and its weight or `-`. No memory is taken.
 ///
@@ -20,7 +20,7 @@ pub fn write_vertex<K: Sink>(
     ensures { Writes K.taken K.faults (vertex_line v weight) out.old out.new result }
 {
     let mut line = Line::new();
-    line.natural((v + 1) as u64);
+    line.number((v + 1) as u64);
     line.byte(b' ');
     put_weight(&mut line, weight);
     line.byte(b'\n');
@@ -35,6 +35,6 @@ fn put_weight(line: &mut Line, weight: Option<u64>)
 {
     match weight {
         None => line.byte(b'-'),
-        Some(n) => line.natural(n),
+        Some(n) => line.number(n),
     }
 }

@@ -2,13 +2,13 @@
 
 ghost use Rattle.std.specs.Prelude.{◌≡◌, ◌<◌, ◌≤◌, ◌/◌, ◌+◌, ◌%◌, ◌++◌, [], ◌∷◌, OnOk, IfOk, length, map, replicate, slice_index_or};
 ghost use Rattle.std.specs.List.{All};
-ghost use Rattle.bale_types.specs.declared.triple.Triple.{Triple};
+ghost use Rattle.bale_items.specs.declared.triple.Triple.{Triple};
 ghost use Rattle.list_laws.specs.Lists.{changed_at, Begins};
 ghost use Rattle.least_walks.specs.Tables.{edge_of, kept, table_of, offer, offers};
 ghost use Rattle.least_walks.specs.code.Spans.{in_span, lists_of, IsWithin};
 
 use crate::vertices::Vertices;
-use bale_types::{Item, NoMemory, Triple, bits_of};
+use bale_items::{Item, NoMemory, Triple, bits_of};
 use std::alloc::Global;
 use std::marker::Model;
 

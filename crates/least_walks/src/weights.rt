@@ -3,7 +3,7 @@
 ghost use Rattle.std.specs.Prelude.{◌≡◌};
 ghost use Rattle.least_walks.specs.Walks.{no_negative};
 
-use bale_types::Triple;
+use bale_items::Triple;
 
 /// Whether no value is negative.
 pub fn no_negative(entries: &[Triple]) -> bool

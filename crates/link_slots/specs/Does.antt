@@ -1,6 +1,6 @@
 -- What a call on a slot port does, beyond what holds of all ports.
 use Rattle.std.specs.Prelude.{◌≡◌, ◌≢◌, ℕ, suc, ◌<◌, ◌≤◌, [], ◌∷◌, ◌++◌, length, Result, Ok}
-use Rattle.bale_types.specs.declared.fault.NoMemory.{NoMemory}
+use Rattle.bale_items.specs.declared.fault.NoMemory.{NoMemory}
 use Rattle.item_buffer.specs.Contents.{Contents}
 use Rattle.route_tensor.specs.Link.{links}
 use Rattle.route_tensor.specs.Ends.{hop_at, reader_at}

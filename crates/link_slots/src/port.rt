@@ -1,13 +1,13 @@
 //! A rank's port: its seat, with the bank.
 ghost use Rattle.atomic_table.specs.Seated.{TableId};
 ghost use Rattle.link_slots.specs.Seen.{named};
-ghost use Rattle.std.specs.Prelude.{◌≡◌, ◌+◌, ◌==◌, suc, length, refl};
-ghost use Rattle.list_laws.specs.Lists.{changed};
-ghost use Rattle.port_bank.specs.Calls.{posts_of, collects_of};
+ghost use Rattle.std.specs.Prelude.{◌≡◌, ◌+◌, ◌==◌, ◌++◌, ◌∷◌, [], length, refl};
+ghost use Rattle.port_bank.specs.Calls.{calls_of};
+ghost use Rattle.port_bank.specs.Calls.Call.{Post, Collect};
 
 use crate::seat::SlotSeat;
 use crate::slot_bank::SlotBank;
-use bale_types::NoMemory;
+use bale_items::NoMemory;
 use item_buffer::Parcel;
 use port_bank::{Calls, Collected, Fixed, Memory, Port, Posted};
 use std::mem;
@@ -57,7 +57,7 @@ impl<'a, const CAP: usize> Port<CAP> for SlotPort<'a, CAP> {
     ghost use Rattle.link_slots.specs.Logs.{out_of};
     ghost use Rattle.link_slots.specs.Does.{DidPost, DidCollect};
     ghost use Rattle.link_slots.specs.Seen.{posted_on, collected_from, freed, known, listened, noted_at, named};
-    ghost use Rattle.port_bank.specs.Calls.{posts_of, collects_of};
+    ghost use Rattle.port_bank.specs.Calls.{calls_of};
 
     type Memory = Fixed;
 
@@ -79,9 +79,7 @@ impl<'a, const CAP: usize> Port<CAP> for SlotPort<'a, CAP> {
 
     ghost idle = { λ p l. length (collected_from p.seat l) == known p.seat l };
 
-    ghost posts = { λ p. posts_of p.calls.value };
-
-    ghost collects = { λ p. collects_of p.calls.value };
+    ghost calls = { λ p. calls_of p.calls.value };
 
     ghost looks_out = { λ p l. (out_of p.seat.lists l).looks };
 
@@ -119,9 +117,7 @@ impl<'a, const CAP: usize> Port<CAP> for SlotPort<'a, CAP> {
 /// Notes a post on a link.
 #[inline]
 fn note_post(calls: &mut Snapshot<Calls>, link: u32)
-    ensures posts { posts_of calls.new.value
-        ≡ changed (posts_of calls.old.value) link (suc (posts_of calls.old.value link)) }
-    ensures collects { collects_of calls.new.value ≡ collects_of calls.old.value }
+    ensures { calls_of calls.new.value ≡ calls_of calls.old.value ++ Post link ∷ [] }
 {
     let before = mem::replace(calls, Snapshot::of(&Calls::None));
     let all = Calls::Post(before, Snapshot::of(&link));
@@ -131,9 +127,7 @@ fn note_post(calls: &mut Snapshot<Calls>, link: u32)
 /// Notes a collect from a link.
 #[inline]
 fn note_collect(calls: &mut Snapshot<Calls>, link: u32)
-    ensures collects { collects_of calls.new.value
-        ≡ changed (collects_of calls.old.value) link (suc (collects_of calls.old.value link)) }
-    ensures posts { posts_of calls.new.value ≡ posts_of calls.old.value }
+    ensures { calls_of calls.new.value ≡ calls_of calls.old.value ++ Collect link ∷ [] }
 {
     let before = mem::replace(calls, Snapshot::of(&Calls::None));
     let all = Calls::Collect(before, Snapshot::of(&link));

@@ -8,7 +8,7 @@ ghost use Rattle.port_bank.specs.Flow.{Begins};
 ghost use Rattle.port_bank.specs.Relay.{RelayLaw};
 ghost use Rattle.link_slots.specs.Logs.{out_of, in_of, with_out, with_in, taken_more, got_of};
 ghost use Rattle.link_slots.specs.Shape.{MayFollow};
-ghost use Rattle.bale_types.specs.Counters.{RoseOrFull};
+ghost use Rattle.bale_items.specs.Counters.{RoseOrFull};
 ghost use Rattle.port_bank.specs.Port.{changed, IsSlots};
 ghost use Rattle.link_slots.specs.Counts.{ended_after, HasPosted};
 ghost use Rattle.link_slots.specs.Doorbell.{is_due, HeardWhere, LookedFor};

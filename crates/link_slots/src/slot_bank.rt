@@ -24,7 +24,7 @@ use crate::table::plan::Plan;
 use crate::table::rule::{Board, Place};
 use crate::table::slot::Slot;
 use crate::table::wire::{Wire, wires_of};
-use bale_types::NoMemory;
+use bale_items::NoMemory;
 use route_tensor::Grid;
 use std::alloc::Global;
 use std::marker::Model;

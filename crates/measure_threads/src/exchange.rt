@@ -8,7 +8,7 @@ ghost use Rattle.rank_node.specs.Fits.{FitsGrid};
 
 use crate::command::{Buffer, Command};
 use crate::stop_watch::{StopWatch, Timed};
-use bale_types::NoMemory;
+use bale_items::NoMemory;
 use rand_core::utils::NextWord;
 use rand_pcg::Pcg32;
 use rank_group::{Finished, Via, drive_threads};

@@ -10,7 +10,7 @@ mod command;
 mod exchange;
 mod stop_watch;
 
-use bale_types::NoMemory;
+use bale_items::NoMemory;
 use command::{Command, command_of};
 use exchange::exchange;
 use std::env;

@@ -1,7 +1,7 @@
 //! Takes the time of a run, from the first rank's start to the last one's end.
 ghost use Rattle.std.specs.Prelude.{◌≡◌};
 
-use bale_types::{Item, NoMemory};
+use bale_items::{Item, NoMemory};
 use rank_group::Gate;
 use round_examples::Traffic;
 use round_program::Program;

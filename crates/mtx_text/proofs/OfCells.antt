@@ -1,7 +1,7 @@
 -- Cells in order are the entries of a matrix.
 use Rattle.std.proofs.Common.{ℕ, ◌≤◌, ◌≡◌, true, List, [], length, get_or, inl, inr, sym, subst}
 use Rattle.std.specs.List.{All, AllPairs}
-use Rattle.bale_types.specs.declared.triple.Triple.{Triple}
+use Rattle.bale_items.specs.declared.triple.Triple.{Triple}
 use Rattle.mtx_text.specs.declared.kind.Kind.{Kind}
 use Rattle.mtx_text.specs.Sparse.{Sparse, IsSparse, IsEntry, SamePlace}
 use Rattle.mtx_text.specs.Cells.{InOrder, is_before, raised, sparse}

@@ -4,7 +4,7 @@ use Rattle.std.proofs.lemmas.Bool.{cases_Bool}
 use Rattle.std.proofs.lemmas.List.{length-take}
 use Rattle.std.proofs.lemmas.List.Elements.{All-nil}
 use Rattle.std.specs.Prelude.{Ok, Err, if◌then◌else◌}
-use Rattle.bale_types.specs.declared.triple.Triple.{Triple}
+use Rattle.bale_items.specs.declared.triple.Triple.{Triple}
 use Rattle.mtx_text.specs.declared.banner.Form.{Form}
 use Rattle.mtx_text.specs.declared.refusal.Reason.TheVariants as reason
 use Rattle.mtx_text.specs.declared.sizes.Sizes.{Sizes}

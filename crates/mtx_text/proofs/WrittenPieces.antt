@@ -3,8 +3,8 @@ use Rattle.std.proofs.Common.{ℕ, ◌+◌, ◌<◌, ◌≡◌, List, [], ◌∷
 use Rattle.std.specs.List.{flat_map}
 use Rattle.std.proofs.lemmas.List.{append_assoc, append-nil, take_more}
 use Rattle.std.proofs.lemmas.List.Concat.{flat_map-append}
-use Rattle.bale_streams.specs.Stream.{after, IsFront}
-use Rattle.bale_streams.proofs.Moves.{after-after, after-nil, front_joined}
+use Rattle.bale_types.specs.Stream.{after, IsFront}
+use Rattle.bale_types.proofs.Moves.{after-after, after-nil, front_joined}
 
 pub pieces_more : {X : Type 0} (f : X → List ℕ) (old mid new : Option (List ℕ)) (xs : List X) (i : ℕ) (d : X) → i < length xs
     → new ≡ after mid (f (get_or xs i d)) → mid ≡ after old (flat_map f (take i xs)) → new ≡ after old (flat_map f (take (i + 1) xs))

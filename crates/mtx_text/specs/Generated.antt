@@ -1,7 +1,7 @@
 -- Matrices generated from a seed: an upper triangular band with a full diagonal, hidden under two permutations.
 use Rattle.std.specs.Prelude.{ℕ, ◌≤◌, ◌*◌, ◌+◌, ◌-◌, ◌%◌, List, [], ◌∷◌, map, take, pos, slice_index}
 use Rattle.std.specs.List.{range_with_len, flat_map}
-use Rattle.bale_types.specs.declared.triple.Triple.{Triple}
+use Rattle.bale_items.specs.declared.triple.Triple.{Triple}
 use Rattle.mtx_text.specs.declared.kind.Kind.TheVariants.{Integer}
 use Rattle.mtx_text.specs.Sparse.{Sparse}
 use Rattle.mtx_text.specs.Cells.{sparse}

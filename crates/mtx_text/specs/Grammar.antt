@@ -8,7 +8,7 @@ use Rattle.std.specs.List.{list_any}
 use Rattle.std.specs.Option.{option_map}
 use Rattle.std.specs.Char.{to_ascii_lowercase}
 use Rattle.std.specs.Str.{bytes_eq}
-use Rattle.bale_types.specs.declared.triple.Triple.{Triple}
+use Rattle.bale_items.specs.declared.triple.Triple.{Triple}
 use Rattle.mtx_text.specs.declared.integer.Integer.{Integer}
 use Rattle.mtx_text.specs.declared.kind.Kind.{Kind}
 use Rattle.mtx_text.specs.declared.kind.Kind.TheVariants as kind

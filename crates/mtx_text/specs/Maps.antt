@@ -1,7 +1,7 @@
 -- Triples as a map from places to values.
 use Rattle.std.specs.Prelude.{◌≡◌, ℕ, ◌==◌, ◌&&◌, Bool, List, [], ◌∷◌, ℤ, Option, Some, None, Contains, slice_get}
 use Rattle.std.specs.Prelude.{if◌then◌else◌}
-use Rattle.bale_types.specs.declared.triple.Triple.{Triple}
+use Rattle.bale_items.specs.declared.triple.Triple.{Triple}
 use Rattle.mtx_text.specs.Sparse.{Sparse}
 
 -- The triple stands at row i and column j.

@@ -1,7 +1,7 @@
 -- What a matrix is: its sizes, its kind, and its entries as a list of triples, counted from 0.
 use Rattle.std.specs.Prelude.{◌≡◌, ℕ, ◌≤◌, ◌<◌, List, length, pos, nat_abs}
 use Rattle.std.specs.List.{All, AllPairs}
-use Rattle.bale_types.specs.declared.triple.Triple.{Triple}
+use Rattle.bale_items.specs.declared.triple.Triple.{Triple}
 use Rattle.mtx_text.specs.declared.kind.Kind.{Kind}
 use Rattle.mtx_text.specs.declared.kind.Kind.TheVariants.{Pattern}
 

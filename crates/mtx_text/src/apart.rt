@@ -9,7 +9,7 @@ ghost use Rattle.mtx_text.specs.Sparse.{SamePlace};
 ghost use Rattle.mtx_text.specs.code.Chains.{IsWithin, AreIndexed, AreLinked, IsRowApart};
 
 use crate::links::link;
-use bale_types::Triple;
+use bale_items::Triple;
 use std::alloc::{AllocError, Global};
 
 /// Whether no place comes twice; rows and columns are below `side`. The answer false may also come of

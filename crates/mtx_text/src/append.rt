@@ -1,8 +1,8 @@
 //! Triples put behind a list that mostly has room for them.
 ghost use Rattle.std.specs.Prelude.{◌++◌, ◌∷◌, []};
-ghost use Rattle.bale_types.specs.Changes.{AllOrNothing};
+ghost use Rattle.bale_items.specs.Changes.{AllOrNothing};
 
-use bale_types::Triple;
+use bale_items::Triple;
 use std::alloc::AllocError;
 
 /// Appends one triple.

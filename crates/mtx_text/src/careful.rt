@@ -1,6 +1,6 @@
 //! Entry lines read with a look at every place that came before: slower, and exact where a place comes twice.
 ghost use Rattle.std.specs.Prelude.{◌≡◌, ◌+◌, [], true, List, length, IfOk};
-ghost use Rattle.bale_types.specs.declared.triple.Triple.{Triple};
+ghost use Rattle.bale_items.specs.declared.triple.Triple.{Triple};
 ghost use Rattle.mtx_text.specs.Sparse.{AreSides, IsInside};
 ghost use Rattle.mtx_text.specs.Lines.{lines_of, lines_from, words_of};
 ghost use Rattle.mtx_text.specs.Grammar.{entry_of, entries_of};
@@ -14,7 +14,7 @@ use crate::lines::next_kept;
 use crate::places::{add, is_taken};
 use crate::refusal::{BadLine, ParseFault, Reason};
 use crate::sizes::Sizes;
-use bale_types::Triple;
+use bale_items::Triple;
 use std::alloc::Global;
 use std::collections::BTreeSet;
 

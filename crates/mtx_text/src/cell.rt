@@ -15,7 +15,7 @@ use crate::numbers::{Fields, read_fields};
 use crate::plain::{Plain, front_of_three, last_word, plain_three, plain_two, short_value};
 use crate::refusal::Reason;
 use crate::sizes::Sizes;
-use bale_types::Triple;
+use bale_items::Triple;
 
 /// Absolute values at most.
 const MOST_VALUE: u64 = 1_000_000_000_000;

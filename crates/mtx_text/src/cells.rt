@@ -1,8 +1,8 @@
 //! Ordered maps from places to values, in which raises come in any order at the cost of a push each.
 ghost use Rattle.std.specs.Prelude.{◌≡◌, ◌≢◌, ◌+◌, ◌≤◌, ◌++◌, ◌∷◌, ◌==◌, true, not, [], List, length, slice_get, take, Ok, IfOk, OnOk, if◌then◌else◌};
 ghost use Rattle.std.specs.Int.{int_max};
-ghost use Rattle.bale_types.specs.Changes.{AllOrNothing};
-ghost use Rattle.bale_types.specs.declared.triple.Triple.{Triple};
+ghost use Rattle.bale_items.specs.Changes.{AllOrNothing};
+ghost use Rattle.bale_items.specs.declared.triple.Triple.{Triple};
 ghost use Rattle.mtx_text.specs.Grammar.{has_place};
 ghost use Rattle.mtx_text.specs.Maps.{is_at};
 ghost use Rattle.mtx_text.specs.Cells.{is_before, comes_before, InOrder, raised, raised_all, gathered, first_from};
@@ -10,7 +10,7 @@ ghost use Rattle.mtx_text.specs.code.PlaceOrder.{IsOrderedFront};
 
 use crate::append::append;
 use crate::place_order::{comes_before, gather, greater, is_before};
-use bale_types::{NoMemory, Triple};
+use bale_items::{NoMemory, Triple};
 use std::alloc::{AllocError, Global};
 use std::marker::Model;
 use std::mem;
@@ -32,7 +32,7 @@ pub struct Cells {
 
 impl Model for Cells {
     ghost use Rattle.std.specs.Prelude.{◌≤◌, List, take, vec_len};
-    ghost use Rattle.bale_types.specs.declared.triple.Triple.{Triple};
+    ghost use Rattle.bale_items.specs.declared.triple.Triple.{Triple};
     ghost use Rattle.mtx_text.specs.Maps.{is_at};
     ghost use Rattle.mtx_text.specs.Cells.{is_before, comes_before, InOrder, gathered};
 

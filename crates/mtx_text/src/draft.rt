@@ -11,7 +11,7 @@ use crate::cell::{mirror, plain_cell, read_cell};
 use crate::lines::{Kept, first_kept, next_kept};
 use crate::refusal::{BadLine, Reason};
 use crate::sizes::Sizes;
-use bale_types::Triple;
+use bale_items::Triple;
 use std::alloc::{AllocError, Global};
 
 /// The entries of the lines that were read, and the line that ended the reading, where it is bad.

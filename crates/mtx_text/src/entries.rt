@@ -15,7 +15,7 @@ use crate::careful::read_carefully;
 use crate::draft::{Draft, read_draft};
 use crate::refusal::ParseFault;
 use crate::sizes::Sizes;
-use bale_types::Triple;
+use bale_items::Triple;
 use std::alloc::Global;
 
 /// The entries of a text whose first line is line `number`.

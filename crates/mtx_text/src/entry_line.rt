@@ -1,14 +1,14 @@
 //! Lines of entries, whose rows are written once: entries of one row share their front.
 ghost use Rattle.std.specs.Prelude.{◌≡◌, ◌+◌, ◌≤◌, ◌<◌, ℕ, List, [], length};
-ghost use Rattle.bale_streams.specs.declared.line.TheConstants.{LINE_ROOM};
-ghost use Rattle.bale_streams.specs.Digits.{IsLaid};
-ghost use Rattle.bale_types.specs.declared.triple.Triple.{Triple};
+ghost use Rattle.bale_types.specs.declared.line.TheConstants.{LINE_ROOM};
+ghost use Rattle.bale_types.specs.Digits.{IsLaid};
+ghost use Rattle.bale_items.specs.declared.triple.Triple.{Triple};
 ghost use Rattle.mtx_text.specs.Written.{entry_text};
 ghost use Rattle.mtx_text.specs.code.Fronts.{rest_text, line_of, Names};
 
 use crate::kind::Kind;
-use bale_streams::{Fours, LINE_ROOM, Line, LineText, lay_byte, lay_integer, lay_natural_by};
-use bale_types::Triple;
+use bale_items::Triple;
+use bale_types::{Fours, LINE_ROOM, Line, LineText, lay_byte, lay_integer, lay_natural_by};
 use std::marker::Model;
 
 /// The line of one entry after another, seen as its bytes. Its front, which names the row, stays where the next entry has the
@@ -94,7 +94,7 @@ fn name(front: &mut Line, row: u64)
     ensures { Names row front.new }
 {
     front.cut(0);
-    front.natural(row);
+    front.number(row);
     front.byte(b' ');
 }
 

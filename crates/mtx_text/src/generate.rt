@@ -7,7 +7,7 @@ ghost use Rattle.mtx_text.specs.code.Bands.{Hides};
 use crate::kind::Kind;
 use crate::matrix::Matrix;
 use crate::seeds::Words;
-use bale_types::{NoMemory, Triple};
+use bale_items::{NoMemory, Triple};
 use std::alloc::{AllocError, Global};
 
 /// The matrix of `n` rows and columns and `m` entries that a seed stands for: an upper triangular band with a

@@ -3,7 +3,7 @@ ghost use Rattle.std.specs.Prelude.{◌≡◌, length, slice_get};
 ghost use Rattle.mtx_text.specs.Sparse.{Sparse, IsSparse};
 
 use crate::kind::Kind;
-use bale_types::Triple;
+use bale_items::Triple;
 use std::marker::Model;
 
 /// A sparse matrix: its sizes, its kind, and its entries in order, each a triple counted from 0.

@@ -9,7 +9,7 @@ use crate::cells::Cells;
 use crate::kind::Kind;
 use crate::matrix::Matrix;
 use crate::place_order::gather;
-use bale_types::{NoMemory, Triple};
+use bale_items::{NoMemory, Triple};
 use std::alloc::Global;
 
 /// Entries of a matrix at most.

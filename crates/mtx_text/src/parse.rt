@@ -13,7 +13,7 @@ use crate::lines::{cut_line, next_kept};
 use crate::matrix::Matrix;
 use crate::refusal::{ParseFault, Reason};
 use crate::sizes::read_sizes;
-use bale_types::Triple;
+use bale_items::Triple;
 use std::alloc::Global;
 
 /// Bytes of a text at most.

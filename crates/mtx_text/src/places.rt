@@ -1,13 +1,13 @@
 //! Which places of a matrix are taken, while its entries are read.
 ghost use Rattle.std.specs.Prelude.{◌≡◌, ◌<◌, ◌∷◌, [], true, List, OnOk};
-ghost use Rattle.bale_types.specs.declared.triple.Triple.{Triple};
+ghost use Rattle.bale_items.specs.declared.triple.Triple.{Triple};
 ghost use Rattle.mtx_text.specs.Grammar.{has_place, stands_for};
 ghost use Rattle.mtx_text.specs.Sparse.{IsInside};
 ghost use Rattle.mtx_text.specs.code.Places.{Tracks, narrow, key_of, AddsTo};
 
 use crate::banner::Symmetry;
 use crate::cell::mirror;
-use bale_types::Triple;
+use bale_items::Triple;
 use std::alloc::{AllocError, Global};
 use std::collections::BTreeSet;
 

@@ -1,13 +1,13 @@
 //! The matrix of the text that a source gives.
 ghost use Rattle.std.specs.Prelude.{◌≡◌, ℕ, List, Some, Err, drop};
-ghost use Rattle.bale_streams.specs.Stream.{Blames, TakesUpTo};
+ghost use Rattle.bale_types.specs.Stream.{Blames, TakesUpTo};
 ghost use Rattle.mtx_text.specs.Grammar.{matrix_of};
 ghost use Rattle.mtx_text.specs.Answers.{ReadGives, OnDecided};
 
 use crate::matrix::Matrix;
 use crate::parse::{MOST_BYTES, parse_matrix};
 use crate::refusal::{ParseFault, ReadFault};
-use bale_streams::{Source, Unread, read_text};
+use bale_types::{Source, Unread, read_text};
 use std::alloc::Global;
 
 /// The matrix of the text that a source still has to give, or its first bad line.

@@ -4,7 +4,7 @@ ghost use Rattle.std.specs.List.{range_with_len};
 ghost use Rattle.mtx_text.specs.Permutations.{Permutes};
 ghost use Rattle.mtx_text.specs.Seeds.{step, word, begun, drawn};
 
-use bale_types::NoMemory;
+use bale_items::NoMemory;
 use rand_core::utils::NextWord;
 use rand_pcg::Pcg32;
 use std::alloc::{AllocError, Global};

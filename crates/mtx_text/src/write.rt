@@ -1,16 +1,16 @@
 //! A matrix as text.
 ghost use Rattle.std.specs.Prelude.{◌≡◌, ◌≤◌, ◌<◌, Ok, length};
 ghost use Rattle.std.specs.List.{flat_map};
-ghost use Rattle.bale_streams.specs.Out.{Writes};
-ghost use Rattle.bale_types.specs.declared.triple.Triple.{Triple};
+ghost use Rattle.bale_types.specs.Out.{Writes};
+ghost use Rattle.bale_items.specs.declared.triple.Triple.{Triple};
 ghost use Rattle.mtx_text.specs.Grammar.{matrix_of};
 ghost use Rattle.mtx_text.specs.Written.{banner_text, size_text, entry_text, text_of};
 
 use crate::entry_line::EntryLine;
 use crate::kind::Kind;
 use crate::matrix::Matrix;
-use bale_streams::{Failed, Line, Out, Sink};
-use bale_types::Triple;
+use bale_items::Triple;
+use bale_types::{Failed, Line, Out, Sink};
 
 /// Appends the text of a matrix: banner, sizes, and a line for each entry in the order of its list. Takes no
 /// memory. What was written is read as the same matrix, where it has no more entries than a text may have.
@@ -42,11 +42,11 @@ fn write_sizes<K: Sink>(out: &mut Out<'_, K>, m: &Matrix) -> Result<(), Failed>
     ensures { Writes K.taken K.faults (size_text m.now) out.old out.new result }
 {
     let mut line = Line::new();
-    line.natural(m.rows() as u64);
+    line.number(m.rows() as u64);
     line.byte(b' ');
-    line.natural(m.cols() as u64);
+    line.number(m.cols() as u64);
     line.byte(b' ');
-    line.natural(m.len() as u64);
+    line.number(m.len() as u64);
     line.byte(b'\n');
     out.line(&line)
 }

@@ -17,3 +17,4 @@ pub mod Turning
 pub mod Rings
 pub mod Few
 pub mod Frames
+pub mod Sweeping

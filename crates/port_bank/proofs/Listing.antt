@@ -1,7 +1,7 @@
 -- Lists by epoch and rank, and parts of them.
 use Rattle.std.proofs.Common.{◌≡◌, ◌≢◌, ℕ, zero, suc, ◌+◌, ◌-◌, ◌<◌, ◌≤◌, ◌==◌, ◌&&◌, nat_lt, Bool, true, false, cond, List, [], ◌∷◌, ◌++◌, length, take, slice_get, Option, Some, inl, inr, refl, sym, ap, ◌∙◌, arith, eq-eqb, ne_eqb, length-append}
 use Rattle.std.proofs.lemmas.Bool.{cases_eq, cases_lt, lt-ltb, le-ltb}
-use Rattle.bale_types.specs.declared.item.Item.{Item}
+use Rattle.bale_items.specs.declared.item.Item.{Item}
 use Rattle.list_laws.proofs.Lists.{get_before, get_last}
 use Rattle.list_laws.specs.Lists.{Begins}
 use Rattle.port_bank.specs.Machine.{ItemLists, for_ranks, with_item, without_last, Part, IsThrough, done_of}

@@ -1,20 +1,25 @@
--- How often a port was asked.
-use Rattle.std.specs.Prelude.{ℕ, suc, Bool, if◌then◌else◌}
-use Rattle.list_laws.specs.Lists.{changed}
+-- The calls on a port, in order.
+use Rattle.std.specs.Prelude.{ℕ, zero, suc, Bool, if◌then◌else◌, List, [], ◌∷◌, ◌++◌}
 use Rattle.port_bank.specs.declared.calls.Calls.{Calls, None, Post', Collect'}
 
--- How many of the calls posted on a link, and how many collected from it.
-abbrev pub posts_of : Calls → ℕ → ℕ
-posts_of None = λ l. 0
-posts_of (Post' marker before link) = changed (posts_of before) link.value (suc (posts_of before link.value))
-posts_of (Collect' marker before link) = posts_of before
+-- A call on a port, by its link: a post that had memory, or a collect.
+pub data Call : Type 0 where
+  Post : ℕ → Call
+  Collect : ℕ → Call
 
-abbrev pub collects_of : Calls → ℕ → ℕ
-collects_of None = λ l. 0
-collects_of (Post' marker before link) = collects_of before
-collects_of (Collect' marker before link) =
-    changed (collects_of before) link.value (suc (collects_of before link.value))
+-- The calls that were made, the latest one last.
+abbrev pub calls_of : Calls → List Call
+calls_of None = []
+calls_of (Post' marker before link) = calls_of before ++ Post link.value ∷ []
+calls_of (Collect' marker before link) = calls_of before ++ Collect link.value ∷ []
 
--- How often a port was asked, where it was asked once more or wasn't.
-abbrev pub once_more_if : Bool → ℕ → ℕ
-once_more_if asked n = if asked then suc n else n
+-- A call, if it was made.
+abbrev pub once_if : Bool → Call → List Call
+once_if made call = if made then call ∷ [] else []
+
+-- The calls of a sweep over the first n of some links, in order: one on each link on which it makes one.
+-- swept made call n is call 0, call 1, .., call (n - 1), without those that are not made.
+-- Of three posts of which the second is not made, it is Post 0, Post 2.
+abbrev pub swept : (ℕ → Bool) → (ℕ → Call) → ℕ → List Call
+swept made call zero = []
+swept made call (suc n) = swept made call n ++ once_if (made n) (call n)

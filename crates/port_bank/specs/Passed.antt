@@ -1,6 +1,6 @@
 -- What went over a link, where nothing of it is kept.
 use Rattle.std.specs.Prelude.{List, [], ◌∷◌, ◌++◌}
-use Rattle.bale_types.specs.declared.item.Entry.{Entry}
+use Rattle.bale_items.specs.declared.item.Entry.{Entry}
 use Rattle.item_buffer.specs.Contents.{Shipped}
 use Rattle.port_bank.specs.declared.log.Entries.{Entries, None, And'}
 use Rattle.port_bank.specs.declared.log.Log.{Log, Nothing, Then'}

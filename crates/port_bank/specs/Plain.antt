@@ -1,8 +1,8 @@
 -- What contracts see of a plain bank.
 use Rattle.std.specs.Prelude.{◌≡◌, ℕ, ◌+◌, ◌<◌, ◌==◌, Bool, false, List, [], ◌∷◌, ◌++◌, map, replicate, length}
 use Rattle.std.specs.Prelude.{slice_index_or, slice_set, Result, Ok, IsErr}
-use Rattle.bale_types.specs.declared.fault.NoMemory.{NoMemory}
-use Rattle.bale_types.specs.Counters.{next_count}
+use Rattle.bale_items.specs.declared.fault.NoMemory.{NoMemory}
+use Rattle.bale_items.specs.Counters.{next_count}
 use Rattle.item_buffer.specs.Capacity.{IsCap}
 use Rattle.item_buffer.specs.Contents.{Shipped}
 use Rattle.port_bank.specs.Logs.{Logs, starting_at, ending_at, starting_elsewhere, ending_elsewhere}

@@ -1,7 +1,7 @@
 -- What a call on a port leaves as it was.
 use Rattle.std.specs.Prelude.{◌≡◌, ℕ, List, ◌==◌, ◌||◌, IsTrue, Result}
 pub use Rattle.list_laws.specs.Lists.{changed}
-use Rattle.bale_types.specs.declared.fault.NoMemory.{NoMemory}
+use Rattle.bale_items.specs.declared.fault.NoMemory.{NoMemory}
 use Rattle.item_buffer.specs.Contents.{Contents}
 use Rattle.port_bank.specs.declared.port.Posted.{Posted}
 use Rattle.port_bank.specs.declared.port.Collected.{Collected}
@@ -29,17 +29,15 @@ pub record PortStays {P : Type 0} (rank_of : P → ℕ) (dims_of : P → List �
   pub slots : slots_of new ≡ slots_of old
   pub others : others_of new ≡ others_of old
 
--- What a collect leaves of the links out: what was posted there, and how often the port was asked and looked.
-pub record OutsStay {P : Type 0} (sent_of : P → Logs) (posts_of looks_of : P → ℕ → ℕ) (old new : P) : Type 0 where
+-- What a collect leaves of the links out: what was posted there, and how often the port looked.
+pub record OutsStay {P : Type 0} (sent_of : P → Logs) (looks_of : P → ℕ → ℕ) (old new : P) : Type 0 where
   pub sent : sent_of new ≡ sent_of old
-  pub posts : posts_of new ≡ posts_of old
   pub looks_out : looks_of new ≡ looks_of old
 
--- What a post leaves of the links in: what was collected there, and how often the port was asked, looked and listened.
-pub record InsStay {P : Type 0} (got_of : P → Logs) (collects_of looks_of listens_of noted_of : P → ℕ → ℕ)
+-- What a post leaves of the links in: what was collected there, and how often the port looked and listened.
+pub record InsStay {P : Type 0} (got_of : P → Logs) (looks_of listens_of noted_of : P → ℕ → ℕ)
     (old new : P) : Type 0 where
   pub got : got_of new ≡ got_of old
-  pub collects : collects_of new ≡ collects_of old
   pub looks_in : looks_of new ≡ looks_of old
   pub listens : listens_of new ≡ listens_of old
   pub noted : noted_of new ≡ noted_of old

@@ -1,7 +1,7 @@
 -- What contracts see of a closed bank, be it plain or of slots.
 use Rattle.std.specs.Prelude.{◌≡◌, ℕ, ◌<◌, Bool, List, [], ◌∷◌, length, min, slice_index_or}
 use Rattle.std.specs.List.{All}
-use Rattle.bale_types.specs.declared.item.Item.{Item}
+use Rattle.bale_items.specs.declared.item.Item.{Item}
 use Rattle.item_buffer.specs.Contents.{Shipped}
 use Rattle.route_tensor.specs.Grid.{ranks, IsGrid}
 use Rattle.route_tensor.specs.Link.{links}

@@ -1,7 +1,7 @@
 //! The calls on a port, for contracts alone: none of them is kept.
-ghost use Rattle.std.specs.Prelude.{◌≡◌, suc, true, false};
-ghost use Rattle.list_laws.specs.Lists.{changed};
-ghost use Rattle.port_bank.specs.Calls.{posts_of, collects_of};
+ghost use Rattle.std.specs.Prelude.{◌≡◌, true, false, ◌++◌, ◌∷◌, []};
+ghost use Rattle.port_bank.specs.Calls.{calls_of};
+ghost use Rattle.port_bank.specs.Calls.Call.{Post, Collect};
 
 use std::snapshot::Snapshot;
 
@@ -14,11 +14,9 @@ pub enum Calls {
 }
 
 impl Calls {
-    /// Counts a post on a link, where it had memory.
+    /// Appends a post on a link, if it had memory.
     pub fn note_post(&mut self, link: u32, had_memory: bool)
-        ensures posts { had_memory ≡ true
-            → posts_of self.new ≡ changed (posts_of self.old) link (suc (posts_of self.old link)) }
-        ensures collects { collects_of self.new ≡ collects_of self.old }
+        ensures post { had_memory ≡ true → calls_of self.new ≡ calls_of self.old ++ Post link ∷ [] }
         ensures none { had_memory ≡ false → self.new ≡ self.old }
     {
         if had_memory {
@@ -26,11 +24,9 @@ impl Calls {
         }
     }
 
-    /// Counts a collect from a link.
+    /// Appends a collect from a link.
     pub fn note_collect(&mut self, link: u32)
-        ensures collects { collects_of self.new
-            ≡ changed (collects_of self.old) link (suc (collects_of self.old link)) }
-        ensures posts { posts_of self.new ≡ posts_of self.old }
+        ensures { calls_of self.new ≡ calls_of self.old ++ Collect link ∷ [] }
     {
         *self = Calls::Collect(Snapshot::of(self), Snapshot::of(&link));
     }

@@ -3,7 +3,7 @@ ghost use Rattle.std.specs.Prelude.{◌≡◌, ◌++◌, [], ◌∷◌};
 ghost use Rattle.item_buffer.specs.Contents.{shipped};
 ghost use Rattle.port_bank.specs.Passed.{entries_of, parcels_of};
 
-use bale_types::Entry;
+use bale_items::Entry;
 use item_buffer::Parcel;
 use std::snapshot::Snapshot;
 

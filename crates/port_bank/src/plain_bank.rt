@@ -1,6 +1,6 @@
 //! The plain bank: the links of all ranks on one thread.
 ghost use Rattle.std.specs.Prelude.{◌≡◌, ◌≢◌, ◌+◌, ◌<◌, ◌≤◌, length, IfOk, Ok};
-ghost use Rattle.bale_types.specs.Counters.{RoseOrFull};
+ghost use Rattle.bale_items.specs.Counters.{RoseOrFull};
 ghost use Rattle.item_buffer.specs.Capacity.{IsCap};
 ghost use Rattle.item_buffer.specs.Contents.{shipped, arrived, blank};
 ghost use Rattle.route_tensor.specs.Grid.{ranks};
@@ -18,7 +18,7 @@ use crate::plain_port::PlainPort;
 use crate::plain_round::PlainRound;
 use crate::ring::Ring;
 use crate::{Collected, Posted};
-use bale_types::NoMemory;
+use bale_items::NoMemory;
 use item_buffer::Parcel;
 use route_tensor::Grid;
 use std::alloc::Global;

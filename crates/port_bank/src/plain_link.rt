@@ -9,7 +9,7 @@ ghost use Rattle.port_bank.specs.code.PlainLink.{PostedOn, CollectedOn};
 use crate::log::Log;
 use crate::ring::Ring;
 use crate::{Collected, Posted};
-use bale_types::NoMemory;
+use bale_items::NoMemory;
 use item_buffer::Parcel;
 use std::marker::Model;
 

@@ -6,7 +6,7 @@ ghost use Rattle.port_bank.specs.Round.{IsRound};
 
 use crate::plain_bank::PlainBank;
 use crate::{Calls, Collected, Growing, Port, Posted};
-use bale_types::NoMemory;
+use bale_items::NoMemory;
 use item_buffer::Parcel;
 
 /// The port of one rank, which owns the bank.
@@ -57,7 +57,7 @@ impl<const CAP: usize> Port<CAP> for PlainPort<CAP> {
     ghost use Rattle.port_bank.specs.Logs.{starting_at, ending_at};
     ghost use Rattle.item_buffer.specs.Contents.{shipped};
     ghost use Rattle.port_bank.specs.Plain.{channel_at, sent_of, got_of, others_of, crowded_of, idle_of, DidPost, DidCollect};
-    ghost use Rattle.port_bank.specs.Calls.{posts_of, collects_of};
+    ghost use Rattle.port_bank.specs.Calls.{calls_of};
 
     type Memory = Growing;
 
@@ -79,9 +79,7 @@ impl<const CAP: usize> Port<CAP> for PlainPort<CAP> {
 
     ghost idle = { λ p l. idle_of p.rank p.bank l };
 
-    ghost posts = { λ p. posts_of p.calls };
-
-    ghost collects = { λ p. collects_of p.calls };
+    ghost calls = { λ p. calls_of p.calls };
 
     ghost looks_out = { λ p l. (channel_at p.bank l).looks_out };
 

@@ -1,18 +1,20 @@
 //! What a rank can do on its own links, whatever carries the parcels.
-ghost use Rattle.std.specs.Prelude.{◌≡◌, ◌≢◌, ℕ, suc, ◌+◌, ◌<◌, ◌≤◌, ◌==◌, Bool, true, false, List, length, IsOk, IsErr, Ok};
+ghost use Rattle.std.specs.Prelude.{◌≡◌, ◌≢◌, ℕ, ◌+◌, ◌<◌, ◌≤◌, ◌==◌, ◌++◌, ◌∷◌, [], Bool, true, false, List, length, IsOk, IsErr, Ok};
 ghost use Rattle.std.specs.List.{All};
-ghost use Rattle.bale_types.specs.Counters.{RoseOrFull};
+ghost use Rattle.bale_items.specs.Counters.{RoseOrFull};
 ghost use Rattle.item_buffer.specs.Contents.{shipped, arrived, blank};
 ghost use Rattle.route_tensor.specs.Link.{links};
 ghost use Rattle.route_tensor.specs.Tag.{IsFair};
 ghost use Rattle.route_tensor.specs.Ends.{hop_at, sender_at, reader_at};
+ghost use Rattle.port_bank.specs.Calls.{Call};
+ghost use Rattle.port_bank.specs.Calls.Call.{Post, Collect};
 ghost use Rattle.port_bank.specs.Logs.{Logs, lasts, added};
 ghost use Rattle.list_laws.specs.Lists.{Begins, changed};
 ghost use Rattle.port_bank.specs.Relay.{RelayLaw};
 ghost use Rattle.port_bank.specs.Port.{Others, PortStays, OutsStay, InsStay, IsSlots, PostDoes, CollectDoes};
 
 use crate::memory::Memory;
-use bale_types::NoMemory;
+use bale_items::NoMemory;
 use item_buffer::Parcel;
 
 /// What became of a parcel that was posted.
@@ -41,13 +43,13 @@ pub enum Collected {
 /// | `sent`, `got` | each link: all parcels that the rank posted there, or collected there; empty where the link isn't its own |
 /// | `freed`, `crowded` | each link out: how many of its parcels the port knows to be collected, and whether that leaves no slot |
 /// | `known`, `idle` | each link in: how many parcels the port knows to be posted, and whether it collected all those |
-/// | `posts`, `collects` | each link: how often `post` was called and had memory, and how often `collect` |
+/// | `calls` | the calls of `post` that had memory and those of `collect`, in the order in which they were made |
 /// | `looks_out`, `looks_in` | each link: how often `post` looked for room, and how often `collect` looked |
 /// | `listens`, `noted` | each link in: how often the port listened for it, and as of the end of its latest collect |
 /// | `others` | what belongs to others, which no call changes |
 /// | `post_does`, `collect_does` | what a port says of itself, beyond what holds of all ports |
 ///
-/// The counts but the first two are kept in 64 bits and stand still at the last number.
+/// `looks_out`, `looks_in`, `listens` and `noted` are kept in 64 bits and stand still at the last number.
 pub trait Port<const CAP: usize>: Drop {
     /// What `post` needs of memory.
     type Memory: Memory;
@@ -70,9 +72,7 @@ pub trait Port<const CAP: usize>: Drop {
 
     ghost idle: { Self → ℕ → Bool };
 
-    ghost posts: { Self → ℕ → ℕ };
-
-    ghost collects: { Self → ℕ → ℕ };
+    ghost calls: { Self → List Call };
 
     ghost looks_out: { Self → ℕ → ℕ };
 
@@ -133,10 +133,10 @@ pub trait Port<const CAP: usize>: Drop {
         // In each case: what the port knows changes at this link alone, and of its links in nothing does.
         ensures crowded_here { crowded self.new ≡ changed (crowded self.old) link (crowded self.new link) }
         ensures idle_here { idle self.new ≡ changed (idle self.old) link (idle self.new link) }
-        ensures posts { IsOk result → posts self.new ≡ changed (posts self.old) link (suc (posts self.old link)) }
+        ensures calls { IsOk result → calls self.new ≡ calls self.old ++ Post link ∷ [] }
         ensures looks_out { (l : ℕ) → looks_out self.old l ≤ looks_out self.new l }
         ensures looks_here { looks_out self.new ≡ changed (looks_out self.old) link (looks_out self.new link) }
-        ensures same_ins { InsStay got collects looks_in listens noted self.old self.new }
+        ensures same_ins { InsStay got looks_in listens noted self.old self.new }
         ensures same_port { PortStays rank dims slots others self.old self.new };
 
     /// Collects the next parcel of a link in, in place of the empty one at hand, which is of the epoch that the
@@ -172,13 +172,13 @@ pub trait Port<const CAP: usize>: Drop {
 
         // In each case: what the port knows changes at this link alone, and of its links out nothing does.
         ensures does { collect_does self.old link p.new result self.new }
-        ensures collects { collects self.new ≡ changed (collects self.old) link (suc (collects self.old link)) }
+        ensures calls { calls self.new ≡ calls self.old ++ Collect link ∷ [] }
         ensures noted { noted self.new ≡ changed (noted self.old) link (listens self.new link) }
         ensures listens { (l : ℕ) → listens self.old l ≤ listens self.new l }
         ensures looks_in { (l : ℕ) → looks_in self.old l ≤ looks_in self.new l }
         ensures crowded_here { crowded self.new ≡ changed (crowded self.old) link (crowded self.new link) }
         ensures idle_here { idle self.new ≡ changed (idle self.old) link (idle self.new link) }
-        ensures same_outs { OutsStay sent posts looks_out self.old self.new }
+        ensures same_outs { OutsStay sent looks_out self.old self.new }
         ensures same_port { PortStays rank dims slots others self.old self.new };
 
     ghost crowded_is: { (p : Self) (l : ℕ) → crowded p l ≡ (length (sent p l) == freed p l + slots p) };

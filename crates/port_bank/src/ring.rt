@@ -4,7 +4,7 @@ ghost use Rattle.item_buffer.specs.Capacity.{IsCap};
 ghost use Rattle.item_buffer.specs.Contents.{shipped, arrived, blank};
 ghost use Rattle.port_bank.specs.Ring.{on_way, IsRing};
 
-use bale_types::NoMemory;
+use bale_items::NoMemory;
 use item_buffer::Parcel;
 use std::alloc::Global;
 use std::marker::Model;

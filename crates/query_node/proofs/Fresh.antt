@@ -3,7 +3,7 @@ use Rattle.std.proofs.Common.{◌≡◌, ◌≢◌, ℕ, zero, suc, ◌<◌, ◌
 use Rattle.std.proofs.lemmas.Bool.{false≢true}
 use Rattle.std.proofs.lemmas.List.Elements.{All-nil}
 use Rattle.std.proofs.Math.Seq.{take-nil}
-use Rattle.bale_types.specs.declared.item.Item.{Item}
+use Rattle.bale_items.specs.declared.item.Item.{Item}
 use Rattle.route_tensor.specs.Grid.{ranks}
 use Rattle.route_tensor.specs.Neighbour.{in_index, out_index}
 use Rattle.port_bank.specs.Logs.{Logs}

@@ -1,6 +1,6 @@
 -- The items of the first so many.
 use Rattle.std.proofs.Common.{◌≡◌, ℕ, zero, suc, ◌≤◌, List, [], ◌∷◌, ◌++◌, length, take, drop, refl, sym, ap, ◌∙◌, arith}
-use Rattle.bale_types.specs.declared.item.Item.{Item}
+use Rattle.bale_items.specs.declared.item.Item.{Item}
 use Rattle.list_laws.specs.Lists.{Begins}
 use Rattle.round_program.specs.Canonical.{items_of}
 use Rattle.round_program.proofs.Items.{items_push}

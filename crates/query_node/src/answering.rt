@@ -8,7 +8,7 @@ ghost use Rattle.convey.specs.Buffers.{is_complete};
 ghost use Rattle.rank_node.specs.Movers.{AllRead};
 ghost use Rattle.query_node.specs.Taking.{MayAnswer, Answers, PushesAnswer, RefusesAnswer};
 
-use bale_types::Item;
+use bale_items::Item;
 use convey::{Conveyor, Phase, Pushed};
 use round_program::Asker;
 

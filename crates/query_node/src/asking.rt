@@ -2,7 +2,7 @@
 
 ghost use Rattle.std.specs.Prelude.{◌≡◌, ℕ, ◌+◌, ◌<◌, ◌≤◌, true, false, length, slice_get, Some};
 ghost use Rattle.std.specs.List.{All};
-ghost use Rattle.bale_types.specs.declared.item.Item.{Item};
+ghost use Rattle.bale_items.specs.declared.item.Item.{Item};
 ghost use Rattle.route_tensor.specs.Grid.{ranks};
 ghost use Rattle.port_bank.specs.Logs.{Logs};
 ghost use Rattle.convey.specs.Buffers.{buffers_of};
@@ -12,7 +12,7 @@ ghost use Rattle.round_program.specs.Replies.{asks_of};
 ghost use Rattle.rank_node.specs.Pulls.{PushedOn};
 ghost use Rattle.query_node.specs.Taking.{Pushes};
 
-use bale_types::Item;
+use bale_items::Item;
 use convey::{Conveyor, Phase, Pushed};
 use round_program::Asker;
 

@@ -13,7 +13,7 @@ use crate::asking::push_queries;
 use crate::hearing::hear_all;
 use crate::line::Line;
 use crate::lines::all_lines;
-use bale_types::{NoMemory, Steps};
+use bale_items::{NoMemory, Steps};
 use convey::{Conveyor, Phase, Progress};
 use port_bank::Port;
 use rank_node::Turn;

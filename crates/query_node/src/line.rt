@@ -2,7 +2,7 @@
 
 ghost use Rattle.std.specs.Prelude.{◌≡◌, [], ◌∷◌, ◌++◌, OnOk, OnErr, drop, slice_get};
 
-use bale_types::NoMemory;
+use bale_items::NoMemory;
 use std::alloc::Global;
 use std::marker::Model;
 

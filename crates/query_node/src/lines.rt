@@ -5,7 +5,7 @@ ghost use Rattle.std.specs.List.{All};
 ghost use Rattle.query_node.specs.Lines.{HasLines};
 
 use crate::line::Line;
-use bale_types::NoMemory;
+use bale_items::NoMemory;
 use round_program::Asker;
 use std::alloc::Global;
 

@@ -1,19 +1,33 @@
--- The ranks of a drive on threads, as it runs.
-use Rattle.std.specs.Prelude.{◌≡◌, ⊤, Bool, true}
+-- The workers of a run, as the caller sees them.
+use Rattle.std.specs.Prelude.{◌≡◌, ⊤, ℕ, Bool, true, false, List}
+use Rattle.std.specs.List.{list_all}
 use Rattle.rank_crews.specs.declared.child.Child.{Child}
 use Rattle.rank_crews.specs.declared.child.Child.TheVariants.{There, Here}
+use Rattle.rank_crews.specs.Runs.{AllRan, MakesOneTurn}
 
--- what a rank was before its first turn, whose thread runs or that the caller keeps
-abbrev pub first_of : {A J : Type 0} → Child A J → A
-first_of (There away) = away.was.value
+-- what a worker's ranks were before their first turn
+abbrev pub first_of : {A J : Type 0} → Child A J → List A
+first_of (There worker) = worker.was.value
 first_of (Here kept) = kept.first
 
--- its thread runs, or its run is over
-abbrev pub HasEnded : {A J : Type 0} → (A → Bool) → Child A J → Type 0
-HasEnded over (There away) = ⊤
-HasEnded over (Here kept) = over kept.now ≡ true
+-- whether it is on its thread
+abbrev pub is_there : {A J : Type 0} → Child A J → Bool
+is_there (There worker) = true
+is_there (Here kept) = false
 
--- its thread runs, or it is as it was given
+-- its ranks are here, and the run of each is over
+abbrev pub HasEnded : {A J : Type 0} → (A → Bool) → Child A J → Type 0
+HasEnded over (There worker) = ⊥
+HasEnded over (Here kept) = list_all over kept.now ≡ true
+
+-- it is on its thread, or its ranks are as they were given
 abbrev pub IsUnturned : {A J : Type 0} → Child A J → Type 0
-IsUnturned (There away) = ⊤
+IsUnturned (There worker) = ⊤
 IsUnturned (Here kept) = kept.now ≡ kept.first
+
+-- a sweep of the caller: of a worker whose ranks are here, each rank whose run wasn't over made one turn
+abbrev pub IsSwept : {A J : Type 0} → (A → Bool) → (A → ℕ) → Child A J → Child A J → Type 0
+IsSwept over turns (There x) (There y) = ⊤
+IsSwept over turns (Here x) (Here y) = AllRan (MakesOneTurn over turns) x.now y.now
+IsSwept over turns (There x) (Here y) = ⊥
+IsSwept over turns (Here x) (There y) = ⊥

@@ -1,5 +1,5 @@
 -- What turns leave of ranks, whatever a rank is.
-use Rattle.std.specs.Prelude.{◌≡◌, ℕ, Bool, true, List, length, slice_get, Some}
+use Rattle.std.specs.Prelude.{◌≡◌, ℕ, ◌+◌, Bool, true, false, List, length, slice_get, Some}
 use Rattle.std.specs.List.{All}
 
 -- The laws of a relation `ran` between a rank before some turns and after them.
@@ -13,12 +13,17 @@ pub record AllRan {S : Type 0} (ran : S → S → Type 0) (xs ys : List S) : Typ
   pub all : length ys ≡ length xs
   pub each : (r : ℕ) (x y : S) → slice_get xs r ≡ Some x → slice_get ys r ≡ Some y → ran x y
 
+-- A rank's part in a sweep, from x to y: one turn if its run wasn't over, and else none.
+pub record MakesOneTurn {S : Type 0} (over : S → Bool) (turns : S → ℕ) (x y : S) : Type 0 where
+  pub going : over x ≡ false → turns y ≡ turns x + 1
+  pub ended : over x ≡ true → y ≡ x
+
 -- And the run of each is over.
 pub record AllEnded {S : Type 0} (turned : S → S → Type 0) (is_over : S → Bool) (xs ys : List S) : Type 0 where
   pub ran : AllRan turned xs ys
   pub over : All (λ y. is_over y ≡ true) ys
 
--- A rank that is turned, and what it was before.
+-- What is turned, and what it was before.
 pub record TurnedState (S : Type 0) : Type 0 where
   pub first : S
   pub now : S

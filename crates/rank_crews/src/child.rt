@@ -1,63 +1,101 @@
-//! A rank that a thread drives, or that the caller keeps.
-ghost use Rattle.std.specs.Prelude.{◌≡◌, []};
+//! A worker of the run, as its caller sees it: on its thread, or back with the caller.
+ghost use Rattle.std.specs.Prelude.{◌≡◌, false, ◌∷◌, []};
 ghost use Rattle.rtrb.specs.Ring.{received};
+ghost use Rattle.rank_crews.specs.Runs.{AllRan};
 ghost use Rattle.rank_crews.specs.Rings.{CameBack};
-ghost use Rattle.rank_crews.specs.Children.{first_of, IsUnturned};
+ghost use Rattle.rank_crews.specs.Children.{first_of, is_there, IsUnturned};
 
+use crate::assignment::Assignment;
 use crate::gate::Gate;
-use crate::rank_thread::{RankThread, SameRank, run_what_comes};
-use crate::seated::Seated;
-use crate::shared::{Shared, Telling};
+use crate::seated::{GateLog, Seated};
+use crate::shared::Shared;
 use crate::turned::Turned;
+use crate::worker_thread::{SameRanks, WorkerThread, run_what_comes};
 use rtrb::{Consumer, RingBuffer};
 use std::alloc::Global;
+use std::mem;
 use std::snapshot::Snapshot;
 use std::sync::Wait;
-use std::thread::Scope;
-use std::time::Clock;
+use std::thread::{Scope, Threads};
 
-/// A rank whose thread runs, or that the caller keeps.
+/// A worker on its thread, or ranks that the caller polls.
 #[derive(Drop)]
-pub enum Child<A: Seated, J: Telling> {
-    There(RankThread<A, J>),
+pub enum Child<'s, A: Seated, J: GateLog> {
+    There(WorkerThread<'s, A, J>),
     Here(Turned<A, J>),
 }
 
-/// Starts a thread that drives a rank to the end of its run, or until all are called home. Where it
-/// can't be started, the caller keeps the rank, as it was.
+/// Starts a thread for a worker. If it can't be started, the caller keeps the ranks, as they were.
 pub(crate) fn start<
     's,
     E,
-    R: Wait + Clock + Sync + 's,
+    R: Wait + Sync + 's,
     A: Seated + Send + 's,
     G: Gate + Sync + 's,
-    J: Telling + Send + Sync + 's,
->(scope: &Scope<'s, E>, shared: &'s Shared<'s, R, G, J>, alloc: Global, at: A) -> Child<A, J>
-    ensures first { first_of result ≡ at }
+    J: GateLog + Send + Sync + 's,
+>(
+    scope: &Scope<'s, E>,
+    shared: &'s Shared<'s, R, G, J>,
+    alloc: Global,
+    worker: usize,
+    ranks: Assignment<A>,
+) -> Child<'s, A, J>
+    ensures first { first_of result ≡ ranks }
     ensures unturned { IsUnturned result }
 {
+    let Some(returned) = shared.returned_of(worker) else {
+        return keep(ranks);
+    };
     let Ok((mut ring, end)) = RingBuffer::new(alloc, 1) else {
-        return keep(at);
+        return keep(ranks);
     };
     let started = scope.spawn_with(
-        SameRank::<A, J>::new(&end),
-        move || -> (A, Consumer<A>)
+        SameRanks::<A, J>::new(&end),
+        move || -> (Assignment<A>, Consumer<Assignment<A>>)
             requires { received end ≡ [] }
-            ensures { CameBack (A.ran J.told) end result.1 result.0 }
-        { run_what_comes(shared, end) },
+            ensures { CameBack (AllRan (A.ran J.told)) end result.1 result.0 }
+        { run_what_comes(shared, returned, end) },
     );
     let Ok(handle) = started else {
-        return keep(at);
+        return keep(ranks);
     };
-    let was = Snapshot::of(&at);
-    ring.push_reserved(at);
-    Child::There(RankThread { handle, ring, was })
+    let was = Snapshot::of(&ranks);
+    ring.push_reserved(ranks);
+    Child::There(WorkerThread {
+        handle,
+        ring,
+        returned,
+        was,
+    })
 }
 
-/// Keeps a rank here.
-pub(crate) fn keep<A: Seated, J: Telling>(at: A) -> Child<A, J>
-    ensures first { first_of result ≡ at }
+/// Keeps ranks with the caller.
+pub(crate) fn keep<'s, A: Seated, J: GateLog>(ranks: Assignment<A>) -> Child<'s, A, J>
+    ensures first { first_of result ≡ ranks }
+    ensures here { is_there result ≡ false }
     ensures unturned { IsUnturned result }
 {
-    Child::Here(Turned::new(at))
+    Child::Here(Turned::new(ranks))
+}
+
+/// Takes the ranks of a worker back if its thread has returned.
+pub(crate) fn take_back<'s, R: Threads, A: Seated, J: GateLog>(
+    rt: &R,
+    alloc: Global,
+    child: &mut Child<'s, A, J>,
+)
+    ensures same { first_of child.new ≡ first_of child.old }
+{
+    let returned = match child {
+        Child::There(worker) => worker.returned(),
+        Child::Here(_) => None,
+    };
+    let Some(shown) = returned else {
+        return;
+    };
+    let was = mem::replace(child, keep(Assignment::empty(alloc)));
+    *child = match was {
+        Child::There(worker) => Child::Here(worker.join(rt, &shown)),
+        Child::Here(kept) => Child::Here(kept),
+    };
 }

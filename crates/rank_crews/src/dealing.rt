@@ -1,25 +1,24 @@
-//! Ranks are dealt to crews, and gathered from them.
+//! Ranks are dealt to workers, and gathered from them.
 ghost use Rattle.std.specs.Prelude.{◌≡◌, ◌<◌, ◌≤◌, true, List, [], length, replicate, vec_capacity, IfOk};
 ghost use Rattle.std.specs.List.{All};
 ghost use Rattle.rank_crews.specs.Runs.{AllRan};
 ghost use Rattle.rank_crews.specs.Crews.{AreDealt, HaveRun};
 
-use crate::crew::Crew;
-use crate::seated::Seated;
-use crate::shared::Telling;
-use bale_types::NoMemory;
+use crate::assignment::Assignment;
+use crate::seated::{GateLog, Seated};
+use bale_items::NoMemory;
 use std::alloc::Global;
 
-/// Deals ranks to so many crews, rank r to crew r mod `count`.
+/// Deals ranks to so many workers, rank r to worker r mod `count`.
 pub(crate) fn deal<A: Seated>(
     alloc: Global,
     count: usize,
     all: Vec<A>,
-) -> Result<Vec<Crew<A>>, NoMemory>
+) -> Result<Vec<Assignment<A>>, NoMemory>
     requires some { 0 < count }
     ensures { IfOk result (λ crews. AreDealt count 0 all.items crews.items) }
 {
-    let mut crews = no_crews(alloc, count, all.len())?;
+    let mut crews = no_ranks(alloc, count, all.len())?;
     let mut all = all;
     while let Some(at) = all.pop() {
         crews[all.len() % count].join(at)?;
@@ -27,21 +26,25 @@ pub(crate) fn deal<A: Seated>(
     Ok(crews)
 }
 
-/// So many crews without a rank, with room for so many ranks.
-fn no_crews<A: Seated>(alloc: Global, count: usize, ranks: usize) -> Result<Vec<Crew<A>>, NoMemory>
+/// So many workers without a rank, with room for so many ranks.
+fn no_ranks<A: Seated>(
+    alloc: Global,
+    count: usize,
+    ranks: usize,
+) -> Result<Vec<Assignment<A>>, NoMemory>
     requires some { 0 < count }
     ensures { IfOk result (λ crews. crews.items ≡ replicate count []) }
 {
     let mut crews = Vec::with_capacity(alloc, count)?;
     for _ in 0..count {
-        crews.push_reserved(Crew::new(alloc, ranks.div_ceil(count))?);
+        crews.push_reserved(Assignment::new(alloc, ranks.div_ceil(count))?);
     }
     Ok(crews)
 }
 
-/// Takes all ranks back, which were dealt to the crews, and puts them in order.
-pub(crate) fn gather<A: Seated, J: Telling>(
-    crews: Vec<Crew<A>>,
+/// Takes all ranks back, which were dealt to the workers, and puts them in order.
+pub(crate) fn gather<A: Seated, J: GateLog>(
+    crews: Vec<Assignment<A>>,
     count: usize,
     ended: Vec<A>,
 ) -> Vec<A>

@@ -3,23 +3,17 @@ ghost use Rattle.std.specs.Prelude.{◌≡◌, ℕ, Bool, true};
 
 /// A gate before the turns: a test can hold a rank there. It has no condition, and returns.
 ///
-/// `told` stands for the turns that a gate was told of. A drive, which serves every gate, knows
-/// nothing of it but what `turn` ensures: it can show that this gate was told of a turn only by
-/// telling it. An impl need not say it.
+/// `told` is the set of turns that a gate was notified of. A drive works with every gate, so it knows nothing of this set except
+/// what `turn` ensures: the only way to show that a turn is in it is to notify the gate. An impl need not define it.
 pub trait Gate {
     ghost told: { Self → ℕ → ℕ → Bool } = { λ g r n. true };
 
     /// Is called before turn `n` of a rank, counted from 0 over the whole run.
     fn turn(&self, rank: u32, n: u64)
         ensures told { told self.now rank n ≡ true };
-
-    /// Whether it holds a rank until others were turned. Then each crew stays on its thread, also beside other work on the machine.
-    fn holds(&self) -> bool {
-        false
-    }
 }
 
-/// A gate that holds nobody.
+/// A gate that holds no rank.
 #[derive(Clone, Copy, PartialEq, Eq, Debug)]
 pub struct OpenGate;
 

@@ -1,16 +1,16 @@
 //! Turns that are made to their end by a count of their own.
 ghost use Rattle.std.specs.Prelude.{◌<◌};
-ghost use Rattle.bale_types.specs.Ledgers.{IsBlankOf};
+ghost use Rattle.bale_items.specs.Ledgers.{IsBlankOf};
 
-use bale_types::Steps;
+use bale_items::Steps;
 use std::marker::Brand;
 use std::sync::ledger::{Blank, Ledger};
 
-/// Ranks that one thread turns until their runs are over.
+/// What one thread does with its ranks, turn by turn.
 pub(crate) trait Job {
     ghost ran: { Self → Self → Type 0 };
 
-    /// Turns them to the end. Each turn raises `steps` by one.
+    /// Does it to the end. Each turn raises `steps` by one.
     fn work<L: Ledger>(self, steps: &mut Steps<L>) -> Self
         ensures { ran self result };
 }

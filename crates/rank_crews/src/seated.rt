@@ -1,23 +1,35 @@
-//! A rank at its ports: what goes to a rank's thread, and comes back.
-ghost use Rattle.std.specs.Prelude.{◌≡◌, ℕ, ◌+◌, Bool, false};
+//! A rank at its ports: what goes to a worker's thread, and comes back.
+ghost use Rattle.std.specs.Prelude.{◌≡◌, ℕ, ◌+◌, Bool, true, false};
 ghost use Rattle.rank_crews.specs.Runs.{RanLaws};
 
-use crate::gate::Gate;
-use bale_types::Steps;
+use bale_items::Steps;
+use std::marker::Brand;
 use std::sync::Wait;
 use std::sync::ledger::Ledger;
 
-/// A rank that sits at its ports and is turned until its run is over. Whoever turns it knows nothing of the other ranks.
+/// The turns that the gate of a run was notified of. Each run has its own.
+pub trait GateLog {
+    ghost told: { ℕ → ℕ → Bool };
+}
+
+impl GateLog for Brand {
+    ghost told = { λ r n. false };
+}
+
+/// A rank that sits at its ports and is polled until its run is over. Whoever polls it knows nothing of the other ranks.
 ///
 /// `ran told x y` says that turns took a rank from x to y, and that `told` holds of the rank and the
-/// number of each of them; `turns` counts all turns up to some moment, and rises as `steps` does.
+/// number of each of them; `turns` counts all turns up to some moment.
 ///
 /// | Call | Needs | Answer |
 /// |---|---|---|
+/// | `rank`, `turn_count` | | its number, and how many turns it has made |
 /// | `is_over` | | whether its run is over |
-/// | `turn` | its run isn't over | one turn, of which the gate is told before; whether the rank got on: else no parcel moved |
+/// | `turn` | its run isn't over, and the gate was notified of this turn | one turn; whether the rank made progress: if not, no parcel moved |
 pub trait Seated: Drop {
     ghost ran: { (ℕ → ℕ → Bool) → Self → Self → Type 0 };
+
+    ghost number: { Self → ℕ };
 
     ghost turns: { Self → ℕ };
 
@@ -25,16 +37,27 @@ pub trait Seated: Drop {
 
     ghost still: { Self → Self → Type 0 };
 
-    /// Whether its run is over: it isn't turned again.
+    /// Its number.
+    fn rank(&self) -> u32
+        ensures { result ≡ number self.now };
+
+    /// How many turns it has made.
+    fn turn_count(&self) -> u64
+        ensures { result ≡ turns self.now };
+
+    /// Whether its run is over: it isn't polled again.
     fn is_over(&self) -> bool
         ensures { result ≡ over self.now };
 
-    /// Makes one turn, once the gate was told of it. Answers whether it got on: a node does where it pushed an item or ended an
-    /// epoch, and where a parcel was posted or collected. Where it didn't, others may have to be turned first.
-    fn turn<R: Wait, G: Gate, L: Ledger>(&mut self, rt: &R, gate: &G, steps: &mut Steps<L>) -> bool
+    /// Makes one turn. Answers whether it made progress: a node does if it pushed an item or ended an epoch, and if a parcel was
+    /// posted or collected. If it made none, other ranks may have to be polled first.
+    fn turn<R: Wait, J: GateLog, L: Ledger>(&mut self, rt: &R, steps: &mut Steps<L>) -> bool
         requires going { over self.old ≡ false }
-        ensures ran { ran (G.told gate.now) self.old self.new }
-        ensures counted { turns self.new + steps.old ≡ turns self.old + steps.new }
+        // The gate was notified of this turn before it is made.
+        requires notified { J.told (number self.old) (turns self.old) ≡ true }
+        ensures ran { ran J.told self.old self.new }
+        ensures one { turns self.new ≡ turns self.old + 1 }
+        ensures counted { steps.new ≡ steps.old + 1 }
         ensures still { result ≡ false → still self.old self.new };
 
     ghost laws: { (told : ℕ → ℕ → Bool) → RanLaws (ran told) };

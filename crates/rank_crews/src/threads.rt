@@ -1,59 +1,60 @@
 //! All ranks of a drive on threads, side by side.
-ghost use Rattle.std.specs.Prelude.{◌≡◌, ◌<◌, ◌≤◌, true, List, [], map, length, reverse, vec_capacity, IfOk};
-ghost use Rattle.std.specs.List.{All};
+ghost use Rattle.std.specs.Prelude.{◌≡◌, ℕ, ◌+◌, ◌<◌, ◌≤◌, true, List, [], Some, map, length, reverse, slice_get, vec_capacity, IfOk};
+ghost use Rattle.std.specs.List.{All, list_all};
+ghost use Rattle.rank_crews.specs.declared.child.Child.{Child};
 ghost use Rattle.rank_crews.specs.Runs.{AllRan, AllEnded};
-ghost use Rattle.rank_crews.specs.Children.{first_of};
+ghost use Rattle.rank_crews.specs.Children.{first_of, is_there, HasEnded, IsUnturned};
 
+use crate::assignment::Assignment;
+use crate::caller::run_caller;
 use crate::child::{Child, keep, start};
-use crate::crew::Crew;
+use crate::counts::{ThreadLimit, Workers};
 use crate::dealing::{deal, gather};
 use crate::gate::Gate;
-use crate::keeper::run_kept;
-use crate::lone_rank::run_home;
-use crate::seated::Seated;
-use crate::shared::{Shared, Telling};
-use bale_types::NoMemory;
+use crate::seated::{GateLog, Seated};
+use crate::shared::Shared;
+use bale_items::NoMemory;
 use std::alloc::Global;
 use std::marker::Brand;
 use std::sync::Wait;
 use std::thread;
 use std::thread::{Scope, Threads};
-use std::time::Clock;
 
-/// Turns all ranks until the run of each is over, in `crews` crews, rank r in crew r mod `crews`. The first `threads` crews have a
-/// thread each, and those here that have none. It waits for its threads.
+/// Polls all ranks until the run of each is over, with so many workers, rank r by worker r mod their number. The first of them
+/// have a thread each, as many as `threads` says, and the caller polls the ranks of those that have none. It waits for its
+/// threads.
 ///
-/// A thread that others keep from its processor calls all crews home, and the caller turns them to their end by itself, unless the
-/// gate holds ranks.
+/// If other work keeps the threads from their processors, all ranks fall back to the caller's thread, which polls those of each
+/// worker as soon as that returns.
 ///
 /// # Errors
 /// `NoMemory` comes before the first turn.
-pub fn run_together<R: Threads + Wait + Clock + Sync, A: Seated + Send, G: Gate + Sync>(
+pub fn run_together<R: Threads + Wait + Sync, A: Seated + Send, G: Gate + Sync>(
     rt: &R,
     alloc: Global,
     gate: &G,
-    crews: usize,
-    threads: usize,
+    workers: Workers,
+    threads: ThreadLimit,
     all: Vec<A>,
 ) -> Result<Vec<A>, NoMemory>
-    // This gate was told of each turn.
+    // This gate was notified of each turn before it was made.
     ensures { IfOk result (λ ended. AllEnded (A.ran (G.told gate.now)) A.over all.items ended.items) }
 {
-    run_crews::<R, A, G, Brand>(rt, alloc, gate, crews, threads, all)
+    run_workers::<R, A, G, Brand>(rt, alloc, gate, workers, threads, all)
 }
 
-/// The same, of a run of its own.
-fn run_crews<
-    R: Threads + Wait + Clock + Sync,
+/// The same as a run of its own, so that its type names what its gate was notified of.
+fn run_workers<
+    R: Threads + Wait + Sync,
     A: Seated + Send,
     G: Gate + Sync,
-    J: Telling + Send + Sync,
+    J: GateLog + Send + Sync,
 >(
     rt: &R,
     alloc: Global,
     gate: &G,
-    crews: usize,
-    threads: usize,
+    workers: Workers,
+    threads: ThreadLimit,
     all: Vec<A>,
 ) -> Result<Vec<A>, NoMemory>
     requires tells { G.told gate.now ≡ J.told }
@@ -61,37 +62,39 @@ fn run_crews<
 {
     let count = all.len();
     let ended = Vec::with_capacity(alloc, count)?;
-    let dealt = deal(alloc, crews.max(1), all)?;
-    let shared = Shared::<R, G, J>::new(rt, gate);
+    let dealt = deal(alloc, workers.number.max(1), all)?;
+    let shared = Shared::<R, G, J>::new(rt, alloc, gate, dealt.len())?;
     let over = run_each(&shared, alloc, threads, dealt)?;
     Ok(gather::<A, J>(over, count, ended))
 }
 
-/// Turns all ranks, each by itself: the first `threads` of them on a thread each, and those here that have none.
+/// Polls the ranks of all workers, the first on a thread each, as many as `threads` says.
 ///
 /// # Errors
 /// `NoMemory` comes before the first turn.
 fn run_each<
     'd,
-    R: Threads + Wait + Clock + Sync,
+    R: Threads + Wait + Sync,
     A: Seated + Send,
     G: Gate + Sync,
-    J: Telling + Send + Sync,
+    J: GateLog + Send + Sync,
 >(
     shared: &Shared<'d, R, G, J>,
     alloc: Global,
-    threads: usize,
-    all: Vec<A>,
-) -> Result<Vec<A>, NoMemory>
-    ensures { IfOk result (λ ended. AllEnded (A.ran J.told) A.over all.items ended.items) }
+    threads: ThreadLimit,
+    all: Vec<Assignment<A>>,
+) -> Result<Vec<Assignment<A>>, NoMemory>
+    ensures { IfOk result
+        (λ ended. AllEnded (AllRan (A.ran J.told)) (λ xs. list_all A.over xs) all.items ended.items) }
 {
     let ended = Vec::with_capacity(alloc, all.len())?;
     thread::scope(
         thread::scope_env(),
         shared.rt,
-        move |scope| -> Result<Vec<A>, NoMemory>
+        move |scope| -> Result<Vec<Assignment<A>>, NoMemory>
             requires { (ended.items ≡ []) × (length all.items ≤ vec_capacity ended) }
-            ensures { IfOk result (λ ys. AllEnded (A.ran J.told) A.over all.items ys.items) }
+            ensures { IfOk result
+                (λ ys. AllEnded (AllRan (A.ran J.told)) (λ xs. list_all A.over xs) all.items ys.items) }
         { run_in(scope, shared, alloc, threads, all, ended) },
     )
 }
@@ -100,91 +103,107 @@ fn run_each<
 fn run_in<
     's,
     E,
-    R: Threads + Wait + Clock + Sync + 's,
+    R: Threads + Wait + Sync + 's,
     A: Seated + Send + 's,
     G: Gate + Sync + 's,
-    J: Telling + Send + Sync + 's,
+    J: GateLog + Send + Sync + 's,
 >(
     scope: &Scope<'s, E>,
     shared: &'s Shared<'s, R, G, J>,
     alloc: Global,
-    threads: usize,
-    all: Vec<A>,
-    ended: Vec<A>,
-) -> Result<Vec<A>, NoMemory>
+    threads: ThreadLimit,
+    all: Vec<Assignment<A>>,
+    ended: Vec<Assignment<A>>,
+) -> Result<Vec<Assignment<A>>, NoMemory>
     requires none { ended.items ≡ [] }
     requires room { length all.items ≤ vec_capacity ended }
-    ensures { IfOk result (λ ys. AllEnded (A.ran J.told) A.over all.items ys.items) }
+    ensures { IfOk result (λ ys. AllEnded (AllRan (A.ran J.told)) (λ xs. list_all A.over xs) all.items ys.items) }
 {
     let children = Vec::with_capacity(alloc, all.len())?;
     let children = start_all(scope, shared, alloc, threads, all, children);
-    let children = run_kept(shared, children);
-    let back = join_all(shared, children, ended);
-    Ok(run_back(shared, back))
+    let children = run_caller(shared, alloc, children);
+    Ok(take_ranks(children, ended))
 }
 
-/// Starts a thread for each of the first ranks. It takes the ranks from the end, so the children stand in reverse order.
+/// Starts a thread for each of the first workers, as many as `threads` says. It takes them from the end, so the children stand in
+/// reverse order.
 fn start_all<
     's,
     E,
-    R: Wait + Clock + Sync + 's,
+    R: Wait + Sync + 's,
     A: Seated + Send + 's,
     G: Gate + Sync + 's,
-    J: Telling + Send + Sync + 's,
+    J: GateLog + Send + Sync + 's,
 >(
     scope: &Scope<'s, E>,
     shared: &'s Shared<'s, R, G, J>,
     alloc: Global,
-    threads: usize,
-    all: Vec<A>,
-    children: Vec<Child<A, J>>,
-) -> Vec<Child<A, J>>
+    threads: ThreadLimit,
+    all: Vec<Assignment<A>>,
+    children: Vec<Child<'s, A, J>>,
+) -> Vec<Child<'s, A, J>>
     requires none { children.items ≡ [] }
     requires room { length all.items ≤ vec_capacity children }
-    ensures { map first_of result.items ≡ reverse all.items }
+    ensures first { map first_of result.items ≡ reverse all.items }
+    // No worker but the first has a thread, as many as were asked for: child k is worker number (workers - 1 - k).
+    ensures started { (k : ℕ) (c : Child A J) → slice_get result.items k ≡ Some c → is_there c ≡ true
+        → length all.items ≤ threads.number + k }
 {
     let mut all = all;
     let mut children = children;
-    while let Some(at) = all.pop() {
-        let number = all.len();
-        let child = if number < threads {
-            start(scope, shared, alloc, at)
-        } else {
-            keep(at)
-        };
-        children.push_reserved(child);
+    while let Some(ranks) = all.pop() {
+        let worker = all.len();
+        children.push_reserved(place(scope, shared, alloc, threads, worker, ranks));
     }
     children
 }
 
-/// Waits for all threads, and takes the ranks back. It takes the children from the end, so what stood in reverse order is in order.
-fn join_all<'s, R: Threads + Wait, A: Seated, G: Gate, J: Telling>(
+/// Starts a thread for a worker if it is one of the first, and else keeps its ranks here.
+fn place<
+    's,
+    E,
+    R: Wait + Sync + 's,
+    A: Seated + Send + 's,
+    G: Gate + Sync + 's,
+    J: GateLog + Send + Sync + 's,
+>(
+    scope: &Scope<'s, E>,
     shared: &'s Shared<'s, R, G, J>,
-    children: Vec<Child<A, J>>,
-    back: Vec<A>,
-) -> Vec<A>
+    alloc: Global,
+    threads: ThreadLimit,
+    worker: usize,
+    ranks: Assignment<A>,
+) -> Child<'s, A, J>
+    ensures first { first_of result ≡ ranks }
+    ensures limit { is_there result ≡ true → worker < threads.number }
+    ensures unturned { IsUnturned result }
+{
+    if worker < threads.number {
+        start(scope, shared, alloc, worker, ranks)
+    } else {
+        keep(ranks)
+    }
+}
+
+/// The ranks of all workers, once the run of each is over. It takes the children from the end, so what stood in reverse order is
+/// in order.
+fn take_ranks<'s, A: Seated, J: GateLog>(
+    children: Vec<Child<'s, A, J>>,
+    back: Vec<Assignment<A>>,
+) -> Vec<Assignment<A>>
     requires none { back.items ≡ [] }
     requires room { length children.items ≤ vec_capacity back }
-    ensures { AllRan (A.ran J.told) (reverse (map first_of children.items)) result.items }
+    requires ended { All (HasEnded A.over) children.items }
+    ensures ran { AllRan (AllRan (A.ran J.told)) (reverse (map first_of children.entry.items)) result.items }
+    ensures over { All (λ xs. list_all A.over xs ≡ true) result.items }
 {
     let mut children = children;
     let mut back = back;
     while let Some(child) = children.pop() {
         match child {
-            Child::There(away) => back.push_reserved(away.join(shared.rt)),
-            Child::Here(kept) => back.push_reserved(kept.into_rank()),
+            Child::There(_) => unreachable!(),
+            Child::Here(kept) => back.push_reserved(kept.into_ranks()),
         }
     }
     back
-}
-
-/// Turns the ranks that came back until the run of each is over, which it mostly is.
-fn run_back<'s, R: Wait + Clock, A: Seated, G: Gate, J: Telling>(
-    shared: &'s Shared<'s, R, G, J>,
-    back: Vec<A>,
-) -> Vec<A>
-    ensures ran { (all : List A) → AllRan (A.ran J.told) all back.items → AllRan (A.ran J.told) all result.items }
-    ensures over { All (λ y. A.over y ≡ true) result.items }
-{
-    run_home(shared, Crew::of(back)).into_ranks()
 }

@@ -1,76 +1,95 @@
-//! A rank that the caller turns, with what it was before.
+//! Ranks that the caller polls, with what they were before.
 ghost use Rattle.std.specs.Prelude.{◌≡◌, false};
+ghost use Rattle.std.specs.List.{list_all};
+ghost use Rattle.rank_crews.specs.Runs.{AllRan, MakesOneTurn};
 
+use crate::assignment::Assignment;
 use crate::gate::Gate;
-use crate::seated::Seated;
-use crate::shared::{Shared, Telling};
-use bale_types::Steps;
+use crate::seated::{GateLog, Seated};
+use crate::shared::Shared;
+use bale_items::Steps;
 use std::marker::{Model, PhantomData};
 use std::snapshot::Snapshot;
 use std::sync::Wait;
 use std::sync::ledger::Ledger;
 
-/// A rank that is turned here.
+/// The ranks of a worker that the caller polls.
 #[derive(Drop)]
-pub struct Turned<A: Seated, J: Telling> {
-    at: A,
-    /// What it was before, for contracts alone.
-    first: Snapshot<A>,
+pub struct Turned<A: Seated, J: GateLog> {
+    ranks: Assignment<A>,
+    /// What they were before their first turn, for contracts alone.
+    first: Snapshot<Assignment<A>>,
     run: PhantomData<J>,
 }
 
-impl<A: Seated, J: Telling> Model for Turned<A, J> {
-    ghost use Rattle.rank_crews.specs.Runs.{TurnedState};
+impl<A: Seated, J: GateLog> Model for Turned<A, J> {
+    ghost use Rattle.std.specs.Prelude.{List};
+    ghost use Rattle.rank_crews.specs.Runs.{AllRan, TurnedState};
 
-    ghost Value = { TurnedState A };
+    ghost Value = { TurnedState (List A) };
 
-    ghost view = { λ s. record { first = s.first.value; now = s.at } };
+    ghost view = { λ s. record { first = s.first.value; now = s.ranks } };
 
-    ghost invariant = { λ s. A.ran J.told s.first.value s.at };
+    ghost invariant = { λ s. AllRan (A.ran J.told) s.first.value s.ranks };
 }
 
-impl<A: Seated, J: Telling> Turned<A, J> {
-    /// A rank that hasn't been turned.
-    pub(crate) fn new(at: A) -> Turned<A, J>
-        ensures first { result.first ≡ at }
-        ensures unturned { result.now ≡ at }
+impl<A: Seated, J: GateLog> Turned<A, J> {
+    /// Ranks that haven't been polled.
+    pub(crate) fn new(ranks: Assignment<A>) -> Turned<A, J>
+        ensures first { result.first ≡ ranks }
+        ensures unturned { result.now ≡ ranks }
     {
-        let first = Snapshot::of(&at);
+        let first = Snapshot::of(&ranks);
+        Turned::since(first, ranks)
+    }
+
+    /// Ranks that turns have taken from what they were first.
+    pub(crate) fn since(first: Snapshot<Assignment<A>>, ranks: Assignment<A>) -> Turned<A, J>
+        requires ran { AllRan (A.ran J.told) first.value ranks }
+        ensures first { result.first ≡ first.value }
+        ensures now { result.now ≡ ranks }
+    {
         Turned {
-            at,
+            ranks,
             first,
             run: PhantomData,
         }
     }
 
-    /// The rank.
-    pub(crate) fn into_rank(self) -> A
-        ensures ran { A.ran J.told self.first result }
+    /// The ranks.
+    pub(crate) fn into_ranks(self) -> Assignment<A>
+        ensures ran { AllRan (A.ran J.told) self.first result }
+        ensures same { result ≡ self.now }
     {
         let Turned {
-            at,
+            ranks,
             first: _,
             run: _,
         } = self;
-        at
+        ranks
     }
 
-    /// Whether its run is over.
-    pub(crate) fn is_over(&self) -> bool
-        ensures { result ≡ A.over self.now.now }
+    /// Whether the run of each is over.
+    pub(crate) fn are_over(&self) -> bool
+        ensures { result ≡ list_all A.over self.now.now }
     {
-        self.at.is_over()
+        self.ranks.are_over()
     }
 
-    /// Makes one turn. Answers whether it got on.
-    pub(crate) fn turn<'a, R: Wait, G: Gate, L: Ledger>(
+    /// How many ranks there are.
+    pub(crate) fn len(&self) -> usize {
+        self.ranks.len()
+    }
+
+    /// Makes one turn of each rank whose run isn't over. Answers whether any made progress.
+    pub(crate) fn sweep<'a, R: Wait, G: Gate, L: Ledger>(
         &mut self,
         shared: &Shared<'a, R, G, J>,
         steps: &mut Steps<L>,
     ) -> bool
-        requires going { A.over self.old.now ≡ false }
         ensures first { self.new.first ≡ self.old.first }
+        ensures each { AllRan (MakesOneTurn A.over A.turns) self.old.now self.new.now }
     {
-        shared.turn(&mut self.at, steps)
+        self.ranks.sweep(shared, steps)
     }
 }

@@ -150,9 +150,12 @@ logs_map f [] e l = sym e
 logs_map f (c ∷ channels) e zero = refl
 logs_map f (c ∷ channels) e (suc l) = logs_map f channels e l
 
--- what a closed bank tells of a link is what was sent on it, and at first that is nothing
-pub all_sent : (cap : ℕ) (b : Bank) (round : Round) (l : ℕ) → round ≡ closed cap b → length (logs_of round.sent l) ≡ length (sent_of b l)
-all_sent cap b round l is = ap (λ (c : Round). length (logs_of c.sent l)) is ∙ ap length (logs_map (λ c. c.sent) b.channels refl l)
+-- what a closed bank tells of a link is what was sent on it and got from it, and at first that is nothing
+pub all_sent : (cap : ℕ) (b : Bank) (round : Round) (l : ℕ) → round ≡ closed cap b → logs_of round.sent l ≡ sent_of b l
+all_sent cap b round l is = ap (λ (c : Round). logs_of c.sent l) is ∙ logs_map (λ c. c.sent) b.channels refl l
+
+pub all_got : (cap : ℕ) (b : Bank) (round : Round) (l : ℕ) → round ≡ closed cap b → logs_of round.got l ≡ got_of b l
+all_got cap b round l is = ap (λ (c : Round). logs_of c.got l) is ∙ logs_map (λ c. c.got) b.channels refl l
 
 pub none_first : (dims : List ℕ) (slots l : ℕ) → length (sent_of (empty_bank dims slots) l) ≡ 0
 none_first dims slots l = ap (λ c. length c.sent) (channel-empty _ l)

@@ -5,6 +5,7 @@ pub mod Places
 pub mod Threaded
 pub mod Ranked
 pub mod Movers
+pub mod FirstRound
 pub mod Worlds
 pub mod Pushed
 pub mod Bounds
@@ -27,3 +28,4 @@ pub mod Stacks
 pub mod Quotas
 pub mod OwnLink
 pub mod Made
+pub mod Crosses

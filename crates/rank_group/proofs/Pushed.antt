@@ -1,7 +1,7 @@
 -- How many items are pushed in each epoch of a run.
 use Rattle.std.proofs.Common.{◌≡◌, ℕ, zero, suc, ◌+◌, ◌*◌, ◌<◌, ◌≤◌, Bool, cond, List, [], ◌∷◌, ◌++◌, length, length-append, take, drop, Option, Some, None, refl, sym, ap, subst, ◌∙◌, arith, inl, inr}
 use Rattle.std.proofs.lemmas.Bool.{cases_lt, cases_order, lt-ltb}
-use Rattle.bale_types.specs.declared.item.Item.{Item}
+use Rattle.bale_items.specs.declared.item.Item.{Item}
 use Rattle.route_tensor.specs.Grid.{ranks, IsGrid}
 use Rattle.port_bank.specs.Logs.{Logs, starting_at, ending_at}
 use Rattle.port_bank.specs.Flow.{hop_link, flow}

@@ -1,7 +1,7 @@
 -- A sweep in which nothing moved ends the least epoch.
 use Rattle.std.proofs.Common.{◌^◌, ◌≡◌, ℕ, ◌+◌, ◌*◌, ◌<◌, ◌≤◌, ◌==◌, ◌&&◌, not, Bool, true, false, cond, List, [], length, Some, slice_get, refl, sym, ap, subst, ◌∙◌, arith, inl, inr}
 use Rattle.std.proofs.lemmas.Bool.{cases_Bool, cases_eq, cases_lt, true≢false}
-use Rattle.bale_types.specs.declared.item.Entry.{Entry}
+use Rattle.bale_items.specs.declared.item.Entry.{Entry}
 use Rattle.list_laws.proofs.Lists.{find, within, get_once}
 use Rattle.route_tensor.specs.Grid.{ranks}
 use Rattle.route_tensor.specs.Link.{links}

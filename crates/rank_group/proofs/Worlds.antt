@@ -30,7 +30,7 @@ use Rattle.round_program.proofs.Steps.{own_work_done, own_vote_done}
 use Rattle.rank_node.specs.declared.sends.Sends.{Sends}
 use Rattle.rank_node.specs.declared.sends.Sends.TheVariants.{Emissions, Nothing, Votes}
 use Rattle.rank_node.specs.Sending.{is_voting, epoch_of}
-use Rattle.rank_node.specs.Runs.{lists_of, HasTaken}
+use Rattle.rank_node.specs.Runs.{lists_of, from_round, HasTaken}
 use Rattle.rank_node.specs.Movers.{MoverState, Manner, dims_of, rank_of, epoch_in, manner_in, part_in, HasCap, IsConveying, IsStacking, IsMoving}
 use Rattle.rank_node.specs.Movers.MoverState.{Conveying, Stacking}
 use Rattle.rank_node.specs.Movers.Manner.{ByConveyor, ByExstack}
@@ -39,30 +39,40 @@ use Rattle.rank_node.specs.Next.{extended, HasStopped}
 use Rattle.rank_group.specs.Ranks.{RankState, HasRank, AllRanks, progress}
 use Rattle.rank_node.proofs.Between.{voted, own_ended, extended_before, extended_at}
 use Rattle.rank_node.proofs.Onward.{done_of_completed, epoch_is}
+use Rattle.rank_group.proofs.FirstRound.{round_first, own_first}
 use Rattle.rank_group.proofs.Movers.{part_epoch, part_complete}
 use Rattle.rank_group.specs.Worlds.{nowhere, mover_in, progress_in, history_in, part_at}
 
+-- a rank is done with no more epochs than its rounds have
+done_few : (v : Bool) (round : ℕ) (part : Part) → part.epoch ≡ epoch_of round v → round ≤ 2 ^ 63 → done_of part ≤ 2 ^ 64 + 2
+done_few v round part e few = by v part.done e where
+  by : (v d : Bool) → part.epoch ≡ epoch_of round v → cond d (part.epoch + 1) part.epoch ≤ 2 ^ 64 + 2
+  by true true e = omega (arith, e, few)
+  by true false e = omega (arith, e, few)
+  by false true e = omega (arith, e, few)
+  by false false e = omega (arith, e, few)
+
 -- what a rank knows of itself, within an epoch
 pub own_now : {S : Type 0} (R : Rules S) → Laws R → (p rank : ℕ) (h : ℕ → S) (round : ℕ) (sends : Sends) (next : ℕ) (prog : S) (sum : ℕ) (spoiled : Bool) (part : Part)
-    → HasTaken R p rank h round sends next prog sum spoiled part → Own R p part.epoch (done_of part) h (lists_of part)
+    → HasTaken R p rank h round sends next prog sum spoiled part → Own (from_round (R.round (h 0)) R) p part.epoch (done_of part) h (lists_of part)
 own_now {S} R laws p rank h round sends next prog sum spoiled part is = by part.done refl where
-  l : PairLists
-  l = lists_of part
+  R' : Rules S
+  R' = from_round (R.round (h 0)) R
 
-  at : (s : Sends) → part.done ≡ true → HasTaken R p rank h round s next prog sum spoiled part → Own R p part.epoch (part.epoch + 1) h (lists_of part)
+  at : (s : Sends) → part.done ≡ true → HasTaken R p rank h round s next prog sum spoiled part → Own R' p part.epoch (part.epoch + 1) h (lists_of part)
   at Emissions d t = let e : part.epoch ≡ 2 * round = t.passed.epoch in
-      subst (λ k. Own R p k (k + 1) h (lists_of part)) (sym e) (own_work_done R p round h (lists_of part) t.passed.goes (subst (λ k. Own R p k k h (lists_of part)) e t.passed.own))
+      subst (λ k. Own R' p k (k + 1) h (lists_of part)) (sym e) (own_work_done R' p round h (lists_of part) t.passed.goes (subst (λ k. Own R' p k k h (lists_of part)) e t.passed.own))
   at Nothing d t = let e : part.epoch ≡ 2 * round = t.passed.epoch in
-      subst (λ k. Own R p k (k + 1) h (lists_of part)) (sym e) (own_work_done R p round h (lists_of part) t.passed.goes (subst (λ k. Own R p k k h (lists_of part)) e t.passed.own))
+      subst (λ k. Own R' p k (k + 1) h (lists_of part)) (sym e) (own_work_done R' p round h (lists_of part) t.passed.goes (subst (λ k. Own R' p k k h (lists_of part)) e t.passed.own))
   at (Votes v q) d t = let e : part.epoch ≡ 2 * round + 1 = t.passed.epoch in
       let two : 2 * round + 2 ≡ part.epoch + 1 = omega (arith, e) in
-      subst (λ k. Own R p part.epoch k h (lists_of part)) two
-      (subst (λ k. Own R p k (2 * round + 2) h (lists_of part)) (sym e)
-      (own_vote_done R p round h (lists_of part) (voted R laws p rank h round next prog sum spoiled part d v q t) (subst (λ k. Own R p k k h (lists_of part)) e t.passed.own)))
+      subst (λ k. Own R' p part.epoch k h (lists_of part)) two
+      (subst (λ k. Own R' p k (2 * round + 2) h (lists_of part)) (sym e)
+      (own_vote_done R' p round h (lists_of part) (voted R laws p rank h round next prog sum spoiled part d v q t) (subst (λ k. Own R' p k k h (lists_of part)) e t.passed.own)))
 
-  by : (b : Bool) → part.done ≡ b → Own R p part.epoch (done_of part) h (lists_of part)
-  by true d = subst (λ k. Own R p part.epoch k h (lists_of part)) (sym (ap (λ b. cond b (part.epoch + 1) part.epoch) d)) (at sends d is)
-  by false d = subst (λ k. Own R p part.epoch k h (lists_of part)) (sym (ap (λ b. cond b (part.epoch + 1) part.epoch) d)) is.passed.own
+  by : (b : Bool) → part.done ≡ b → Own R' p part.epoch (done_of part) h (lists_of part)
+  by true d = subst (λ k. Own R' p part.epoch k h (lists_of part)) (sym (ap (λ b. cond b (part.epoch + 1) part.epoch) d)) (at sends d is)
+  by false d = subst (λ k. Own R' p part.epoch k h (lists_of part)) (sym (ap (λ b. cond b (part.epoch + 1) part.epoch) d)) is.passed.own
 
 -- the node of a rank as it was before its run ended
 pub record Core {S : Type 0} (R : Rules S) (dims : List ℕ) (r : ℕ) (h : ℕ → S) (n : RankState S) (sent got : Logs) : Type 0 where
@@ -84,11 +94,14 @@ module _ {S : Type 0} (R : Rules S) (laws : Laws R) (dims : List ℕ) (cap : ℕ
   abbrev part : Part
   part = part_in m (starting_at dims r sent) (ending_at dims r got)
 
+  abbrev at_first : (ℕ → S) → Rules S
+  at_first g = from_round (R.round (g 0)) R
+
   epoch_here : part.epoch ≡ epoch_in m
   epoch_here = part_epoch m (starting_at dims r sent) (ending_at dims r got)
 
   stopped : HasStopped R h n.node (starting_at dims r sent) (ending_at dims r got) → (s : Sends) → n.node.run.sends ≡ s → is_voting s ≡ true
-      → Own R (ranks dims) (epoch_in m + 1) (done_of part) (extended h (n.node.run.round + 1) n.node.run.prog) (lists_of part)
+      → Own (at_first (extended h (n.node.run.round + 1) n.node.run.prog)) (ranks dims) (epoch_in m + 1) (done_of part) (extended h (n.node.run.round + 1) n.node.run.prog) (lists_of part)
   stopped t Emissions e v = absurd (true≢false (sym v))
   stopped t Nothing e v = absurd (true≢false (sym v))
   stopped t (Votes v q) e vote =
@@ -102,24 +115,30 @@ module _ {S : Type 0} (R : Rules S) (laws : Laws R) (dims : List ℕ) (cap : ℕ
       let here : part.epoch ≡ 2 * n.node.run.round + 1 = own1.passed.epoch in
       let two : 2 * n.node.run.round + 2 ≡ epoch_in m + 1 = omega (arith, here, epoch_here) in
       let d : done_of part ≡ epoch_in m + 1 = ap (λ b. cond b (part.epoch + 1) part.epoch) done ∙ ap (λ e. e + 1) epoch_here in
-      subst (λ k. Own R (ranks dims) (epoch_in m + 1) k (extended h (n.node.run.round + 1) n.node.run.prog) (lists_of part)) (sym d)
-      (subst (λ k. Own R (ranks dims) k k (extended h (n.node.run.round + 1) n.node.run.prog) (lists_of part)) two
-      (subst (λ x. Own R (ranks dims) (2 * n.node.run.round + 2) (2 * n.node.run.round + 2) (extended h (n.node.run.round + 1) x) (lists_of part)) (sym t.ended)
-      (subst (λ (ds : List ℕ). Own R (ranks ds) (2 * n.node.run.round + 2) (2 * n.node.run.round + 2) (extended h (n.node.run.round + 1) (R.ended t.worked n.node.run.sum)) (lists_of part)) is.same_dims o)))
+      subst (λ k. Own (at_first (extended h (n.node.run.round + 1) n.node.run.prog)) (ranks dims) (epoch_in m + 1) k (extended h (n.node.run.round + 1) n.node.run.prog) (lists_of part)) (sym d)
+      (subst (λ k. Own (at_first (extended h (n.node.run.round + 1) n.node.run.prog)) (ranks dims) k k (extended h (n.node.run.round + 1) n.node.run.prog) (lists_of part)) two
+      (subst (λ x. Own (at_first (extended h (n.node.run.round + 1) x)) (ranks dims) (2 * n.node.run.round + 2) (2 * n.node.run.round + 2) (extended h (n.node.run.round + 1) x) (lists_of part)) (sym t.ended)
+      (subst (λ (ds : List ℕ). Own (at_first (extended h (n.node.run.round + 1) (R.ended t.worked n.node.run.sum))) (ranks ds) (2 * n.node.run.round + 2) (2 * n.node.run.round + 2) (extended h (n.node.run.round + 1) (R.ended t.worked n.node.run.sum)) (lists_of part)) is.same_dims o)))
 
-  own_by : (b : Bool) → n.over ≡ b → Own R (ranks dims) (progress n) (done_of part) (history_in h (Some n)) (lists_of part)
+  own_by : (b : Bool) → n.over ≡ b → Own (at_first (history_in h (Some n))) (ranks dims) (progress n) (done_of part) (history_in h (Some n)) (lists_of part)
   own_by true over =
-      subst (λ b. Own R (ranks dims) (cond b (epoch_in m + 1) (epoch_in m)) (done_of part) (cond b (extended h (n.node.run.round + 1) n.node.run.prog) h) (lists_of part)) (sym over)
+      subst (λ b. Own (at_first (cond b (extended h (n.node.run.round + 1) n.node.run.prog) h)) (ranks dims) (cond b (epoch_in m + 1) (epoch_in m)) (done_of part) (cond b (extended h (n.node.run.round + 1) n.node.run.prog) h) (lists_of part)) (sym over)
       (stopped (is.stopped over) n.node.run.sends refl (is.stopped over).voting)
   own_by false on =
       let i = is.runs on in
-      subst (λ b. Own R (ranks dims) (cond b (epoch_in m + 1) (epoch_in m)) (done_of part) (cond b (extended h (n.node.run.round + 1) n.node.run.prog) h) (lists_of part)) (sym on)
-      (subst (λ k. Own R (ranks dims) k (done_of part) h (lists_of part)) epoch_here
-      (subst (λ (ds : List ℕ). Own R (ranks ds) part.epoch (done_of part) h (lists_of part)) is.same_dims
+      subst (λ b. Own (at_first (cond b (extended h (n.node.run.round + 1) n.node.run.prog) h)) (ranks dims) (cond b (epoch_in m + 1) (epoch_in m)) (done_of part) (cond b (extended h (n.node.run.round + 1) n.node.run.prog) h) (lists_of part)) (sym on)
+      (subst (λ k. Own (at_first h) (ranks dims) k (done_of part) h (lists_of part)) epoch_here
+      (subst (λ (ds : List ℕ). Own (at_first h) (ranks ds) part.epoch (done_of part) h (lists_of part)) is.same_dims
       (own_now R laws (ranks (dims_of m)) (rank_of m) h n.node.run.round n.node.run.sends n.node.run.next n.node.run.prog n.node.run.sum n.node.run.spoiled part (record { passed = i.passed; within = i.within }))))
 
-  pub own_in : Own R (ranks dims) (progress n) (done_of (part_in n.node.mover (starting_at dims r sent) (ending_at dims r got))) (history_in h (Some n)) (lists_of (part_in n.node.mover (starting_at dims r sent) (ending_at dims r got)))
+  pub own_in : Own (from_round (R.round (history_in h (Some n) 0)) R) (ranks dims) (progress n) (done_of (part_in n.node.mover (starting_at dims r sent) (ending_at dims r got))) (history_in h (Some n)) (lists_of (part_in n.node.mover (starting_at dims r sent) (ending_at dims r got)))
   own_in = own_by n.over refl
+
+  -- and is done with few epochs
+  pub done_in : done_of (part_in n.node.mover (starting_at dims r sent) (ending_at dims r got)) ≤ 2 ^ 64 + 2
+  done_in =
+      let c = core R dims cap manner r h n sent got is in
+      done_few (is_voting n.node.run.sends) n.node.run.round (part_in n.node.mover (starting_at dims r sent) (ending_at dims r got)) c.is.passed.epoch c.is.passed.few
 
 -- epochs close together by what holds of the parts of so many ranks
 alike_close : (p : ℕ) (f g : Ranks) → ((r : ℕ) → r < p → f r ≡ g r) → EpochsClose p f → EpochsClose p g
@@ -225,11 +244,17 @@ module _ {S : Type 0} (R : Rules S) (laws : Laws R) (law : ClosesLaws) (dims : L
   abbrev history : ℕ → ℕ → S
   history r = history_in (h r) (slice_get rs r)
 
-  own_at : (r : ℕ) → r < ranks dims → Own R (ranks dims) (completed r) (done_of (part_at dims rs sent got r)) (history r) (lists r)
+  own_at : (r : ℕ) → r < ranks dims → Own (from_round (R.round (history r 0)) R) (ranks dims) (completed r) (done_of (part_at dims rs sent got r)) (history r) (lists r)
   own_at r low =
       let n = rank_at r low in
-      subst (λ o. Own R (ranks dims) (progress_in o) (done_of (part_in (mover_in o) (starting_at dims r sent) (ending_at dims r got))) (history_in (h r) o) (lists_of (part_in (mover_in o) (starting_at dims r sent) (ending_at dims r got)))) (sym n.1)
+      subst (λ o. Own (from_round (R.round (history_in (h r) o 0)) R) (ranks dims) (progress_in o) (done_of (part_in (mover_in o) (starting_at dims r sent) (ending_at dims r got))) (history_in (h r) o) (lists_of (part_in (mover_in o) (starting_at dims r sent) (ending_at dims r got)))) (sym n.1)
       (own_in R laws dims cap manner r (h r) n.0 sent got (w.each r n.0 n.1))
+
+  done_at : (r : ℕ) → r < ranks dims → done_of (part_at dims rs sent got r) ≤ 2 ^ 64 + 2
+  done_at r low =
+      let n = rank_at r low in
+      subst (λ o. done_of (part_in (mover_in o) (starting_at dims r sent) (ending_at dims r got)) ≤ 2 ^ 64 + 2) (sym n.1)
+      (done_in R laws dims cap manner r (h r) n.0 sent got (w.each r n.0 n.1))
 
   -- no more epochs are completed than the conveyors tell
   completed_low : (r : ℕ) → r < ranks dims → completed r ≤ completed_of (part_at dims rs sent got r)
@@ -271,9 +296,17 @@ module _ {S : Type 0} (R : Rules S) (laws : Laws R) (law : ClosesLaws) (dims : L
       | inr on ↦ ap (λ b. cond b (extended (h r) (n.node.run.round + 1) n.node.run.prog) (h r) 0) on
     ]
 
+  -- the programs begin in round 0
+  first_at : (shape : List ℕ) (most : ℕ) → InRound R (ranks dims) 0 shape most starts → (r : ℕ) → r < ranks dims → R.round (history r 0) ≡ 0
+  first_at shape most start r low =
+      let s : (s : S) × (slice_get starts r ≡ Some s) = find starts r (subst (λ k. r < k) (sym start.size) low) in
+      ap R.round (begins_at r s.0 s.1) ∙ (start.each r s.0 s.1).same_round
+
   -- so the ranks are within the canonical run
   pub canonical : (shape : List ℕ) (most : ℕ) → InRound R (ranks dims) 0 shape most starts → IsCanonical R (ranks dims) starts completed history lists
-  canonical shape most start = every_run R laws (ranks dims) shape most starts completed (λ r. done_of (part_at dims rs sent got r)) history lists start begins_at own_at closed
+  canonical shape most start = every_run R laws (ranks dims) shape most starts completed (λ r. done_of (part_at dims rs sent got r)) history lists start begins_at own closed where
+    own : (r : ℕ) → r < ranks dims → Own R (ranks dims) (completed r) (done_of (part_at dims rs sent got r)) (history r) (lists r)
+    own r low = own_first R (ranks dims) (completed r) (done_of (part_at dims rs sent got r)) (history r) (lists r) (first_at shape most start r low) (done_at r low) (own_at r low)
 
   -- no rank goes past the last round, and one whose run is over has ended it
   module _ (shape : List ℕ) (most n : ℕ) (start : InRound R (ranks dims) 0 shape most starts) (rounds : HasRounds R starts n) where
@@ -285,6 +318,12 @@ module _ {S : Type 0} (R : Rules S) (laws : Laws R) (law : ClosesLaws) (dims : L
     shape_at m r low c =
         let all : InRound R (ranks dims) (min m (2 ^ 64 - 1)) shape most (states_at R starts m) = in_round_at R laws (ranks dims) shape most starts m start in
         (all.each r (history r m) (run.states r m low c)).same_shape ∙ sym (shape_is R (ranks dims) 0 shape most starts (omega (arith, low)) start)
+
+    -- as its program began
+    first_of : (r : ℕ) → r < ranks dims → R.round (h r 0) ≡ 0
+    first_of r low =
+        let s : (s : S) × (slice_get starts r ≡ Some s) = find starts r (subst (λ k. r < k) (sym start.size) low) in
+        ap R.round (w.begins r s.0 s.1) ∙ (start.each r s.0 s.1).same_round
 
     -- a rank whose run goes on hasn't completed the last round
     pub still_within : (r : ℕ) (x : RankState S) → slice_get rs r ≡ Some x → x.over ≡ false → epoch_in x.node.mover < 2 * n
@@ -304,7 +343,9 @@ module _ {S : Type 0} (R : Rules S) (laws : Laws R) (law : ClosesLaws) (dims : L
               let hist : history r (n - 1) ≡ h r (n - 1) = ap (λ o. history_in (h r) o (n - 1)) at ∙ ap (λ b. cond b (extended (h r) (x.node.run.round + 1) x.node.run.prog) (h r) (n - 1)) on in
               let own : PairLists = lists_of (part_in x.node.mover (starting_at dims r sent) (ending_at dims r got)) in
               let same : lists r ≡ own = ap (λ o. lists_of (part_in (mover_in o) (starting_at dims r sent) (ending_at dims r got))) at in
-              let goes : R.goes_on (R.shape (h r (n - 1))) (n - 1) (heard (ranks (dims_of x.node.mover)) own (n - 1)) ≡ true = i.passed.goes (n - 1) last in
+              let few : x.node.run.round ≤ 2 ^ 63 = i.passed.few in
+              let goes : R.goes_on (R.shape (h r (n - 1))) (n - 1) (heard (ranks (dims_of x.node.mover)) own (n - 1)) ≡ true =
+              ap (λ k. R.goes_on (R.shape (h r (n - 1))) k (heard (ranks (dims_of x.node.mover)) own (n - 1))) (sym (round_first (R.round (h r 0)) (n - 1) (first_of r low) (omega (arith, last, few)))) ∙ i.passed.goes (n - 1) last in
               let sums : heard (ranks dims) (lists r) (n - 1) ≡ votes_at R starts (n - 1) = run.sums r (n - 1) low (omega (arith, full, some)) in
               let sums' : heard (ranks (dims_of x.node.mover)) own (n - 1) ≡ votes_at R starts (n - 1) =
               ap (λ ds. heard (ranks ds) own (n - 1)) d ∙ (ap (λ l. heard (ranks dims) l (n - 1)) (sym same) ∙ sums) in
@@ -322,6 +363,7 @@ module _ {S : Type 0} (R : Rules S) (laws : Laws R) (law : ClosesLaws) (dims : L
         let low : r < ranks dims = omega (arith, within rs r x at, w.all) in
         let t = (w.each r x at).stopped over in
         let i = t.node in
+        let few : x.node.run.round ≤ 2 ^ 63 = i.passed.few in
         let d : dims_of x.node.mover ≡ dims = (w.each r x at).same_dims in
         let m : ℕ = x.node.run.round in
         let e : epoch_in x.node.mover ≡ 2 * m + 1 = epoch_is x.node.mover _ _ i ∙ ap (epoch_of m) t.voting in
@@ -336,7 +378,7 @@ module _ {S : Type 0} (R : Rules S) (laws : Laws R) (law : ClosesLaws) (dims : L
         let sums : x.node.run.sum ≡ heard (ranks dims) (lists r) m = i.within.hears t.voting ∙ (ap (λ ds. heard (ranks ds) own m) d ∙ ap (λ l. heard (ranks dims) l m) (sym same)) in
         let stops : R.goes_on (R.shape (history r m)) m (heard (ranks dims) (lists r) m) ≡ false =
         ap (λ s. R.goes_on (R.shape s) m (heard (ranks dims) (lists r) m)) at_m ∙ (ap (λ a. R.goes_on a m (heard (ranks dims) (lists r) m)) (sym alike.shape)
-        ∙ (ap (λ k. R.goes_on (R.shape t.worked) k (heard (ranks dims) (lists r) m)) (sym (alike.round ∙ i.passed.own_round)) ∙ (ap (R.goes_on (R.shape t.worked) (R.round t.worked)) (sym sums) ∙ t.stops))) in
+        ∙ (ap (λ k. R.goes_on (R.shape t.worked) k (heard (ranks dims) (lists r) m)) (sym (alike.round ∙ (i.passed.own_round ∙ round_first (R.round (h r 0)) m (first_of r low) (omega (arith, few))))) ∙ (ap (R.goes_on (R.shape t.worked) (R.round t.worked)) (sym sums) ∙ t.stops))) in
         let last : m + 1 ≡ n = run.stopped n r m rounds low (omega (arith, full)) stops in
         let state : slice_get (states_at R starts n) r ≡ Some (history r n) = run.states r n low (omega (arith, full, last)) in
         (omega (arith, e, last), state ∙ ap Some (hist n ∙ (ap (extended (h r) (m + 1) x.node.run.prog) (sym last) ∙ extended_at (h r) (m + 1) x.node.run.prog)))

@@ -38,5 +38,5 @@ pub record HasDriven {S : Type 0} (R : Rules S) (cap : ℕ) (dims : List ℕ) (s
   pub finished : HasFinished R starts
       (record { dims = dims; cap = cap; slots = count_of settings.slots; by_slots = false })
       (manner_of settings.via settings.steady) run
-  pub order : SweptBy R dims cap (count_of settings.slots) (manner_of settings.via settings.steady) starts
-      (range_with_len 0 (ranks dims)) run.progs
+  pub order : (before after : ℕ) × SweptBy R dims cap (count_of settings.slots)
+      (manner_of settings.via settings.steady) starts (range_with_len 0 (ranks dims)) before after run.progs

@@ -34,7 +34,10 @@ pub record HasFinished {S : Type 0} (R : Rules S) (starts : List S) (made : Made
 pub record HasSwept {S : Type 0} (R : Rules S) (starts : List S) (made : Made) (manner : Manner) (turned : List ℕ)
     (before after : ℕ) (run : Finished S) : Type 0 where
   -- It made sweeps in the order given, and no other turn.
-  pub order : SweptBy R made.dims made.cap made.slots manner starts turned run.progs
+  pub order : SweptBy R made.dims made.cap made.slots manner starts turned before after run.progs
+  -- The closed round tells the logs that these turns left.
+  pub exchanged : (c : ClosedRound) → run.rounds ≡ c ∷ [] → (l : ℕ)
+      → (logs_of (round_of c).sent l ≡ order.last.sent l) × (logs_of (round_of c).got l ≡ order.last.got l)
   -- Each rank made a turn in each epoch at least: one of its work and one of its votes in each round.
   pub fewest : (n : ℕ) → HasRounds R starts n → before + 2 * n * ranks made.dims ≤ after
   -- No link has more parcels than the run had turns.

@@ -1,5 +1,5 @@
 -- Turns of all ranks of a drive, one after the other.
-use Rattle.std.specs.Prelude.{◌≡◌, ◌≢◌, ℕ, zero, suc, List, [], ◌∷◌, length, slice_get, Some}
+use Rattle.std.specs.Prelude.{◌≡◌, ◌≢◌, ℕ, ◌+◌, zero, suc, if◌then◌else◌, List, [], ◌∷◌, length, slice_get, Some}
 use Rattle.port_bank.specs.Logs.{Logs}
 use Rattle.round_program.specs.Rules.{Rules}
 use Rattle.rank_node.specs.Movers.{Manner}
@@ -7,18 +7,24 @@ use Rattle.port_bank.specs.Plain.{sent_of, got_of, empty_bank}
 use Rattle.rank_group.specs.Ranks.{RankState, AfterRank}
 use Rattle.rank_group.specs.Drives.{progs_of, AreFresh}
 
--- All ranks and the logs of all links at one moment.
+-- All ranks, the logs of all links and the number of turns made so far, at one moment.
 pub record Scene (S : Type 0) : Type 0 where
   pub ranks : List (RankState S)
   pub sent : Logs
   pub got : Logs
+  pub turns : ℕ
 
--- Between two moments rank r was turned, and no other.
+-- How many turns a rank makes in a sweep: one, or none if its run is over.
+abbrev pub turn_count : {S : Type 0} → RankState S → ℕ
+turn_count n = if n.over then 0 else 1
+
+-- Between two moments rank r was turned, and no other, and its turns were counted.
 pub record IsTurnOf {S : Type 0} (R : Rules S) (dims : List ℕ) (cap slots r : ℕ) (a b : Scene S) : Type 0 where
   pub all : length b.ranks ≡ length a.ranks
   pub others : (k : ℕ) → k ≢ r → slice_get b.ranks k ≡ slice_get a.ranks k
   pub turned : (n n' : RankState S) → slice_get a.ranks r ≡ Some n → slice_get b.ranks r ≡ Some n'
       → AfterRank R dims cap slots r n n' a.sent a.got b.sent b.got
+  pub counted : (n : RankState S) → slice_get a.ranks r ≡ Some n → b.turns ≡ a.turns + turn_count n
 
 -- Between two moments the ranks of a list were turned, one after the other, and no other.
 -- For the list 2, 0 there is a moment between: before it rank 2 was turned, and after it rank 0.
@@ -34,13 +40,20 @@ SweepsOf {S} R dims cap slots order (suc k) a b = (m : Scene S) × TurnsOf R dim
     × SweepsOf R dims cap slots order k m b
 
 -- A run of the programs `starts`, over a plain bank with so many slots, made sweeps in one order
--- and no other turn, and left the programs `ends`.
+-- and no other turn, from the turn with the number `before` to that with the number `after`, and
+-- left the programs `ends`.
 pub record SweptBy {S : Type 0} (R : Rules S) (dims : List ℕ) (cap slots : ℕ) (manner : Manner) (starts : List S)
-    (order : List ℕ) (ends : List S) : Type 0 where
+    (order : List ℕ) (before after : ℕ) (ends : List S) : Type 0 where
   pub sweeps : ℕ
   pub first : List (RankState S)
   pub last : Scene S
   pub fresh : AreFresh R dims cap manner starts first
   pub ended : progs_of last.ranks ≡ ends
+  pub counted : last.turns ≡ after
   pub swept : SweepsOf R dims cap slots order sweeps
-      (record { ranks = first; sent = sent_of (empty_bank dims slots); got = got_of (empty_bank dims slots) }) last
+      (record {
+        ranks = first;
+        sent = sent_of (empty_bank dims slots);
+        got = got_of (empty_bank dims slots);
+        turns = before;
+      }) last

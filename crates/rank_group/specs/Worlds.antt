@@ -3,7 +3,7 @@ use Rattle.std.specs.Prelude.{◌≡◌, ◌⊎◌, ⊤, true, ℕ, ◌+◌, ◌
 use Rattle.std.specs.Prelude.{if◌then◌else◌}
 use Rattle.std.specs.Prelude.{None, slice_get}
 use Rattle.std.specs.List.{flat_map}
-use Rattle.bale_types.specs.declared.item.Entry.{Entry}
+use Rattle.bale_items.specs.declared.item.Entry.{Entry}
 use Rattle.item_buffer.specs.Contents.{Shipped}
 use Rattle.list_laws.specs.Sums.{total}
 use Rattle.route_tensor.specs.Grid.{ranks}
@@ -14,6 +14,7 @@ use Rattle.port_bank.specs.Link.{LinkLaw}
 use Rattle.port_bank.specs.Machine.{Part}
 use Rattle.port_bank.specs.Plain.{Bank, IsBank}
 use Rattle.port_bank.specs.Relay.{RelayLaw}
+use Rattle.hop_core.specs.Lent.Lent.{Given}
 use Rattle.hop_core.specs.declared.phase.Phase.TheVariants.{Dormant}
 use Rattle.hop_core.specs.State.{State}
 use Rattle.convey.specs.Buffers.{in_of}
@@ -41,6 +42,7 @@ nowhere = record {
   done = false;
   phase = Dormant;
   epoch = 0;
+  lent = Given;
   pulled = None;
 }
 

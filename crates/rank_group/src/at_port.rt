@@ -4,9 +4,9 @@ ghost use Rattle.std.specs.Prelude.{◌<◌, ◌^◌};
 use crate::noting::NotingPort;
 use crate::sweeping::Rank;
 use crate::turning::turn_over;
-use bale_types::{NoMemory, Steps};
+use bale_items::{NoMemory, Steps};
 use port_bank::Port;
-use rank_crews::{Gate, Seated};
+use rank_crews::{GateLog, Seated};
 use round_program::Program;
 use std::marker::Model;
 use std::sync::Wait;
@@ -47,6 +47,8 @@ impl<'a, Q: Program, const CAP: usize, const HOPS: usize> Seated for AtPort<'a, 
 
     ghost ran = { λ told x y. Ran Q.rules CAP told x y };
 
+    ghost number = { λ x. x.seat.rank };
+
     ghost turns = { λ x. x.turns };
 
     ghost over = { λ x. x.rank.over || x.lost };
@@ -57,18 +59,20 @@ impl<'a, Q: Program, const CAP: usize, const HOPS: usize> Seated for AtPort<'a, 
 
     ghost still_laws = { same_laws (λ x. x.seat) };
 
+    fn rank(&self) -> u32 {
+        self.port.rank()
+    }
+
+    fn turn_count(&self) -> u64 {
+        self.turns
+    }
+
     fn is_over(&self) -> bool {
         self.rank.over || self.lost
     }
 
-    fn turn<R: Wait, G: Gate, L: Ledger>(
-        &mut self,
-        rt: &R,
-        gate: &G,
-        steps: &mut Steps<L>,
-    ) -> bool {
+    fn turn<R: Wait, J: GateLog, L: Ledger>(&mut self, rt: &R, steps: &mut Steps<L>) -> bool {
         await_turn(rt, self.turns);
-        gate.turn(self.port.rank(), self.turns);
         self.turns += 1;
         self.port.watch();
         match turn_over(&mut self.rank, &mut self.port, steps) {

@@ -6,7 +6,7 @@ ghost use Rattle.list_laws.specs.Counts.{counted};
 ghost use Rattle.port_bank.specs.Round.{IsRound, epochs_of};
 ghost use Rattle.rank_group.specs.Rounds.{round_of};
 
-use bale_types::NoMemory;
+use bale_items::NoMemory;
 use link_slots::SlotRound;
 use port_bank::PlainRound;
 use std::alloc::Global;

@@ -6,12 +6,12 @@ ghost use Rattle.rank_node.specs.Movers.{manner_of};
 ghost use Rattle.rank_group.specs.Ranks.{IsOrder};
 ghost use Rattle.rank_group.specs.Driven.{MayRun, HasFinished};
 ghost use Rattle.rank_group.specs.Defaults.{count_of, usual, HasDriven};
-ghost use Rattle.bale_types.specs.Ledgers.{IsBlankOf};
+ghost use Rattle.bale_items.specs.Ledgers.{IsBlankOf};
 ghost use Rattle.rank_node.specs.Fits.{FitsGrid};
 
 use crate::drive::{Finished, drive_serial};
 use crate::threads::drive_threads;
-use bale_types::{NoMemory, Steps};
+use bale_items::{NoMemory, Steps};
 use rank_crews::OpenGate;
 use rank_node::Via;
 use round_program::{Program, Progs};
@@ -21,7 +21,6 @@ use std::marker::Brand;
 use std::sync::Wait;
 use std::sync::ledger::{Blank, Ledger};
 use std::thread::Threads;
-use std::time::Clock;
 
 /// How many parcels a link has under way at most.
 #[derive(Clone, Copy, PartialEq, Eq, Debug)]
@@ -171,7 +170,7 @@ impl<'a, const CAP: usize, const HOPS: usize, Q: Program> InTurn<Q> for Driving<
 pub fn drive_on_threads<
     const CAP: usize,
     const HOPS: usize,
-    R: Threads + Wait + Clock + Sync,
+    R: Threads + Wait + Sync,
     Q: Program + Send,
 >(
     rt: &R,

@@ -11,7 +11,7 @@ use crate::closed_round::{ClosedRound, Rounds};
 use crate::closes::closes_laws;
 use crate::ranks::{ranks_of, take_progs};
 use crate::running::run_all;
-use bale_types::{NoMemory, Steps};
+use bale_items::{NoMemory, Steps};
 use port_bank::PlainBank;
 use rank_node::Via;
 use round_program::{Program, Progs};

@@ -2,7 +2,7 @@
 ghost use Rattle.std.specs.Prelude.{◌≡◌, IfOk};
 ghost use Rattle.std.specs.Iterator.{YieldsFirst, item_count};
 
-use bale_types::NoMemory;
+use bale_items::NoMemory;
 use std::alloc::Global;
 use std::marker::Model;
 

@@ -3,7 +3,7 @@ ghost use Rattle.std.specs.Prelude.{◌≡◌, ◌+◌, ◌==◌, true, false, l
 ghost use Rattle.link_slots.specs.Seen.{posted_on, collected_from};
 ghost use Rattle.rank_group.specs.Noted.{HasSame};
 
-use bale_types::NoMemory;
+use bale_items::NoMemory;
 use item_buffer::Parcel;
 use link_slots::{SlotPort, SlotSeat};
 use port_bank::{Collected, Fixed, Port, Posted};
@@ -66,7 +66,7 @@ impl<'a, const CAP: usize> Port<CAP> for NotingPort<'a, CAP> {
     ghost use Rattle.link_slots.specs.Logs.{out_of};
     ghost use Rattle.link_slots.specs.Does.{DidPost, DidCollect};
     ghost use Rattle.link_slots.specs.Seen.{posted_on, collected_from, freed, known, listened, noted_at, named};
-    ghost use Rattle.port_bank.specs.Calls.{posts_of, collects_of};
+    ghost use Rattle.port_bank.specs.Calls.{calls_of};
 
     type Memory = Fixed;
 
@@ -88,9 +88,7 @@ impl<'a, const CAP: usize> Port<CAP> for NotingPort<'a, CAP> {
 
     ghost idle = { λ p l. length (collected_from p.port.seat l) == known p.port.seat l };
 
-    ghost posts = { λ p. posts_of p.port.calls.value };
-
-    ghost collects = { λ p. collects_of p.port.calls.value };
+    ghost calls = { λ p. calls_of p.port.calls.value };
 
     ghost looks_out = { λ p l. (out_of p.port.seat.lists l).looks };
 

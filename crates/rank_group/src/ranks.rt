@@ -8,7 +8,7 @@ ghost use Rattle.rank_node.specs.Fits.{FitsGrid};
 
 use crate::list_parts::one_by_one;
 use crate::sweeping::Rank;
-use bale_types::NoMemory;
+use bale_items::NoMemory;
 use rank_node::{Node, Via};
 use round_program::{Program, Progs};
 use route_tensor::Grid;

@@ -13,7 +13,7 @@ ghost use Rattle.rank_group.specs.Turns.{SweepsOf};
 
 use crate::closes::closes_laws;
 use crate::sweeping::{Rank, sweep};
-use bale_types::{NoMemory, Steps};
+use bale_items::{NoMemory, Steps};
 use convey::rest_law;
 use port_bank::PlainBank;
 use round_program::Program;
@@ -35,8 +35,8 @@ pub(crate) fn run_all<const CAP: usize, const HOPS: usize, Q: Program, L: Ledger
     ensures bank { IfOk result (KeepsBank CAP bank.entry) }
     // It made sweeps in this order, and no other turn.
     ensures order { IfOk result (λ b. (k : ℕ) × SweepsOf Q.rules bank.entry.dims CAP bank.entry.slots order.now k
-        (record { ranks = all.old.items; sent = sent_of bank.entry; got = got_of bank.entry })
-        (record { ranks = all.new.items; sent = sent_of b; got = got_of b })) }
+        (record { ranks = all.old.items; sent = sent_of bank.entry; got = got_of bank.entry; turns = steps.old })
+        (record { ranks = all.new.items; sent = sent_of b; got = got_of b; turns = steps.new })) }
     ensures over { OnOk result ((r : ℕ) (x : RankState Q) → slice_get all.new.items r ≡ Some x → x.over ≡ true) }
     ensures world { (manner : Manner) (starts : _) (n : ℕ) (h : ℕ → ℕ → Q)
         → Plan Q.rules bank.entry.dims bank.entry.slots starts n

@@ -11,7 +11,7 @@ use crate::at_port::AtPort;
 use crate::list_parts::one_by_one;
 use crate::noting::NotingPort;
 use crate::sweeping::Rank;
-use bale_types::NoMemory;
+use bale_items::NoMemory;
 use link_slots::{GatherSeat, SlotBank};
 use round_program::Program;
 use std::alloc::Global;

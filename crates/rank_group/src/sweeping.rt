@@ -16,9 +16,9 @@ ghost use Rattle.rank_node.specs.Movers.{Manner, dims_of, rank_of, epoch_in};
 ghost use Rattle.rank_node.specs.Nodes.{IsNode};
 ghost use Rattle.rank_group.specs.Worlds.{Plan, World, SweptTo, KeepsBank, all_progress};
 ghost use Rattle.rank_group.specs.Ranks.{RankState, HasRank, AfterTurn, AfterRank, IsOrder};
-ghost use Rattle.rank_group.specs.Turns.{TurnsOf};
+ghost use Rattle.rank_group.specs.Turns.{TurnsOf, turn_count};
 
-use bale_types::{NoMemory, Steps};
+use bale_items::{NoMemory, Steps};
 use port_bank::PlainBank;
 use rank_node::{Node, Turn};
 use round_program::Program;
@@ -55,7 +55,7 @@ fn turn_rank<const CAP: usize, const HOPS: usize, Q: Program, L: Ledger>(
     ensures bank { IfOk result (KeepsBank CAP bank.entry) }
     ensures most_steps { steps.new ≤ steps.old + 1 }
     ensures fewest_steps { steps.old ≤ steps.new }
-    ensures steps { IfOk result (λ b. rank.old.over ≡ false → steps.new ≡ steps.old + 1) }
+    ensures steps { IfOk result (λ b. steps.new ≡ steps.old + turn_count rank.old) }
     ensures turned { IfOk result (λ b. AfterRank Q.rules bank.entry.dims CAP bank.entry.slots number rank.old rank.new
         (sent_of bank.entry) (got_of bank.entry) (sent_of b) (got_of b)) }
 {
@@ -111,8 +111,8 @@ fn turn_one<const CAP: usize, const HOPS: usize, Q: Program, L: Ledger>(
     ensures bank { IfOk result (KeepsBank CAP bank.entry) }
     ensures most_steps { steps.new ≤ steps.old + 1 }
     ensures fewest_steps { steps.old ≤ steps.new }
-    ensures steps { (n : RankState Q) → slice_get all.old.items number ≡ Some n → n.over ≡ false
-        → IfOk result (λ b. steps.new ≡ steps.old + 1) }
+    ensures steps { (n : RankState Q) → slice_get all.old.items number ≡ Some n
+        → IfOk result (λ b. steps.new ≡ steps.old + turn_count n) }
     ensures turned { (n n' : RankState Q) → slice_get all.old.items number ≡ Some n
         → slice_get all.new.items number ≡ Some n'
         → IfOk result (λ b. AfterRank Q.rules bank.entry.dims CAP bank.entry.slots number n n' (sent_of bank.entry)
@@ -145,8 +145,8 @@ pub(crate) fn sweep<const CAP: usize, const HOPS: usize, Q: Program, L: Ledger>(
     ensures posted { IfOk result (λ b. (l : ℕ) → l < links bank.entry.dims
         → length (sent_of b l) + steps.old ≤ length (sent_of bank.entry l) + steps.new) }
     ensures order { IfOk result (λ b. TurnsOf Q.rules bank.entry.dims CAP bank.entry.slots order.now
-        (record { ranks = all.old.items; sent = sent_of bank.entry; got = got_of bank.entry })
-        (record { ranks = all.new.items; sent = sent_of b; got = got_of b })) }
+        (record { ranks = all.old.items; sent = sent_of bank.entry; got = got_of bank.entry; turns = steps.old })
+        (record { ranks = all.new.items; sent = sent_of b; got = got_of b; turns = steps.new })) }
     ensures swept { (manner : Manner) (starts : List Q) (n : ℕ) (h : ℕ → ℕ → Q)
         → Plan Q.rules bank.entry.dims bank.entry.slots starts n
         → (w : World Q.rules bank.entry.dims CAP bank.entry.slots manner starts h all.old.items (sent_of bank.entry)

@@ -11,23 +11,22 @@ use crate::drive::Finished;
 use crate::ranks::{ranks_of, take_progs};
 use crate::seating::{gather_all, seat_all};
 use crate::thread_count::threads_for;
-use bale_types::NoMemory;
+use bale_items::NoMemory;
 use link_slots::SlotBank;
-use rank_crews::{Gate, run_together};
+use rank_crews::{Gate, ThreadLimit, Workers, run_together};
 use rank_node::Via;
 use round_program::{Program, Progs};
 use route_tensor::Grid;
 use std::alloc::Global;
 use std::sync::Wait;
 use std::thread::Threads;
-use std::time::Clock;
 
 /// Drives the programs of all ranks, from their first round to their last, over one slot bank with parcels of `CAP` entries and
 /// `slots` (1, 2, 4 or 8) parcels on a link at a time. With no more ranks than the machine has processors each rank has a thread
-/// of its own; else there are as many threads as processors, and rank r is turned by thread r mod T, in turns with the others of
-/// its crew. The threads are up over all rounds. Before each turn of a rank the gate is told of it. A crew whose thread can't be
-/// started is turned by the caller, in turns with the others of its kind. Where other work keeps the threads from their processors,
-/// all crews come home, and the caller turns them by itself; none does where the gate holds ranks.
+/// of its own; else there are as many threads T as processors, and rank r is polled by thread r mod T, in turn with its other
+/// ranks. The threads are up over all rounds. The gate is notified of each turn of a rank before it is made. If a thread can't be
+/// started, the caller polls its ranks. If other work keeps the threads from their processors, all ranks fall back to the caller,
+/// which polls those of each thread as soon as that returns.
 ///
 /// It waits for its threads, and returns where they do.
 ///
@@ -36,7 +35,7 @@ use std::time::Clock;
 pub fn drive_threads<
     const CAP: usize,
     const HOPS: usize,
-    R: Threads + Wait + Clock + Sync,
+    R: Threads + Wait + Sync,
     Q: Program + Send,
     G: Gate + Sync,
 >(
@@ -55,23 +54,33 @@ pub fn drive_threads<
     ensures finished { IfOk result (HasFinished Q.rules progs
         (record { dims = grid.now; cap = CAP; slots = slots; by_slots = true }) (manner_of via steady)) }
 
-    // This gate was told of the turns of each rank.
+    // This gate was notified of the turns of each rank.
     ensures told { OnOk result (ToldOfTurns Q.rules progs grid.now (G.told gate.now)) }
 {
-    let threads = threads_for(rt, grid.ranks());
+    let number = threads_for(rt, grid.ranks());
     drive_with::<CAP, HOPS, R, Q, G>(
-        rt, alloc, grid, via, slots, steady, progs, gate, threads, threads,
+        rt,
+        alloc,
+        grid,
+        via,
+        slots,
+        steady,
+        progs,
+        gate,
+        Workers { number },
+        ThreadLimit { number },
     )
 }
 
-/// The same in `crews` crews, of which the first `threads` have a thread each, and the caller turns the others.
+/// `drive_threads` with so many workers, of which the first have a thread each, as many as `threads` says. The caller polls the
+/// ranks of the others.
 ///
 /// # Errors
 /// As those of `drive_threads`.
 pub fn drive_with<
     const CAP: usize,
     const HOPS: usize,
-    R: Threads + Wait + Clock + Sync,
+    R: Threads + Wait + Sync,
     Q: Program + Send,
     G: Gate + Sync,
 >(
@@ -83,8 +92,8 @@ pub fn drive_with<
     steady: bool,
     progs: Progs<Q>,
     gate: &G,
-    crews: usize,
-    threads: usize,
+    workers: Workers,
+    threads: ThreadLimit,
 ) -> Result<Finished<Q>, NoMemory>
     requires fits { FitsGrid CAP HOPS grid.now }
     requires slots { IsSlots slots }
@@ -98,7 +107,7 @@ pub fn drive_with<
     let all = ranks_of::<CAP, HOPS, Q>(alloc, grid, via, steady, progs)?;
     let (bank, mut gather) = SlotBank::<CAP>::new(alloc, grid, slots)?;
     let seated = seat_all(alloc, &bank, &mut gather, all)?;
-    let ended = run_together(rt, alloc, gate, crews, threads, seated)?;
+    let ended = run_together(rt, alloc, gate, workers, threads, seated)?;
     let over = gather_all(alloc, &bank, &mut gather, ended)?;
     let mut rounds = Rounds::new(alloc);
     rounds.add(ClosedRound::Slots(bank.close(gather)))?;

@@ -5,7 +5,7 @@ ghost use Rattle.rank_node.specs.Movers.{Manner, epoch_in};
 ghost use Rattle.rank_group.specs.Ranks.{IsRank, progress};
 
 use crate::sweeping::Rank;
-use bale_types::{NoMemory, Steps};
+use bale_items::{NoMemory, Steps};
 use port_bank::Port;
 use rank_node::Turn;
 use round_program::Program;

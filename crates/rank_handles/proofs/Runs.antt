@@ -14,7 +14,7 @@ use Rattle.convey.specs.Parts.{part_of}
 use Rattle.convey.specs.Conveyors.{AgreesWith, KeepsAgreement, IsStepOf, GivesNext, standing_toward}
 use Rattle.rank_handles.specs.declared.answer.Answer.TheVariants.{Good, Full, Nothing, NoSuchRank}
 use Rattle.rank_handles.specs.Answers.{while_working, push_answer, item_or_nothing, pull_once_begun, pull_result}
-use Rattle.bale_types.specs.declared.item.Item.{Item}
+use Rattle.bale_items.specs.declared.item.Item.{Item}
 use Rattle.port_bank.specs.Machine.{Part, Step, MayBy, after}
 use Rattle.hop_core.specs.declared.phase.Phase.{Phase}
 use Rattle.rank_handles.specs.declared.item.BaleItem.{BaleItem}

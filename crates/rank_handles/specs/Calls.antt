@@ -1,6 +1,6 @@
 -- What each call on a rank leaves of it. What the call answers is said in Answers.
 use Rattle.std.specs.Prelude.{◌≡◌, ◌≢◌, ⊤, ℕ, Bool, Option, Some, None, Err, IfOk}
-use Rattle.bale_types.specs.declared.item.Item.{Item}
+use Rattle.bale_items.specs.declared.item.Item.{Item}
 use Rattle.port_bank.specs.Machine.Step.{Push, Pull, Unpull, Reset, Idle}
 use Rattle.hop_core.specs.declared.phase.Phase.TheVariants.{Dormant, Working}
 use Rattle.convey.specs.Buffers.{is_complete}

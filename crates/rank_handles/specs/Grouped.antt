@@ -6,6 +6,7 @@ use Rattle.item_buffer.specs.Capacity.{is_capacity}
 use Rattle.route_tensor.specs.Grid.{ranks}
 use Rattle.route_tensor.specs.Refusal.{refusal}
 use Rattle.link_slots.specs.Seen.{Identity, posted_on, collected_from}
+use Rattle.hop_core.specs.Lent.Lent.{Given}
 use Rattle.hop_core.specs.declared.phase.Phase.TheVariants.{Dormant}
 use Rattle.hop_core.specs.Link.{no_out, no_in}
 use Rattle.hop_core.specs.State.{State}
@@ -53,6 +54,7 @@ new_state dims rank cap steady = record {
   done = false;
   phase = Dormant;
   epoch = 0;
+  lent = Given;
   pulled = None;
 }
 

@@ -1,6 +1,6 @@
 -- Items as C has them: the same three words.
 use Rattle.std.specs.Prelude.{ℕ, Result, Ok, Err}
-use Rattle.bale_types.specs.declared.item.Item.{Item}
+use Rattle.bale_items.specs.declared.item.Item.{Item}
 use Rattle.rank_handles.specs.declared.answer.Answer.{Answer}
 use Rattle.rank_handles.specs.declared.item.BaleItem.{BaleItem}
 

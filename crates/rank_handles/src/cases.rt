@@ -11,7 +11,7 @@ use crate::exchange::Exchange;
 use crate::group::Group;
 use crate::item::BaleItem;
 use crate::rank::Rank;
-use bale_types::{Item, NoMemory};
+use bale_items::{Item, NoMemory};
 use hop_core::Phase;
 use item_buffer::is_capacity;
 use route_tensor::Grid;

@@ -9,7 +9,7 @@ ghost use Rattle.rank_handles.specs.Many.{push_many_answer, pull_many_answer, nu
 
 use crate::answer::Answer;
 use crate::item::BaleItem;
-use bale_types::Item;
+use bale_items::Item;
 use hop_core::Phase;
 
 /// One rank's side of an exchange. Each call tests what the layers below require: misuse has an answer, and changes nothing.

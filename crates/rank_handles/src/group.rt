@@ -11,7 +11,7 @@ ghost use Rattle.rank_handles.specs.Cases.{seen_by_hops};
 use crate::answer::Answer;
 use crate::cases::HopsCase;
 use crate::rank::Rank;
-use bale_types::NoMemory;
+use bale_items::NoMemory;
 use link_slots::{GatherSeat, SlotBank};
 use route_tensor::Grid;
 use std::alloc::Global;

@@ -2,7 +2,7 @@
 ghost use Rattle.std.specs.Prelude.{◌≡◌};
 ghost use Rattle.rank_handles.specs.Items.{item_of, bale_item};
 
-use bale_types::Item;
+use bale_items::Item;
 
 /// An item: three words, whose meaning is the program's own.
 #[repr(C)]

@@ -6,7 +6,7 @@ ghost use Rattle.rank_handles.specs.Handles.{rank_in, group_in, if_there, given_
 use crate::answer::Answer;
 use crate::cases::AnyGroup;
 use crate::part::Part;
-use bale_types::NoMemory;
+use bale_items::NoMemory;
 use std::alloc::Global;
 
 /// A group of these numbers, in a box of its own.

@@ -6,7 +6,7 @@ use crate::answer::Answer;
 use crate::cases::{AnyGroup, AnyRank};
 use crate::exchange::Exchange;
 use crate::item::BaleItem;
-use bale_types::Item;
+use bale_items::Item;
 use hop_core::Phase;
 
 /// What a handle may have. Its calls are those of the rank; where there is none, they answer that it is gone.

@@ -16,7 +16,7 @@ use crate::answer::Answer;
 use crate::exchange::Exchange;
 use crate::item::BaleItem;
 use crate::many::{are_ranks, pull_while_some, push_while_room};
-use bale_types::{Item, NoMemory};
+use bale_items::{Item, NoMemory};
 use convey::{Conveyor, Phase, Progress, Pushed};
 use link_slots::{GatherSeat, SlotBank, SlotSeat};
 use route_tensor::Grid;

@@ -2,7 +2,7 @@
 use Rattle.std.proofs.Common.{◌≡◌, ◌≢◌, ℕ, suc, ◌+◌, ◌*◌, ◌-◌, ◌^◌, ◌<◌, ◌≤◌, min, Bool, true, false, cond, List, [], ◌∷◌, ◌++◌, length, take, refl, sym, ap, subst, ◌∙◌, arith, inl, inr, sum_by}
 use Rattle.std.proofs.lemmas.Bool.{cases_eq, true≢false, false≢true, eq-eqb, ne_eqb}
 use Rattle.std.proofs.lemmas.List.{take_all, append-nil}
-use Rattle.bale_types.specs.declared.item.Item.{Item}
+use Rattle.bale_items.specs.declared.item.Item.{Item}
 use Rattle.list_laws.specs.Sums.{total}
 use Rattle.list_laws.proofs.Sums.{total_zero}
 use Rattle.port_bank.specs.Flow.{Begins}
@@ -18,7 +18,7 @@ use Rattle.round_program.proofs.Steps.{own_same, own_work_done, own_work_over, o
 use Rattle.rank_node.specs.declared.sends.Sends.{Sends}
 use Rattle.rank_node.specs.declared.sends.Sends.TheVariants.{Emissions, Nothing, Votes}
 use Rattle.rank_node.specs.Sending.{votes_to, to_send, is_voting, epoch_of, spoiled_vote}
-use Rattle.rank_node.specs.Runs.{lists_of, HasTaken}
+use Rattle.rank_node.specs.Runs.{lists_of, round_after, from_round, HasTaken}
 use Rattle.rank_node.specs.Next.{extended}
 use Rattle.rank_node.proofs.Ballots.{votes_each}
 
@@ -65,6 +65,9 @@ module _ {S : Type 0} (R : Rules S) (laws : Laws R) (p rank : ℕ) (h : ℕ → 
   abbrev over : Part
   over = after Reset part
 
+  abbrev R' : Rules S
+  R' = from_round (R.round (h 0)) R
+
   -- after work come the votes
   pub to_votes : (sends : Sends) (vote q : ℕ) → is_voting sends ≡ false → q ≡ p → vote ≡ cond lost spoiled_vote (R.vote prog) → HasTaken R p rank h round sends next prog sum lost part
       → HasTaken R p rank h round (Votes vote q) 0 prog 0 lost (after Reset part)
@@ -78,10 +81,11 @@ module _ {S : Type 0} (R : Rules S) (laws : Laws R) (p rank : ℕ) (h : ℕ → 
           own_rank = is.passed.own_rank;
           all_ranks = is.passed.all_ranks;
           own_round = is.passed.own_round;
+          few = is.passed.few;
           own =
-              let own : Own R p (2 * round) (2 * round) h (lists_of part) = subst (λ k. Own R p k k h (lists_of part)) e is.passed.own in
+              let own : Own R' p (2 * round) (2 * round) h (lists_of part) = subst (λ k. Own R' p k k h (lists_of part)) e is.passed.own in
               let one : 2 * round + 1 ≡ part.epoch + 1 = omega (arith, e) in
-              subst (λ k. Own R p k k h (lists_of part)) one (own_work_over R p round h (lists_of part) (own_work_done R p round h (lists_of part) is.passed.goes own));
+              subst (λ k. Own R' p k k h (lists_of part)) one (own_work_over R' p round h (lists_of part) (own_work_done R' p round h (lists_of part) is.passed.goes own));
           goes = is.passed.goes;
           emitted_front = λ m d b c. elim (cases_eq m round) [
             | inl here ↦ subst (λ k. Begins (part.pushed (2 * k) d) (emitted R (h k) d)) (sym here) (work_front R p h prog sends next round d (part.pushed (2 * round) d) work all is.within.emissions (subst (λ k. part.pushed k d ≡ items_of d (take next (to_send R prog sends))) e (is.within.pushed d b)))
@@ -110,7 +114,7 @@ module _ {S : Type 0} (R : Rules S) (laws : Laws R) (p rank : ℕ) (h : ℕ → 
         votes_second s = cc
 
   -- what it told in the round that it ends
-  pub voted : (v q : ℕ) → HasTaken R p rank h round (Votes v q) next prog sum lost part → Voted R p h (lists_of part) round
+  pub voted : (v q : ℕ) → HasTaken R p rank h round (Votes v q) next prog sum lost part → Voted R' p h (lists_of part) round
   voted v q is = by lost refl where
     e : part.epoch ≡ 2 * round + 1
     e = is.passed.epoch
@@ -123,7 +127,7 @@ module _ {S : Type 0} (R : Rules S) (laws : Laws R) (p rank : ℕ) (h : ℕ → 
         subst (λ k. part.pushed k d ≡ items_of d (take next (votes_to q v))) e (is.within.pushed d b)
         ∙ (all_of (votes_to q v) next d all ∙ (votes_each q v d (subst (λ k. d < k) (sym (is.within.vote v q refl).0) b) ∙ ap (λ k. vote_item k ∷ []) same))
 
-    by : (b : Bool) → lost ≡ b → Voted R p h (lists_of part) round
+    by : (b : Bool) → lost ≡ b → Voted R' p h (lists_of part) round
     by true c = spoiled (says spoiled_vote ((is.within.vote v q refl).1 ∙ ap (λ b. cond b spoiled_vote (R.vote (worked R p h (lists_of part) round))) c))
     by false c = told (is.within.emitted_all refl c) (says (R.vote (worked R p h (lists_of part) round)) ((is.within.vote v q refl).1 ∙ ap (λ b. cond b spoiled_vote (R.vote (worked R p h (lists_of part) round))) c))
 
@@ -136,22 +140,25 @@ extended_at h m s = ap (λ b. cond b s (h m)) (eq-eqb m m refl)
 
 -- the rank after its round: completed, with the next state at the end of its history
 pub own_ended : {S : Type 0} (R : Rules S) → Laws R → (p rank : ℕ) (h : ℕ → S) (round next : ℕ) (prog : S) (sum : ℕ) (part : Part) (v q : ℕ) → part.done ≡ true → sum ≢ 2 ^ 64 - 1
-    → HasTaken R p rank h round (Votes v q) next prog sum false part → Own R p (2 * round + 2) (2 * round + 2) (extended h (round + 1) (R.ended prog sum)) (lists_of part)
-own_ended R laws p rank h round next prog sum part v q done clean is =
+    → HasTaken R p rank h round (Votes v q) next prog sum false part → Own (from_round (R.round (extended h (round + 1) (R.ended prog sum) 0)) R) p (2 * round + 2) (2 * round + 2) (extended h (round + 1) (R.ended prog sum)) (lists_of part)
+own_ended {S} R laws p rank h round next prog sum part v q done clean is =
     let e : part.epoch ≡ 2 * round + 1 = is.passed.epoch in
     let h' = extended h (round + 1) (R.ended prog sum) in
     let l = lists_of part in
-    let own : Own R p (2 * round + 1) (2 * round + 1) h l = subst (λ k. Own R p k k h l) e is.passed.own in
+    let R' : Rules S = from_round (R.round (h 0)) R in
+    let own : Own R' p (2 * round + 1) (2 * round + 1) h l = subst (λ k. Own R' p k k h l) e is.passed.own in
     let vote = voted R laws p rank h round next prog sum false part done v q is in
-    let own1 : Own R p (2 * round + 1) (2 * round + 2) h l = own_vote_done R p round h l vote own in
+    let own1 : Own R' p (2 * round + 1) (2 * round + 2) h l = own_vote_done R' p round h l vote own in
     let hist : (m : ℕ) → 2 * m ≤ 2 * round + 1 → h' m ≡ h m = λ m b. extended_before h (round + 1) (R.ended prog sum) m (λ q. omega (arith, q, b)) in
-    let own2 : Own R p (2 * round + 1) (2 * round + 2) h' l = own_same R p (2 * round + 1) (2 * round + 2) h h' l l (record { pushed = λ e d b. refl; pulled = λ e f b. refl }) hist own1 in
+    let own2 : Own R' p (2 * round + 1) (2 * round + 2) h' l = own_same R' p (2 * round + 1) (2 * round + 2) h h' l l (record { pushed = λ e d b. refl; pulled = λ e f b. refl }) hist own1 in
     let hears : sum ≡ heard p l round = is.within.hears refl in
     let was : prog ≡ worked R p h l round = is.within.works refl in
     let at : h' (suc round) ≡ R.ended prog sum = ap h' (omega arith) ∙ extended_at h (round + 1) (R.ended prog sum) in
     let here : h' round ≡ h round = extended_before h (round + 1) (R.ended prog sum) round (λ q. omega (arith, q)) in
-    own_round_over R p round h' l (λ q. clean (hears ∙ q))
-    (at ∙ (ap (λ w. R.ended w sum) (was ∙ ap (λ s. after_pulls R s (part.pulled (2 * round)) p) (sym here)) ∙ ap (R.ended (worked R p h' l round)) hears)) own2
+    let first : h' 0 ≡ h 0 = extended_before h (round + 1) (R.ended prog sum) 0 (λ q. omega (arith, q)) in
+    subst (λ s. Own (from_round (R.round s) R) p (2 * round + 2) (2 * round + 2) h' l) (sym first)
+    (own_round_over R' p round h' l (λ q. clean (hears ∙ q))
+    (at ∙ (ap (λ w. R.ended w sum) (was ∙ ap (λ s. after_pulls R s (part.pulled (2 * round)) p) (sym here)) ∙ ap (R.ended (worked R p h' l round)) hears)) own2)
 
 -- another round
 pub to_work : {S : Type 0} (R : Rules S) → Laws R → (p rank : ℕ) (h : ℕ → S) (round next : ℕ) (prog prog' : S) (sum : ℕ) (lost : Bool) (sends : Sends) (part : Part) (v q : ℕ) → part.done ≡ true → sum ≢ 2 ^ 64 - 1
@@ -169,6 +176,8 @@ to_work R laws p rank h round next prog prog' sum lost sends part v q done clean
     let after' : NextRound R prog (R.ended prog sum) = laws.next prog sum same.valid low in
     let at : h' (round + 1) ≡ R.ended prog sum = extended_at h (round + 1) (R.ended prog sum) in
     let here : (m : ℕ) → m ≤ round → h' m ≡ h m = λ m b. extended_before h (round + 1) (R.ended prog sum) m (λ q. omega (arith, q, b)) in
+    let first : h' 0 ≡ h 0 = here 0 (omega arith) in
+    let one_more : suc round ≡ round + 1 = omega arith in
     let all : next ≡ length (votes_to q v) = is.within.all_pushed done in
     record {
       passed = record {
@@ -176,16 +185,17 @@ to_work R laws p rank h round next prog prog' sum lost sends part v q done clean
         valid = subst R.valid (sym at) after'.valid;
         own_rank = ap R.rank at ∙ (after'.rank ∙ (same.rank ∙ is.passed.own_rank));
         all_ranks = ap R.ranks at ∙ (after'.ranks ∙ (same.ranks ∙ is.passed.all_ranks));
-        own_round = ap R.round at ∙ (after'.round ∙ (ap (λ k. min (k + 1) (2 ^ 64 - 1)) (same.round ∙ is.passed.own_round) ∙ omega (arith, few)));
+        own_round = ap R.round at ∙ (after'.round ∙ (ap (λ k. min (k + 1) (2 ^ 64 - 1)) (same.round ∙ (is.passed.own_round ∙ ap (λ s. round_after (R.round s) round) (sym first))) ∙ ap (round_after (R.round (h' 0))) one_more));
+        few = omega (arith, few);
         own =
             let two : 2 * round + 2 ≡ part.epoch + 1 = omega (arith, e) in
-            subst (λ k. Own R p k k h' l) two (own_ended R laws p rank h round next prog sum part v q done clean is);
+            subst (λ k. Own (from_round (R.round (h' 0)) R) p k k h' l) two (own_ended R laws p rank h round next prog sum part v q done clean is);
         goes = λ m b.
             let m' : m ≡ round = omega (arith, b) in
-            subst (λ k. R.goes_on (R.shape (h' k)) k (heard p l k) ≡ true) (sym m')
-            (ap (λ s. R.goes_on (R.shape s) round (heard p l round)) (here round (omega arith))
-            ∙ (ap (λ a. R.goes_on a round (heard p l round)) (sym same.shape)
-            ∙ (ap (λ k. R.goes_on (R.shape prog) k (heard p l round)) (sym (same.round ∙ is.passed.own_round)) ∙ (ap (R.goes_on (R.shape prog) (R.round prog)) (sym hears) ∙ goes))));
+            subst (λ k. R.goes_on (R.shape (h' k)) (round_after (R.round (h' 0)) k) (heard p l k) ≡ true) (sym m')
+            (ap (λ s. R.goes_on (R.shape s) (round_after (R.round (h' 0)) round) (heard p l round)) (here round (omega arith))
+            ∙ (ap (λ a. R.goes_on a (round_after (R.round (h' 0)) round) (heard p l round)) (sym same.shape)
+            ∙ (ap (λ k. R.goes_on (R.shape prog) k (heard p l round)) (sym (same.round ∙ (is.passed.own_round ∙ ap (λ s. round_after (R.round s) round) (sym first)))) ∙ (ap (R.goes_on (R.shape prog) (R.round prog)) (sym hears) ∙ goes))));
         emitted_front = λ m d b c. subst (λ s. Begins (part.pushed (2 * m) d) (emitted R s d)) (sym (here m (omega (arith, c, e)))) (is.passed.emitted_front m d b (omega (arith, c, e)));
         one_vote = λ m d b c. elim (cases_eq m round) [
           | inl same' ↦ subst (λ k. length (part.pushed (2 * k + 1) d) ≤ 1) (sym same')

@@ -1,6 +1,6 @@
 -- One more emission is pushed.
 use Rattle.std.proofs.Common.{◌≡◌, ℕ, ◌<◌, true, All}
-use Rattle.bale_types.specs.declared.item.Item.{Item}
+use Rattle.bale_items.specs.declared.item.Item.{Item}
 use Rattle.list_laws.proofs.Lists.{all_get, all_from_gets}
 use Rattle.round_program.specs.Rules.{Rules}
 use Rattle.round_program.specs.Laws.{Laws}

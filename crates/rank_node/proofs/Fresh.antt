@@ -29,23 +29,24 @@ use Rattle.rank_node.specs.declared.sends.Sends.TheVariants.{Emissions}
 use Rattle.rank_node.specs.Movers.{MoverState, Manner, dims_of, rank_of, epoch_in, part_in, IsNew}
 use Rattle.rank_node.specs.Movers.MoverState.{Conveying, Stacking}
 use Rattle.rank_node.specs.Movers.Manner.{ByConveyor, ByExstack}
-use Rattle.rank_node.specs.Runs.{lists_of, HasTaken}
+use Rattle.rank_node.specs.Runs.{lists_of, from_round, HasTaken}
 use Rattle.rank_node.specs.Nodes.{IsNode}
 use Rattle.rank_node.proofs.Begun.{no_logs, Empty, new_part, new_links, same_or}
 use Rattle.rank_node.proofs.Onward.{paced_start}
 
 -- the first epoch, in which nothing was pushed or pulled
 pub fresh_taken : {S : Type 0} (R : Rules S) (p rank : ℕ) (prog : S) (part : Part) → part.epoch ≡ 0 → part.done ≡ false → ((e d : ℕ) → (part.pushed e d ≡ []) × (part.pulled e d ≡ []))
-    → R.valid prog → R.rank prog ≡ rank → R.ranks prog ≡ p → R.round prog ≡ 0 → HasTaken R p rank (λ m. prog) 0 Emissions 0 prog 0 false part
-fresh_taken R p rank prog part first not_done none valid own all round =
+    → R.valid prog → R.rank prog ≡ rank → R.ranks prog ≡ p → HasTaken R p rank (λ m. prog) 0 Emissions 0 prog 0 false part
+fresh_taken R p rank prog part first not_done none valid own all =
     record {
       passed = record {
         epoch = first;
         valid = valid;
         own_rank = own;
         all_ranks = all;
-        own_round = round;
-        own = subst (λ e. Own R p e e (λ m. prog) (lists_of part)) (sym first) (own_start R p (λ m. prog) (lists_of part));
+        own_round = refl;
+        few = omega arith;
+        own = subst (λ e. Own (from_round (R.round prog) R) p e e (λ m. prog) (lists_of part)) (sym first) (own_start (from_round (R.round prog) R) p (λ m. prog) (lists_of part));
         goes = λ m next. absurd (omega arith);
         emitted_front = λ m d b c. absurd (omega (arith, c, first));
         one_vote = λ m d b c. absurd (omega (arith, c, first));
@@ -68,11 +69,11 @@ not_dormant : (p : Phase) → p ≡ Working → p ≢ Dormant
 not_dormant p w d = absurd (cc)
 
 pub fresh_node : {S : Type 0} (R : Rules S) (prog : S) (dims : List ℕ) (rank : ℕ) (manner : Manner) (m : MoverState) → IsNew dims rank manner m
-    → R.valid prog → R.rank prog ≡ rank → R.ranks prog ≡ ranks dims → R.round prog ≡ 0
+    → R.valid prog → R.rank prog ≡ rank → R.ranks prog ≡ ranks dims
     → IsNode R (λ k. prog) (record { run = record { prog = prog; round = 0; sends = Emissions; next = 0; sum = 0; spoiled = false }; mover = m }) no_logs no_logs
-fresh_node R prog dims rank manner m new valid own all round =
+fresh_node R prog dims rank manner m new valid own all =
     let t : HasTaken R (ranks (dims_of m)) (rank_of m) (λ k. prog) 0 Emissions 0 prog 0 false (part_in m no_logs no_logs) =
-    fresh_taken R (ranks (dims_of m)) (rank_of m) prog (part_in m no_logs no_logs) (part_epoch m ∙ new.first) new.not_done new.none valid (own ∙ sym new.same_rank) (all ∙ ap ranks (sym new.same_dims)) round in
+    fresh_taken R (ranks (dims_of m)) (rank_of m) prog (part_in m no_logs no_logs) (part_epoch m ∙ new.first) new.not_done new.none valid (own ∙ sym new.same_rank) (all ∙ ap ranks (sym new.same_dims)) in
     record { moving = new.moving; paced = paced_start R (record { prog = prog; round = 0; sends = Emissions; next = 0; sum = 0; spoiled = false }) m new.starts; passed = t.passed; within = t.within } where
       part_epoch : (m : MoverState) → (part_in m no_logs no_logs).epoch ≡ epoch_in m
       part_epoch (Conveying c) = refl

@@ -1,6 +1,6 @@
 -- What a rank knows of the epochs that are over stays, as its lists grow in the current one.
 use Rattle.std.proofs.Common.{◌≡◌, ◌≢◌, ℕ, ◌+◌, ◌*◌, ◌<◌, ◌≤◌, Bool, true, false, List, length, refl, sym, ap, subst, ◌∙◌, arith}
-use Rattle.bale_types.specs.declared.item.Item.{Item}
+use Rattle.bale_items.specs.declared.item.Item.{Item}
 use Rattle.port_bank.specs.Flow.{Begins}
 use Rattle.port_bank.specs.Machine.{Part}
 use Rattle.round_program.specs.Rules.{Rules}
@@ -8,7 +8,7 @@ use Rattle.round_program.specs.Canonical.{emitted}
 use Rattle.round_program.specs.Epochs.{Own}
 use Rattle.round_program.proofs.Steps.{SameBefore, own_same, heard_same}
 use Rattle.rank_node.specs.Sending.{epoch_of}
-use Rattle.rank_node.specs.Runs.{lists_of, HasPassed}
+use Rattle.rank_node.specs.Runs.{lists_of, round_after, from_round, HasPassed}
 
 -- a part whose lists of other epochs are as they were
 pub record SameElsewhere (part part' : Part) : Type 0 where
@@ -31,8 +31,9 @@ passed_same R p rank h round voting part part' same is =
       own_rank = is.own_rank;
       all_ranks = is.all_ranks;
       own_round = is.own_round;
-      own = subst (λ e. Own R p e e h (lists_of part')) (sym e') (own_same R p part.epoch part.epoch h h (lists_of part) (lists_of part') before (λ m b. refl) is.own);
-      goes = λ m next. ap (R.goes_on (R.shape (h m)) m) (heard_same p part.epoch part.epoch (lists_of part) (lists_of part') m before (low round voting part.epoch m here next)) ∙ is.goes m next;
+      few = is.few;
+      own = subst (λ e. Own (from_round (R.round (h 0)) R) p e e h (lists_of part')) (sym e') (own_same (from_round (R.round (h 0)) R) p part.epoch part.epoch h h (lists_of part) (lists_of part') before (λ m b. refl) is.own);
+      goes = λ m next. ap (R.goes_on (R.shape (h m)) (round_after (R.round (h 0)) m)) (heard_same p part.epoch part.epoch (lists_of part) (lists_of part') m before (low round voting part.epoch m here next)) ∙ is.goes m next;
       emitted_front = λ m d b c. subst (λ xs. Begins xs (emitted R (h m) d)) (sym (same.pushed (2 * m) d (λ q. omega arith))) (is.emitted_front m d b (subst (λ e. 2 * m < e) e' c));
       one_vote = λ m d b c. subst (λ (xs : List Item). length xs ≤ 1) (sym (same.pushed (2 * m + 1) d (λ q. omega arith))) (is.one_vote m d b (subst (λ e. 2 * m + 1 < e) e' c));
       ahead =

@@ -1,7 +1,7 @@
 -- Pushes toward ranks, into a conveyor or into an exstack.
 use Rattle.std.specs.Prelude.{◌≡◌, ℕ, ◌<◌, ◌≤◌, Bool, true, false, List, length, None}
 use Rattle.std.specs.List.{All}
-use Rattle.bale_types.specs.declared.item.Item.{Item}
+use Rattle.bale_items.specs.declared.item.Item.{Item}
 use Rattle.route_tensor.specs.Grid.{ranks}
 use Rattle.port_bank.specs.Machine.Step.{Push, Idle}
 use Rattle.hop_core.specs.declared.phase.Phase.TheVariants.{Working}

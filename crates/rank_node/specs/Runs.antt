@@ -1,6 +1,7 @@
 -- What a rank has done in a run of many epochs, against its part of the exchange machine.
-use Rattle.std.specs.Prelude.{◌≡◌, ℕ, ◌+◌, ◌*◌, ◌<◌, ◌≤◌, Bool, true, false, List, [], length, take, if◌then◌else◌}
-use Rattle.bale_types.specs.declared.item.Item.{Item}
+use Rattle.std.specs.Prelude.{◌≡◌, ℕ, zero, suc, ◌+◌, ◌-◌, ◌*◌, ◌^◌, ◌<◌, ◌≤◌, min, Bool, true, false, List, [], length, take}
+use Rattle.std.specs.Prelude.{if◌then◌else◌}
+use Rattle.bale_items.specs.declared.item.Item.{Item}
 use Rattle.port_bank.specs.Flow.{Begins}
 use Rattle.port_bank.specs.Machine.{Part}
 use Rattle.round_program.specs.Rules.{Rules}
@@ -42,10 +43,21 @@ running r = record {
   spoiled = r.taken.spoiled;
 }
 
+-- The number of a program's round once m rounds have ended since round b. It saturates at 2^64 - 1.
+-- From round 5 on, two rounds later, it is 7.
+abbrev pub round_after : ℕ → ℕ → ℕ
+round_after b zero = b
+round_after b (suc m) = min (round_after b m + 1) (2 ^ 64 - 1)
+
+-- The rules of a run in which the programs begin in round b: its round m is the programs' round b + m.
+abbrev pub from_round : {S : Type 0} → ℕ → Rules S → Rules S
+from_round b R = record R { goes_on = λ shape m votes. R.goes_on shape (round_after b m) votes }
+
 -- The epochs that are over for a rank of p ranks; h m is the state of its program as round m began,
 -- or the state that it would have had with memory.
 -- epoch: round m works in epoch 2m and votes in epoch 2m + 1.
 -- own: it knows of itself what the theorem over all rounds asks; goes: each round followed because the program goes on.
+-- few: a node has so many rounds at most.
 -- emitted_front, one_vote: it pushed at most what its program emits, and at most one vote toward each rank.
 -- ahead: nothing was pushed or pulled in a later epoch.
 pub record HasPassed {S : Type 0} (R : Rules S) (p rank : ℕ) (h : ℕ → S) (round : ℕ) (voting : Bool)
@@ -54,9 +66,11 @@ pub record HasPassed {S : Type 0} (R : Rules S) (p rank : ℕ) (h : ℕ → S) (
   pub valid : R.valid (h round)
   pub own_rank : R.rank (h round) ≡ rank
   pub all_ranks : R.ranks (h round) ≡ p
-  pub own_round : R.round (h round) ≡ round
-  pub own : Own R p part.epoch part.epoch h (lists_of part)
-  pub goes : (m : ℕ) → m + 1 ≡ round → R.goes_on (R.shape (h m)) m (heard p (lists_of part) m) ≡ true
+  pub own_round : R.round (h round) ≡ round_after (R.round (h 0)) round
+  pub few : round ≤ 2 ^ 63
+  pub own : Own (from_round (R.round (h 0)) R) p part.epoch part.epoch h (lists_of part)
+  pub goes : (m : ℕ) → m + 1 ≡ round
+      → R.goes_on (R.shape (h m)) (round_after (R.round (h 0)) m) (heard p (lists_of part) m) ≡ true
   pub emitted_front : (m d : ℕ) → d < p → 2 * m < part.epoch → Begins (part.pushed (2 * m) d) (emitted R (h m) d)
   pub one_vote : (m d : ℕ) → d < p → 2 * m + 1 < part.epoch → length (part.pushed (2 * m + 1) d) ≤ 1
   pub ahead : (e d : ℕ) → part.epoch < e → (part.pushed e d ≡ []) × (part.pulled e d ≡ [])

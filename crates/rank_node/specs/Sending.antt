@@ -1,6 +1,6 @@
 -- What a node sends in an epoch: the emissions of a round, or the votes on it.
 use Rattle.std.specs.Prelude.{ℕ, zero, suc, ◌+◌, ◌*◌, ◌^◌, ◌-◌, Bool, true, false, List, [], ◌∷◌, ◌++◌, if◌then◌else◌}
-use Rattle.bale_types.specs.declared.item.Item.{Item}
+use Rattle.bale_items.specs.declared.item.Item.{Item}
 use Rattle.round_program.specs.Rules.{Rules}
 use Rattle.round_program.specs.Epochs.{vote_item}
 use Rattle.rank_node.specs.declared.sends.Sends.{Sends}

@@ -1,13 +1,13 @@
 //! Batches of a conveyor and of an exstack, as items that came.
 ghost use Rattle.std.specs.Prelude.{◌≡◌, ◌<◌, length, sum};
 ghost use Rattle.std.specs.List.{All};
-ghost use Rattle.bale_types.specs.declared.item.Item.{Item};
-ghost use Rattle.bale_types.specs.declared.item.Entry.{Entry};
+ghost use Rattle.bale_items.specs.declared.item.Item.{Item};
+ghost use Rattle.bale_items.specs.declared.item.Entry.{Entry};
 ghost use Rattle.route_tensor.specs.Neighbour.{hop_to};
 ghost use Rattle.route_tensor.specs.Tag.{IsFair};
 ghost use Rattle.rank_node.specs.Batches.{from_link, from_sender};
 
-use bale_types::{Entry, Item};
+use bale_items::{Entry, Item};
 use round_program::Arrivals;
 use route_tensor::Routes;
 

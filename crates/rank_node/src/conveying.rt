@@ -14,7 +14,7 @@ use crate::sending::push_all;
 use crate::sends::{count_of, votes_now};
 use crate::taking::take_all;
 use crate::turn::Turn;
-use bale_types::NoMemory;
+use bale_items::NoMemory;
 use convey::{Conveyor, Phase, Progress};
 use port_bank::Port;
 use round_program::Program;

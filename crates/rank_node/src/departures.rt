@@ -3,7 +3,7 @@ ghost use Rattle.std.specs.Prelude.{◌≡◌};
 ghost use Rattle.rank_node.specs.Pushes.{MayPush, Pushes, MayFill, FillsOne};
 ghost use Rattle.rank_node.specs.laws.PushLaws.{push_stays, fill_stays};
 
-use bale_types::Item;
+use bale_items::Item;
 use convey::{Conveyor, Pushed};
 use exstack::Exstack;
 use round_program::Departures;

@@ -12,7 +12,7 @@ use crate::run::Run;
 use crate::stacking::{new_exstack, reset_exstack, turn_exstack};
 use crate::turn::Turn;
 use crate::via::Via;
-use bale_types::NoMemory;
+use bale_items::NoMemory;
 use convey::Conveyor;
 use exstack::Exstack;
 use port_bank::Port;

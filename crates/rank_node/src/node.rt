@@ -18,7 +18,7 @@ use crate::sends::{Sends, votes_now};
 use crate::taking::Taken;
 use crate::turn::Turn;
 use crate::via::Via;
-use bale_types::{NoMemory, Steps};
+use bale_items::{NoMemory, Steps};
 use port_bank::Port;
 use round_program::Program;
 use route_tensor::Grid;
@@ -50,7 +50,7 @@ impl<Q, const CAP: usize, const HOPS: usize> Model for Node<Q, CAP, HOPS> {
 }
 
 impl<Q: Program, const CAP: usize, const HOPS: usize> Node<Q, CAP, HOPS> {
-    /// A node that hasn't turned, for a program of a rank of the grid in its first round. On exstacks `steady` changes nothing.
+    /// A node that hasn't turned, for a program of a rank of the grid, in any round. On exstacks `steady` changes nothing.
     pub fn new(
         alloc: Global,
         grid: &Grid,
@@ -62,7 +62,6 @@ impl<Q: Program, const CAP: usize, const HOPS: usize> Node<Q, CAP, HOPS> {
         requires one_hop { via ≡ Via.Exstack → length grid.now ≡ 1 }
         requires rank { Q.rules.rank prog < ranks grid.now }
         requires all_ranks { Q.rules.ranks prog ≡ ranks grid.now }
-        requires first { Q.rules.round prog ≡ 0 }
         ensures node { IfOk result (λ n. IsNode Q.rules (λ m. prog) n (λ l. []) (λ l. [])) }
         ensures prog { IfOk result (λ n. n.run.prog ≡ prog) }
         ensures next { IfOk result (λ n. n.run.next ≡ 0) }

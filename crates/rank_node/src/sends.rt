@@ -4,7 +4,7 @@ ghost use Rattle.std.specs.List.{All};
 ghost use Rattle.round_program.specs.Emissions.{HandsOver};
 ghost use Rattle.rank_node.specs.Sending.{votes_to, to_send, is_voting};
 
-use bale_types::Item;
+use bale_items::Item;
 use round_program::{Departures, Program};
 
 /// What a node sends in its epoch.

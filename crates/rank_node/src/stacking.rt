@@ -23,7 +23,7 @@ use crate::run::Run;
 use crate::sends::{Sends, count_of, send_each, votes_now};
 use crate::taking::{Taken, take_each};
 use crate::turn::Turn;
-use bale_types::NoMemory;
+use bale_items::NoMemory;
 use exstack::{Exstack, Proceed, Stage};
 use port_bank::Port;
 use round_program::Program;

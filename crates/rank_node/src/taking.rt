@@ -6,7 +6,7 @@ ghost use Rattle.convey.specs.Conveyors.{GivesNext};
 ghost use Rattle.rank_node.specs.Movers.{AllRead};
 ghost use Rattle.rank_node.specs.Pulls.{Takes};
 ghost use Rattle.rank_node.specs.Batches.{summed, came_on, TakesEach};
-ghost use Rattle.bale_types.specs.declared.item.Item.{Item};
+ghost use Rattle.bale_items.specs.declared.item.Item.{Item};
 
 use crate::arrivals::{FromLink, FromSender};
 use convey::{Conveyor, Phase};

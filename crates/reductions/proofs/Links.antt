@@ -1,7 +1,7 @@
 -- Links between cells: at the end none could lower a cell.
 use Rattle.std.proofs.Common.{ℕ, zero, suc, ◌<◌, ◌≤◌, ◌≡◌, ◌⊎◌, not, true, false, List, Some, length, get_or, slice_get, All, arith, inl, inr, refl, sym, ap, ◌∙◌, subst}
 use Rattle.std.proofs.lemmas.Bool.{cases_Bool, cases_eq, ne_eqb, true≢false}
-use Rattle.bale_types.specs.declared.Item.{Item}
+use Rattle.bale_items.specs.declared.Item.{Item}
 use Rattle.round_program.specs.Rules.{Rules}
 use Rattle.round_program.specs.Canonical.{emitted_by, states_at, votes_at}
 use Rattle.reductions.specs.declared.reduced.Reduction.TheVariants.{Least}

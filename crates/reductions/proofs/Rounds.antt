@@ -1,7 +1,7 @@
 -- What a round makes of each rank, whatever the program.
 use Rattle.std.proofs.Common.{ℕ, zero, suc, ◌≡◌, List, [], ◌∷◌, Some, Option, None, length, slice_get, All, refl, ap, ◌∙◌, subst}
 use Rattle.std.proofs.lemmas.List.Elements.{All-nil, All-head, All-tail}
-use Rattle.bale_types.specs.declared.Item.{Item}
+use Rattle.bale_items.specs.declared.Item.{Item}
 use Rattle.list_laws.proofs.Lists.{got_map}
 use Rattle.round_program.specs.Rules.{Rules}
 use Rattle.round_program.specs.Canonical.{absorb_all, absorb_upto, absorbed_round, round_of, vote_sum, emitted_by, emitted_of}

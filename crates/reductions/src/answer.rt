@@ -5,7 +5,7 @@ ghost use Rattle.std.specs.List.{All};
 ghost use Rattle.reductions.specs.Answers.{cell_of, owned};
 
 use crate::reduced::Reduced;
-use bale_types::NoMemory;
+use bale_items::NoMemory;
 use round_program::Progs;
 use std::alloc::Global;
 

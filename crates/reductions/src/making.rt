@@ -3,7 +3,7 @@
 ghost use Rattle.std.specs.Prelude.{◌≡◌, ◌<◌, ℕ, map, Result, IfOk};
 ghost use Rattle.std.specs.List.{range_with_len};
 
-use bale_types::NoMemory;
+use bale_items::NoMemory;
 use round_program::{Program, Progs};
 use std::alloc::Global;
 

@@ -3,7 +3,7 @@
 ghost use Rattle.std.specs.Prelude.{◌≡◌, ◌<◌, length, IfOk};
 ghost use Rattle.reductions.specs.Reductions.{combined, begun, reduced, has_changed, vote_of};
 
-use bale_types::NoMemory;
+use bale_items::NoMemory;
 use std::alloc::Global;
 use std::marker::Model;
 

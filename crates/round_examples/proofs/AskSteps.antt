@@ -4,7 +4,7 @@ use Rattle.std.proofs.lemmas.Bool.{eq-eqb}
 use Rattle.std.proofs.lemmas.Bool.Decides.{nat_tests}
 use Rattle.std.proofs.lemmas.List.{length-replicate}
 use Rattle.std.proofs.lemmas.List.Elements.{All-nil, All-cons, All-replicate}
-use Rattle.bale_types.specs.declared.Item.{Item}
+use Rattle.bale_items.specs.declared.Item.{Item}
 use Rattle.list_laws.proofs.Lists.{map_changed, map_unchanged, all_head, all_tail}
 use Rattle.round_program.specs.Laws.{Fits}
 use Rattle.round_examples.specs.Asks.{AskState, IsAsk, IsQuery, ask_rules, is_asked, noted, answered, query, asks_from, replies_from}

@@ -5,7 +5,7 @@ ghost use Rattle.std.specs.List.{All};
 ghost use Rattle.list_laws.specs.Lists.{changed_at};
 ghost use Rattle.round_examples.specs.Asks.{asks_from, replies_from, reply_to, noted, IsQuery, asking};
 
-use bale_types::{Item, NoMemory};
+use bale_items::{Item, NoMemory};
 use round_program::Program;
 use std::alloc::Global;
 use std::marker::Model;

@@ -2,7 +2,7 @@
 ghost use Rattle.std.specs.Prelude.{◌≡◌, ◌<◌, ◌^◌, length};
 ghost use Rattle.std.specs.List.{All};
 
-use bale_types::{Item, NoMemory};
+use bale_items::{Item, NoMemory};
 use round_program::Program;
 use std::marker::Model;
 

@@ -1,7 +1,7 @@
 -- What a batch of items makes of a state.
 use Rattle.std.proofs.Common.{◌≡◌, ◌<◌, ℕ, Bool, true, false, cond, List, [], ◌∷◌, length, slice_get, drop, Some, None, refl, ap, ◌∙◌, arith, Result, Ok, Err, OnOk}
 use Rattle.either.specs.declared.Either.TheVariants.{Left, Right}
-use Rattle.bale_types.specs.declared.item.Item.{Item}
+use Rattle.bale_items.specs.declared.item.Item.{Item}
 use Rattle.round_program.specs.Rules.{Rules}
 use Rattle.round_program.specs.Laws.{fits}
 use Rattle.round_program.specs.Batches.{taken_in, all_taken_in}

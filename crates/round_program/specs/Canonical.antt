@@ -2,7 +2,7 @@
 use Rattle.std.specs.Prelude.{ℕ, zero, suc, ◌+◌, ◌-◌, ◌^◌, ◌<◌, ◌≤◌, ◌≡◌, ◌==◌, min, true, false, List, [], ◌∷◌, Option}
 use Rattle.std.specs.Prelude.{None, Some, map, length, slice_get}
 use Rattle.std.specs.List.{filter, fold, sum_by}
-use Rattle.bale_types.specs.declared.Item.{Item}
+use Rattle.bale_items.specs.declared.Item.{Item}
 use Rattle.round_program.specs.Rules.{Rules}
 
 -- Of pairs of a rank and an item, the items of one rank, in order.

@@ -5,7 +5,7 @@ use Rattle.std.specs.List.{All}
 use Rattle.either.specs.declared.Either.{Either}
 use Rattle.either.specs.declared.Either.TheVariants.{Left, Right}
 use Rattle.either.specs.Either.{either}
-use Rattle.bale_types.specs.declared.Item.{Item}
+use Rattle.bale_items.specs.declared.Item.{Item}
 use Rattle.round_program.specs.Rules.{Rules}
 use Rattle.round_program.specs.Laws.{Laws, Fits, IsItem, SameRound, NextRound}
 use Rattle.round_program.specs.Injections.{Injects}

@@ -1,6 +1,6 @@
 -- What a rank hands over of the items that it sends.
 use Rattle.std.specs.Prelude.{◌≡◌, ℕ, zero, suc, Bool, true, false, List, [], ◌∷◌}
-use Rattle.bale_types.specs.declared.item.Item.{Item}
+use Rattle.bale_items.specs.declared.item.Item.{Item}
 
 -- Of items, each with its receiver, the first n were handed over and accepted, one after the other;
 -- then none was left, or the next one was refused. `hands` says what handing over one item may do.

@@ -1,7 +1,7 @@
 -- Handing over a list of items, each with its receiver, from a number on.
 use Rattle.std.specs.Prelude.{ℕ, ◌-◌, ◌≤◌, Bool, List, drop, length}
 use Rattle.std.specs.List.{All}
-use Rattle.bale_types.specs.declared.item.Item.{Item}
+use Rattle.bale_items.specs.declared.item.Item.{Item}
 use Rattle.round_program.specs.Emissions.{HandsOver}
 
 -- Those from number `from` on may be handed over: `May` says to which receivers.

@@ -1,6 +1,6 @@
 -- One program as a case of another: a type that stands for several applications runs each of them as it is.
 use Rattle.std.specs.Prelude.{ℕ, ◌<◌, ◌≡◌, List, length, map}
-use Rattle.bale_types.specs.declared.Item.{Item}
+use Rattle.bale_items.specs.declared.Item.{Item}
 use Rattle.round_program.specs.Rules.{Rules}
 use Rattle.round_program.specs.Canonical.{emitted_by, absorbed_round, states_at, votes_at, items_at, HasRounds}
 use Rattle.round_program.specs.Canonical.{EndsWithin, HaveEnded, InRound}

@@ -1,7 +1,7 @@
 -- The laws that each implementation of Program proves.
 use Rattle.std.specs.Prelude.{ℕ, ◌+◌, ◌-◌, ◌^◌, ◌<◌, ◌≡◌, ◌≢◌, min, Bool, true, List, nat_lt, ◌&&◌}
 use Rattle.std.specs.List.{All}
-use Rattle.bale_types.specs.declared.Item.{Item}
+use Rattle.bale_items.specs.declared.Item.{Item}
 use Rattle.round_program.specs.Rules.{Rules}
 
 -- Whether a program may be sent an item by a rank: `may_be_sent` of its own shape, ranks, round and rank.

@@ -1,7 +1,7 @@
 -- The interleaving theorem: in which order a rank absorbs the items of different senders doesn't matter.
 use Rattle.std.specs.Prelude.{ℕ, ◌<◌, ◌≡◌, ◌≢◌, List, [], ◌∷◌, ◌++◌, Some, slice_get, if◌then◌else◌}
 use Rattle.std.specs.List.{All, filter, fold}
-use Rattle.bale_types.specs.declared.Item.{Item}
+use Rattle.bale_items.specs.declared.Item.{Item}
 use Rattle.round_program.specs.Rules.{Rules}
 use Rattle.round_program.specs.Laws.{fits, Fits}
 use Rattle.round_program.specs.Canonical.{items_of, absorb_upto, absorbed_round, emitted_by, InRound}

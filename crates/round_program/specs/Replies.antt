@@ -1,7 +1,7 @@
 -- Queries and replies between ranks, with no word on how they travel.
 use Rattle.std.specs.Prelude.{◌≡◌, ℕ, suc, ◌==◌, List, [], ◌∷◌, length, map, drop, Some, slice_get, slice_index_or}
 use Rattle.std.specs.Prelude.{if◌then◌else◌}
-use Rattle.bale_types.specs.declared.item.Item.{Item}
+use Rattle.bale_items.specs.declared.item.Item.{Item}
 use Rattle.round_program.specs.Talks.{Talk}
 use Rattle.round_program.specs.Canonical.{items_of}
 

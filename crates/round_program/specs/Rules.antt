@@ -1,6 +1,6 @@
 -- What a program does, as functions of its state.
 use Rattle.std.specs.Prelude.{ℕ, Bool, List}
-use Rattle.bale_types.specs.declared.Item.{Item}
+use Rattle.bale_items.specs.declared.Item.{Item}
 
 -- The meanings of a program whose state is S. A state is plain data.
 pub record Rules (S : Type 0) : Type 1 where

@@ -1,9 +1,9 @@
 //! What comes to a rank, item by item.
 
 ghost use Rattle.std.specs.Prelude.{◌≡◌, ℕ, List, drop, slice_get};
-ghost use Rattle.bale_types.specs.declared.item.Item.{Item};
+ghost use Rattle.bale_items.specs.declared.item.Item.{Item};
 
-use bale_types::Item;
+use bale_items::Item;
 
 /// Items that came to a rank, in order, each with its sender. Whatever carries the items says how they are read and whose they
 /// are, so that a program takes in a whole batch by one call.

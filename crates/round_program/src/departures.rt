@@ -1,9 +1,9 @@
 //! Where the items that a rank sends go.
 
 ghost use Rattle.std.specs.Prelude.{ℕ, Bool};
-ghost use Rattle.bale_types.specs.declared.item.Item.{Item};
+ghost use Rattle.bale_items.specs.declared.item.Item.{Item};
 
-use bale_types::Item;
+use bale_items::Item;
 
 /// Takes the items that a rank sends, one by one, as long as it has room. Whatever carries the items says when one may be handed
 /// over and what that does, so that a program emits a whole batch by one call.

@@ -5,7 +5,7 @@
 use crate::arrivals::Arrivals;
 use crate::departures::Departures;
 use crate::program::Program;
-use bale_types::{Item, NoMemory};
+use bale_items::{Item, NoMemory};
 use either::{Either, Left, Right};
 
 impl<A: Program, B: Program> Program for Either<A, B> {

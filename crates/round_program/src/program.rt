@@ -9,7 +9,7 @@ ghost use Rattle.round_program.specs.Emissions.{HandsOver};
 
 use crate::arrivals::Arrivals;
 use crate::departures::Departures;
-use bale_types::{Item, NoMemory};
+use bale_items::{Item, NoMemory};
 
 /// A program, as one rank runs it. Rounds count from 0.
 ///

@@ -3,7 +3,7 @@
 ghost use Rattle.std.specs.Prelude.{◌≡◌, [], ◌∷◌, ◌++◌, OnOk, OnErr, length, drop, slice_get};
 ghost use Rattle.std.specs.Option.{option_copied};
 
-use bale_types::NoMemory;
+use bale_items::NoMemory;
 use std::alloc::Global;
 use std::marker::Model;
 

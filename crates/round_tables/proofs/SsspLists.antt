@@ -8,8 +8,8 @@ use Rattle.std.proofs.lemmas.List.Elements.{All-head, All-tail}
 use Rattle.std.proofs.lemmas.List.FromFn.{get_or-range_with_len, length-range_with_len}
 use Rattle.std.proofs.lemmas.Nat.{div-add-mod', div-mul-add, mod-mul-add, mul-le}
 use Rattle.std.proofs.lemmas.Simd.{map-map}
-use Rattle.bale_types.specs.declared.triple.Triple.{Triple}
-use Rattle.bale_types.specs.Bits.{twos_complement}
+use Rattle.bale_items.specs.declared.triple.Triple.{Triple}
+use Rattle.bale_items.specs.Bits.{twos_complement}
 use Rattle.sparse_rows.specs.Deals.{dealt}
 use Rattle.sparse_rows.specs.Owners.{places_for}
 use Rattle.sparse_rows.proofs.Deals.{filter_filter}

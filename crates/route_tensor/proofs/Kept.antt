@@ -7,7 +7,7 @@ use Rattle.std.proofs.Math.Nat.{mul-one, mul-zero, zero-mul, suc-mul, le-mul_of_
 use Rattle.std.proofs.lemmas.List.Elements.{All-cons, All-nil, All-take}
 use Rattle.std.proofs.lemmas.List.{take-take, length-take}
 use Rattle.route_tensor.specs.Grid.{ranks, IsGrid}
-use Rattle.bale_types.specs.declared.item.Tag.{Tag}
+use Rattle.bale_items.specs.declared.item.Tag.{Tag}
 use Rattle.route_tensor.specs.declared.grid.GridError.TheVariants.{Order, ZeroDim, TooManyRanks}
 use Rattle.route_tensor.specs.Kept.{IsKept, dims_kept}
 use Rattle.route_tensor.specs.Refusal.{refusal}

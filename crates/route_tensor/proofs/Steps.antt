@@ -2,7 +2,7 @@
 use Rattle.std.proofs.Common.{ℕ, zero, suc, ◌≡◌, ◌+◌, ◌-◌, ◌*◌, ◌<◌, ◌≤◌, List, [], ◌∷◌, length, take, arith, refl, sym, ap, ◌∙◌, inl, inr}
 use Rattle.std.proofs.lemmas.Bool.{cases_lt}
 use Rattle.std.proofs.Math.Nat.{zero-mod, zero-div}
-use Rattle.bale_types.specs.declared.item.Tag.{Tag}
+use Rattle.bale_items.specs.declared.item.Tag.{Tag}
 use Rattle.route_tensor.specs.declared.routes.Onward.{Onward}
 use Rattle.route_tensor.specs.declared.routes.Neighbour.{Neighbour}
 use Rattle.route_tensor.specs.Grid.{ranks, dim, coord, place, IsGrid}

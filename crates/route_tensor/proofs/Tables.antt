@@ -1,6 +1,6 @@
 -- A rank's tables of first steps and neighbours, as contracts see them.
 use Rattle.std.proofs.Common.{ℕ, ◌≡◌, ◌+◌, ◌-◌, ◌*◌, ◌<◌, ◌≤◌, List, length, get_or, sum, arith, sym, ap, subst, ◌∙◌}
-use Rattle.bale_types.specs.declared.item.Tag.{Tag}
+use Rattle.bale_items.specs.declared.item.Tag.{Tag}
 use Rattle.route_tensor.specs.declared.routes.Onward.{Onward}
 use Rattle.route_tensor.specs.declared.routes.Neighbour.{Neighbour}
 use Rattle.route_tensor.specs.Grid.{ranks, dim, coord, place, IsGrid}

@@ -1,7 +1,7 @@
 -- The digits of a tag on its way: below the hop the sender's, above it the destination's.
 use Rattle.std.proofs.Common.{ℕ, zero, suc, ◌≡◌, ◌≢◌, ◌+◌, ◌-◌, ◌<◌, ◌≤◌, List, [], ◌∷◌, length, get_or, arith, refl, sym, ap, subst, ◌∙◌, cond, ltb, inl, inr}
 use Rattle.std.proofs.lemmas.Bool.{cases_lt, cases_order, cases_eq, lt-ltb, le-ltb, cond-true, cond-false}
-use Rattle.bale_types.specs.declared.item.Tag.{Tag}
+use Rattle.bale_items.specs.declared.item.Tag.{Tag}
 use Rattle.route_tensor.specs.Grid.{ranks, dim, coord, place, IsGrid}
 use Rattle.route_tensor.specs.Link.{IsLink, IsOnRoute}
 use Rattle.route_tensor.specs.Pair.{TagsLaw}

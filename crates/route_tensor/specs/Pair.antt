@@ -1,8 +1,8 @@
 -- Pairs of ranks, and the ranks and entries on their routes.
 use Rattle.std.specs.Prelude.{◌≡◌, ℕ, ◌+◌, ◌-◌, ◌<◌, ◌≤◌, ◌==◌, ◌&&◌, Bool, List, length, map}
 use Rattle.std.specs.List.{filter}
-use Rattle.bale_types.specs.declared.item.Entry.{Entry}
-use Rattle.bale_types.specs.declared.item.Item.{Item}
+use Rattle.bale_items.specs.declared.item.Entry.{Entry}
+use Rattle.bale_items.specs.declared.item.Item.{Item}
 use Rattle.route_tensor.specs.Grid.{ranks, place, IsGrid}
 use Rattle.route_tensor.specs.Link.{IsOnRoute}
 use Rattle.route_tensor.specs.Tag.{IsFair, tag_at, next_tag, sender_of, destination_of}

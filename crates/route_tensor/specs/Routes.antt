@@ -1,7 +1,7 @@
 -- Where a rank sends entries, and whom it has links with.
 use Rattle.std.specs.Prelude.{◌≡◌, ℕ, ◌+◌, ◌-◌, ◌<◌, List, length, sum, slice_index_or}
-use Rattle.bale_types.specs.declared.item.Entry.{Entry}
-use Rattle.bale_types.specs.declared.item.Tag.{Tag}
+use Rattle.bale_items.specs.declared.item.Entry.{Entry}
+use Rattle.bale_items.specs.declared.item.Tag.{Tag}
 use Rattle.list_laws.specs.Lists.{EachAt}
 use Rattle.route_tensor.specs.declared.routes.Onward.{Onward}
 use Rattle.route_tensor.specs.declared.routes.Neighbour.{Neighbour}

@@ -1,6 +1,6 @@
 -- Tags, and which are fair on a hop.
 use Rattle.std.specs.Prelude.{◌≡◌, ℕ, zero, suc, ◌+◌, ◌-◌, ◌*◌, ◌<◌, ◌≤◌, nat_lt, List, [], ◌∷◌, length, if◌then◌else◌}
-use Rattle.bale_types.specs.declared.item.Tag.{Tag}
+use Rattle.bale_items.specs.declared.item.Tag.{Tag}
 use Rattle.route_tensor.specs.Grid.{dim, coord, place}
 
 -- Digit h of a tag, counted from 1.

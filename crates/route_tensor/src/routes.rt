@@ -11,7 +11,7 @@ ghost use Rattle.route_tensor.specs.Tag.{digit, IsFair, tag_at, sender_of};
 ghost use Rattle.route_tensor.specs.Routes.{first_step, about, passed_on};
 
 use crate::grid::Grid;
-use bale_types::{Entry, Item, NoMemory, Tag};
+use bale_items::{Entry, Item, NoMemory, Tag};
 use std::alloc::Global;
 use std::marker::Model;
 

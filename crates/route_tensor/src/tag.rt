@@ -6,13 +6,13 @@
 //! destination's above `h`.
 
 ghost use Rattle.std.specs.Prelude.{◌≡◌, ℕ, ◌+◌, ◌-◌, ◌<◌, ◌≤◌, length};
-ghost use Rattle.bale_types.specs.declared.item.Tag.{Tag};
+ghost use Rattle.bale_items.specs.declared.item.Tag.{Tag};
 ghost use Rattle.route_tensor.specs.Grid.{ranks, place, coord, IsGrid};
 ghost use Rattle.route_tensor.specs.Link.{IsLink, IsOnRoute};
 ghost use Rattle.route_tensor.specs.Tag.{IsFair, tag_at, next_tag, tag_rank, sender_of, destination_of};
 
 use crate::grid::Grid;
-use bale_types::Tag;
+use bale_items::Tag;
 
 impl Grid {
     /// The tag of an entry from `s` to `d` on its first link.

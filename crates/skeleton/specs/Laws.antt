@@ -2,7 +2,7 @@
 use Rattle.std.proofs.Common.{ℕ, ◌<◌, ◌≡◌, true, List, [], ◌∷◌, length, All, arith, refl, ap, subst, sym, lit<}
 use Rattle.std.proofs.lemmas.Bool.Decides.{nat_tests}
 use Rattle.std.proofs.lemmas.List.Elements.{All-nil}
-use Rattle.bale_types.specs.declared.Item.{Item}
+use Rattle.bale_items.specs.declared.Item.{Item}
 use Rattle.reductions.specs.declared.reduced.Reduction.TheVariants.{Least}
 use Rattle.reductions.specs.Reductions.{reduced}
 use Rattle.reductions.proofs.Cells.{reduced_comm, reduced_len, vote_low}

@@ -1,8 +1,8 @@
 -- How the ranks begin.
 use Rattle.std.specs.Prelude.{ℕ, ◌%◌, List, map, replicate}
 use Rattle.std.specs.List.{range_with_len}
-use Rattle.bale_types.specs.declared.Item.{Item}
-use Rattle.bale_types.specs.declared.triple.Triple.{Triple}
+use Rattle.bale_items.specs.declared.Item.{Item}
+use Rattle.bale_items.specs.declared.triple.Triple.{Triple}
 use Rattle.mtx_text.specs.Sparse.{Sparse}
 use Rattle.reductions.specs.Reductions.{begun}
 use Rattle.sparse_rows.specs.Deals.{dealt}

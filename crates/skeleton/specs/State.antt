@@ -2,7 +2,7 @@
 use Rattle.std.specs.Prelude.{ℕ, ◌+◌, ◌-◌, ◌%◌, ◌^◌, ◌<◌, ◌≤◌, ◌≡◌, ◌==◌, ◌&&◌, nat_lt, min, Bool, true, false, List}
 use Rattle.std.specs.Prelude.{[], ◌∷◌, length}
 use Rattle.std.specs.List.{All}
-use Rattle.bale_types.specs.declared.Item.{Item}
+use Rattle.bale_items.specs.declared.Item.{Item}
 use Rattle.reductions.specs.declared.reduced.Reduction.TheVariants.{Least}
 use Rattle.reductions.specs.Reductions.{ReducedState, begun, reduced, vote_of}
 use Rattle.round_program.specs.Rules.{Rules}

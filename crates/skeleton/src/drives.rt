@@ -10,7 +10,7 @@ ghost use Rattle.skeleton.specs.Found.{IsFound};
 
 use crate::program::Skeleton;
 use crate::starting::start;
-use bale_types::NoMemory;
+use bale_items::NoMemory;
 use mtx_text::Matrix;
 use rank_group::{Settings, drive_in_turn, drive_on_threads};
 use reductions::owned;
@@ -19,7 +19,6 @@ use route_tensor::Grid;
 use std::alloc::Global;
 use std::sync::Wait;
 use std::thread::Threads;
-use std::time::Clock;
 
 /// The answer by column, found by the ranks of a grid of one number, which one thread turns.
 ///
@@ -41,7 +40,7 @@ pub fn skeleton_serial(alloc: Global, m: &Matrix, grid: &Grid) -> Result<Vec<u64
 /// # Errors
 /// `NoMemory` where there was none.
 #[tactic(auto, using(crate::proofs::Starts::some_ranks))]
-pub fn skeleton_threads<R: Threads + Wait + Clock + Sync>(
+pub fn skeleton_threads<R: Threads + Wait + Sync>(
     rt: &R,
     alloc: Global,
     m: &Matrix,

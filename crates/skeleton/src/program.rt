@@ -3,7 +3,7 @@
 ghost use Rattle.std.specs.Prelude.{◌≡◌};
 ghost use Rattle.skeleton.specs.State.{IsState};
 
-use bale_types::{Item, NoMemory};
+use bale_items::{Item, NoMemory};
 use reductions::{HasCells, Reduced, Reduction};
 use round_program::Program;
 use std::marker::Model;

@@ -8,7 +8,7 @@ ghost use Rattle.skeleton.specs.State.{rules};
 ghost use Rattle.skeleton.specs.Starts.{send_of, begins, starts};
 
 use crate::program::Skeleton;
-use bale_types::{Item, NoMemory, Triple};
+use bale_items::{Item, NoMemory, Triple};
 use mtx_text::Matrix;
 use reductions::{Reduced, programs};
 use round_program::Progs;

@@ -1,14 +1,13 @@
 //! A matrix worked by hand, on both drives.
 
 use crate::drives::{skeleton_serial, skeleton_threads};
-use bale_types::NoMemory;
+use bale_items::NoMemory;
 use mtx_text::parse_matrix;
 use route_tensor::Grid;
 use std::alloc::Global;
 use std::sync::Wait;
 use std::test::Fail;
 use std::thread::Threads;
-use std::time::Clock;
 
 const TEXT: &[u8] =
     b"%%MatrixMarket matrix coordinate pattern general\n4 3 4\n3 1\n2 1\n4 3\n2 3\n";
@@ -17,7 +16,7 @@ const TEXT: &[u8] =
 const FOUND: &[u64] = &[1, 4, 1];
 
 /// Whether both drives find it on grids of up to five ranks.
-fn both_find<R: Threads + Wait + Clock + Sync>(rt: &R, alloc: Global) -> Result<bool, NoMemory> {
+fn both_find<R: Threads + Wait + Sync>(rt: &R, alloc: Global) -> Result<bool, NoMemory> {
     let Ok(m) = parse_matrix(alloc, TEXT) else {
         return Ok(false);
     };

@@ -10,7 +10,7 @@ use Rattle.std.proofs.lemmas.List.FromFn.{get_or-map-range_with_len, length-map-
 use Rattle.list_laws.proofs.Lists.{find}
 use Rattle.sparse_rows.specs.Deals.{dealt}
 use Rattle.sparse_rows.specs.Parts.{parts_of}
-use Rattle.bale_types.specs.declared.triple.Triple.{Triple}
+use Rattle.bale_items.specs.declared.triple.Triple.{Triple}
 
 -- a number is rank r's own where it is r more than a multiple of n, and none of the n - 1 numbers before such a one is
 own_here : (n r q m : ℕ) → r < n → m ≡ q * n + r → eqb (m % n) r ≡ true

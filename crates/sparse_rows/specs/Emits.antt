@@ -1,7 +1,7 @@
 -- What all ranks emit in a round of a canonical run.
 use Rattle.std.specs.Prelude.{◌≡◌, ℕ, List, map}
 use Rattle.std.specs.List.{range_with_len}
-use Rattle.bale_types.specs.declared.Item.{Item}
+use Rattle.bale_items.specs.declared.Item.{Item}
 use Rattle.round_program.specs.Rules.{Rules}
 use Rattle.round_program.specs.Canonical.{states_at}
 

@@ -1,7 +1,7 @@
 -- The owners of entries, rows and columns, and what each rank owns.
 use Rattle.std.specs.Prelude.{ℕ, ◌+◌, ◌%◌, ◌/◌, List}
 use Rattle.std.specs.List.{enumerate_from}
-use Rattle.bale_types.specs.declared.triple.Triple.{Triple}
+use Rattle.bale_items.specs.declared.triple.Triple.{Triple}
 use Rattle.sparse_rows.specs.Deals.{dealt}
 
 -- An entry with its number in the matrix.

@@ -1,7 +1,7 @@
 -- The cyclic parts of a matrix: its entries with their numbers, dealt out by number.
 use Rattle.std.specs.Prelude.{ℕ, ◌≡◌, ◌<◌, ◌%◌, List}
 use Rattle.std.specs.List.{enumerate_from}
-use Rattle.bale_types.specs.declared.triple.Triple.{Triple}
+use Rattle.bale_items.specs.declared.triple.Triple.{Triple}
 use Rattle.sparse_rows.specs.Deals.{hands}
 
 -- The parts of n ranks: entry number e stands in the part of rank e mod n, in order.

@@ -6,7 +6,7 @@ ghost use Rattle.mtx_text.specs.Sparse.{IsEntry};
 ghost use Rattle.mtx_text.specs.Maps.{at, value_at};
 ghost use Rattle.mtx_text.specs.Cells.{InOrder, together, sparse};
 
-use bale_types::NoMemory;
+use bale_items::NoMemory;
 use mtx_text::{Cells, Kind, Matrix};
 use std::alloc::Global;
 

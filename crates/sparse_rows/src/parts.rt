@@ -3,7 +3,7 @@ ghost use Rattle.round_program.specs.Ranks.{AreRanks};
 ghost use Rattle.std.specs.Prelude.{◌≡◌, ℕ, ◌<◌, ◌≤◌, [], Some, length, slice_get, slice_index_or, IfOk};
 ghost use Rattle.sparse_rows.specs.Parts.{parts_of};
 
-use bale_types::{NoMemory, Triple};
+use bale_items::{NoMemory, Triple};
 use mtx_text::Matrix;
 use std::alloc::Global;
 use std::marker::Model;
@@ -20,7 +20,7 @@ pub struct Parts<'a> {
 
 impl<'a> Model for Parts<'a> {
     ghost use Rattle.std.specs.Prelude.{ℕ, ◌≤◌, List, length};
-    ghost use Rattle.bale_types.specs.declared.triple.Triple.{Triple};
+    ghost use Rattle.bale_items.specs.declared.triple.Triple.{Triple};
     ghost use Rattle.sparse_rows.specs.Parts.{parts_of};
 
     ghost Value = { List (List (ℕ × Triple)) };

@@ -2,7 +2,7 @@
 ghost use Rattle.std.specs.Prelude.{IfOk, Decides};
 ghost use Rattle.sparse_rows.specs.Permutations.{Permutes};
 
-use bale_types::NoMemory;
+use bale_items::NoMemory;
 use std::alloc::Global;
 
 /// Whether `p` has each number below `n` once and no other. Takes no more memory than a byte for each

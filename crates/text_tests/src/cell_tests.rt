@@ -1,7 +1,7 @@
 //! Matrices made of cells and of seeds, and that calls succeed with ample memory.
 
-use bale_streams::{MemSink, Out};
-use bale_types::{NoMemory, Triple};
+use bale_items::{NoMemory, Triple};
+use bale_types::{MemSink, Out};
 use mtx_text::{Cells, Kind, Matrix, Words, gen_matrix, write_matrix};
 use std::alloc::Global;
 use std::test::Fail;

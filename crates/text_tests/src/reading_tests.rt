@@ -2,8 +2,8 @@
 ghost use Rattle.std.specs.Prelude.{None};
 
 use crate::cell_tests::written;
-use bale_streams::{Failed, MemSink, Out, Source};
-use bale_types::Triple;
+use bale_items::Triple;
+use bale_types::{Failed, MemSink, Out, Source};
 use mtx_text::{EntryLine, Kind, ParseFault, Reason, parse_matrix, read_matrix};
 use std::alloc::{AllocError, Global};
 use std::test::Fail;

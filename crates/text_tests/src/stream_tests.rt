@@ -1,7 +1,7 @@
 //! Sources and sinks: what they give, take and refuse, and how a text comes to a sink through a buffer.
 
-use bale_streams::{Failed, MemSink, MemSource, Out, Sink, Source};
-use bale_types::{bits_of, value_of};
+use bale_items::{bits_of, value_of};
+use bale_types::{Failed, MemSink, MemSource, Out, Sink, Source};
 use std::test::Fail;
 
 #[test]
@@ -91,6 +91,23 @@ fn a_full_buffer_is_handed_over(rt: HostRuntime) -> Result<(), Fail> {
     assert_eq!(rt; taken.len(), 8194);
     assert_eq!(rt; &taken[4094..4097], b"aba".as_slice());
     assert_eq!(rt; &taken[8190..], b"accc".as_slice());
+    Ok(())
+}
+
+/// Writes a text and hands the rest of it over.
+fn write_all(out: &mut Out<'_, MemSink>, text: &[u8]) -> Result<(), Failed> {
+    out.text(text)?;
+    out.flush()
+}
+
+/// Two full buffers and a byte are three writes: a fourth that would fail is never made.
+#[test]
+fn a_full_buffer_is_one_write(rt: HostRuntime) -> Result<(), Fail> {
+    let letters = vec![in rt.alloc(); b'a'; 8193]?;
+    for (fails, answer) in [(3, Err(Failed)), (4, Ok(()))] {
+        let mut sink = MemSink::new(rt.alloc(), 10_000, 10_000, &[fails])?;
+        assert_eq!(rt; write_all(&mut Out::new(&mut sink), &letters), answer);
+    }
     Ok(())
 }
 

@@ -5,7 +5,7 @@ ghost use Rattle.route_tensor.specs.Grid.{ranks};
 ghost use Rattle.convey.specs.Advance.{IsAtPort, KeepsPort};
 ghost use Rattle.convey.specs.Conveyors.{StartsOut, StaysWithRank};
 
-use bale_types::{Item, NoMemory};
+use bale_items::{Item, NoMemory};
 use convey::{Conveyor, Phase, Progress, Pushed};
 use port_bank::Port;
 use route_tensor::Grid;

@@ -3,7 +3,7 @@ ghost use Rattle.std.specs.Prelude.{◌<◌};
 ghost use Rattle.transport_tests.specs.ByHand.{BeginsAt};
 
 use crate::conveyor_side::{Answer, Call, Side};
-use bale_types::NoMemory;
+use bale_items::NoMemory;
 use link_slots::SlotBank;
 use port_bank::Port;
 use route_tensor::Grid;

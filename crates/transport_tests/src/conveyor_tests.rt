@@ -8,7 +8,7 @@ use Answer::{Advanced, Begun, Pulled, Unpulled};
 use Call::{Advance, Begin, Pull, Push, Unpull};
 use Progress::{Complete, More, Near};
 use Pushed::{Accepted, Full};
-use bale_types::{Item, NoMemory};
+use bale_items::{Item, NoMemory};
 use convey::{Progress, Pushed};
 use route_tensor::Grid;
 use std::alloc::Global;

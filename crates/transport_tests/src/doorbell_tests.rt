@@ -5,7 +5,7 @@ ghost use Rattle.std.specs.Prelude.{◌<◌};
 use crate::hand::{Answer, Call, Hand};
 use Answer::{Got, Nothing, Sent};
 use Call::{Collect, Post};
-use bale_types::NoMemory;
+use bale_items::NoMemory;
 use link_slots::SlotBank;
 use port_bank::Port;
 use route_tensor::Grid;

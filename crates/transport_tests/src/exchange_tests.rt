@@ -6,7 +6,7 @@ use crate::conveyor_side::{Answer, Call};
 use crate::conveyors::Conveyors;
 use Answer::{Advanced, Begun, Pulled};
 use Call::{Advance, Begin, Pull, Push, Reset};
-use bale_types::{Item, NoMemory};
+use bale_items::{Item, NoMemory};
 use convey::{Progress, Pushed};
 use route_tensor::Grid;
 use std::alloc::Global;

@@ -4,7 +4,7 @@ ghost use Rattle.item_buffer.specs.Capacity.{IsCap};
 ghost use Rattle.exstack.specs.State.{may_proceed, may_exchange};
 ghost use Rattle.exstack.specs.Parts.{IsAtPort, KeepsPort, StaysWithRank};
 
-use bale_types::{Item, NoMemory};
+use bale_items::{Item, NoMemory};
 use exstack::{Exstack, Poll, Proceed, Stage};
 use port_bank::Port;
 use route_tensor::Grid;

@@ -7,7 +7,7 @@ use Answer::{Exchanged, Popped, Proceeded, Pushed, Unpopped};
 use Call::{Exchange, Pop, Push, Unpop};
 use Poll::Ready;
 use Proceed::{AllDone, GoOn};
-use bale_types::{Item, NoMemory};
+use bale_items::{Item, NoMemory};
 use exstack::{Poll, Proceed};
 use route_tensor::Grid;
 use std::alloc::Global;

@@ -4,7 +4,7 @@ ghost use Rattle.item_buffer.specs.Capacity.{IsCap};
 ghost use Rattle.port_bank.specs.Port.{IsSlots};
 
 use crate::exstack_side::{Answer, Call, Side};
-use bale_types::NoMemory;
+use bale_items::NoMemory;
 use exstack::exchange_law;
 use port_bank::PlainBank;
 use route_tensor::Grid;

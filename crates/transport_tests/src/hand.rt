@@ -2,7 +2,7 @@
 ghost use Rattle.item_buffer.specs.Contents.{blank};
 ghost use Rattle.transport_tests.specs.ByHand.{InFirstEpoch};
 
-use bale_types::{Entry, Item, NoMemory, Tag};
+use bale_items::{Entry, Item, NoMemory, Tag};
 use item_buffer::Parcel;
 use port_bank::{Collected, Port, Posted};
 use route_tensor::Grid;

@@ -23,6 +23,8 @@ mod exstacks;
 #[cfg(test)]
 mod hand;
 #[cfg(test)]
+mod hop_tests;
+#[cfg(test)]
 mod link_tests;
 #[cfg(test)]
 mod parcel_tests;

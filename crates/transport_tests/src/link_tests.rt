@@ -5,7 +5,7 @@ ghost use Rattle.port_bank.specs.Port.{IsSlots};
 use crate::hand::{Answer, Call, Hand};
 use Answer::{Got, NoRoom, Nothing, Sent};
 use Call::{Collect, Post};
-use bale_types::NoMemory;
+use bale_items::NoMemory;
 use link_slots::SlotBank;
 use port_bank::{PlainBank, Port};
 use route_tensor::Grid;

@@ -1,6 +1,6 @@
 //! Parcels by hand.
 
-use bale_types::{Entry, Item, Tag};
+use bale_items::{Entry, Item, Tag};
 use item_buffer::Parcel;
 use std::test::Fail;
 

@@ -1,6 +1,6 @@
 //! Rows worked by hand: a route of three hops, and the grids that are refused.
 
-use bale_types::Tag;
+use bale_items::Tag;
 use route_tensor::{Grid, GridError};
 use std::test::Fail;
 

@@ -1,7 +1,7 @@
 -- What a batch of items, each with its sender, makes of the lists of a rank.
 use Rattle.std.specs.Prelude.{ℕ, [], ◌∷◌, ◌&&◌, nat_lt, List, if◌then◌else◌}
 use Rattle.std.specs.List.{fold}
-use Rattle.bale_types.specs.declared.Item.{Item}
+use Rattle.bale_items.specs.declared.Item.{Item}
 use Rattle.round_program.specs.Laws.{is_item}
 use Rattle.app_histo_ig.specs.declared.seat.Seat.{Seat}
 use Rattle.app_histo_ig.specs.Owners.{risen}

@@ -1,7 +1,7 @@
 -- What a rank of ig sends in its round, read from the entries and the replies that it keeps.
 use Rattle.std.specs.Prelude.{ℕ, ◌%◌, ◌==◌, nat_lt, List, [], map, if◌then◌else◌}
-use Rattle.bale_types.specs.declared.Item.{Item}
-use Rattle.bale_types.specs.Bits.{twos_complement}
+use Rattle.bale_items.specs.declared.Item.{Item}
+use Rattle.bale_items.specs.Bits.{twos_complement}
 use Rattle.sparse_rows.specs.Owners.{Numbered}
 use Rattle.app_histo_ig.specs.declared.ig_sent.Own.{Own}
 use Rattle.app_histo_ig.specs.Igs.{to_ask}

@@ -1,6 +1,6 @@
 -- The state of a rank of ig, read from the fields.
 use Rattle.std.specs.Prelude.{◌≡◌, ℕ, List, map, length}
-use Rattle.bale_types.specs.declared.Item.{Item}
+use Rattle.bale_items.specs.declared.Item.{Item}
 use Rattle.app_histo_ig.specs.declared.ig.Ig.TheInside.{Inside}
 use Rattle.app_histo_ig.specs.Igs.{IgState, IsIg, replies_from}
 use Rattle.app_histo_ig.specs.code.IgSent.{number_and_column, sent_of}

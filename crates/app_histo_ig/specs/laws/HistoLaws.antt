@@ -5,7 +5,7 @@ use Rattle.std.proofs.Common.{◌∙◌, subst, inl, inr, lit<}
 use Rattle.std.proofs.lemmas.Bool.{cases_eq, eq-eqb, ne_eqb}
 use Rattle.std.proofs.lemmas.Bool.Decides.{nat_tests}
 use Rattle.std.proofs.lemmas.List.Elements.{All-nil, All-map}
-use Rattle.bale_types.specs.declared.Item.{Item}
+use Rattle.bale_items.specs.declared.Item.{Item}
 use Rattle.round_program.specs.Laws.{Laws, Fits, SameRound, IsItem}
 use Rattle.app_histo_ig.specs.Histos.{HistoState, IsHisto, histo_rules, may_count, to_column, counted_item}
 use Rattle.app_histo_ig.specs.laws.OwnerLaws.{risen_comm, risen_len}

@@ -1,6 +1,6 @@
 -- Numbers that rise at their places.
 use Rattle.std.proofs.Common.{ℕ, ◌+◌, ◌/◌, ◌%◌, ◌^◌, ◌≡◌, List, length, arith}
-use Rattle.bale_types.specs.declared.Item.{Item}
+use Rattle.bale_items.specs.declared.Item.{Item}
 use Rattle.list_laws.proofs.Lists.{changed_comm, changed_len}
 use Rattle.app_histo_ig.specs.Owners.{risen}
 

@@ -5,7 +5,7 @@ use Rattle.std.proofs.Common.{subst, inl, inr, lit<}
 use Rattle.std.proofs.lemmas.Bool.{cases_eq, eq-eqb, ne_eqb}
 use Rattle.std.proofs.lemmas.Bool.Decides.{nat_tests}
 use Rattle.std.proofs.lemmas.List.Elements.{All-nil}
-use Rattle.bale_types.specs.declared.Item.{Item}
+use Rattle.bale_items.specs.declared.Item.{Item}
 use Rattle.sparse_rows.proofs.Places.{place_below}
 use Rattle.round_program.specs.Laws.{Laws, Fits, SameRound}
 use Rattle.app_histo_ig.specs.Owners.{risen}

@@ -1,8 +1,8 @@
 -- What a batch of cells, each with its sender, makes of the cells of a rank.
 use Rattle.std.specs.Prelude.{ℕ, List, if◌then◌else◌}
 use Rattle.std.specs.List.{fold}
-use Rattle.bale_types.specs.declared.Item.{Item}
-use Rattle.bale_types.specs.declared.triple.Triple.{Triple}
+use Rattle.bale_items.specs.declared.Item.{Item}
+use Rattle.bale_items.specs.declared.triple.Triple.{Triple}
 use Rattle.mtx_text.specs.Cells.{raised}
 use Rattle.app_permute.specs.declared.carried.RowOwner.{RowOwner}
 use Rattle.app_permute.specs.Carried.{cell_of, may_cell}

@@ -1,7 +1,7 @@
 -- What a rank sends in its round, read from the cells that it keeps for it.
 use Rattle.std.specs.Prelude.{ℕ, ◌%◌, ◌==◌, List, map, if◌then◌else◌}
-use Rattle.bale_types.specs.declared.Item.{Item}
-use Rattle.bale_types.specs.declared.triple.Triple.{Triple}
+use Rattle.bale_items.specs.declared.Item.{Item}
+use Rattle.bale_items.specs.declared.triple.Triple.{Triple}
 use Rattle.app_permute.specs.Carried.{cell_item}
 use Rattle.app_permute.specs.Permutes.{new_number}
 

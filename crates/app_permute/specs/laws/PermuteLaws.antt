@@ -7,9 +7,9 @@ use Rattle.std.proofs.lemmas.Bool.{cases_Bool, cases_eq, cases_lt, cond-true, co
 use Rattle.std.proofs.lemmas.Bool.{le-ltb}
 use Rattle.std.proofs.lemmas.Bool.Decides.{nat_tests}
 use Rattle.std.proofs.lemmas.List.Elements.{All-nil, All-map}
-use Rattle.bale_types.specs.declared.Item.{Item}
-use Rattle.bale_types.specs.declared.triple.Triple.{Triple}
-use Rattle.bale_types.specs.Bits.{twos_complement, from_twos_complement}
+use Rattle.bale_items.specs.declared.Item.{Item}
+use Rattle.bale_items.specs.declared.triple.Triple.{Triple}
+use Rattle.bale_items.specs.Bits.{twos_complement, from_twos_complement}
 use Rattle.mtx_text.specs.Cells.{is_before, InOrder}
 use Rattle.mtx_text.proofs.PlaceOrder.{pairs_none}
 use Rattle.mtx_text.proofs.Raised.{greater, raised_comm, raised_ordered}

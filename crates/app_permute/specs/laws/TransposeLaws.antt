@@ -2,7 +2,7 @@
 use Rattle.std.proofs.Common.{ℕ, ◌^◌, ◌<◌, ◌≡◌, true, List, [], ◌∷◌, arith, refl, ap, lit<}
 use Rattle.std.proofs.lemmas.Bool.Decides.{nat_tests}
 use Rattle.std.proofs.lemmas.List.Elements.{All-nil}
-use Rattle.bale_types.specs.declared.Item.{Item}
+use Rattle.bale_items.specs.declared.Item.{Item}
 use Rattle.mtx_text.proofs.Raised.{raised_comm, raised_ordered}
 use Rattle.round_program.specs.Laws.{Laws, Fits, SameRound, IsItem}
 use Rattle.app_permute.specs.Carried.{cell_of}

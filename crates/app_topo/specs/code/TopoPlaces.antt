@@ -1,6 +1,6 @@
 -- Where the numbers of a row stand, and the entries of a column.
 use Rattle.std.specs.Prelude.{ℕ, ◌≡◌, ◌<◌, ◌≤◌, ◌/◌, ◌^◌, List, length, slice_index_or}
-use Rattle.bale_types.specs.declared.triple.Triple.{Triple}
+use Rattle.bale_items.specs.declared.triple.Triple.{Triple}
 use Rattle.sparse_rows.specs.Owners.{places_for}
 
 -- a row's number stands among the numbers of a rank

@@ -1,8 +1,8 @@
 -- What a rank of topo sends in its round, put together from the pairs of numbers that it keeps for that.
 use Rattle.std.specs.Prelude.{ℕ, ◌-◌, ◌%◌, ◌==◌, List, [], ◌∷◌, map, if◌then◌else◌}
 use Rattle.std.specs.List.{flat_map}
-use Rattle.bale_types.specs.declared.Item.{Item}
-use Rattle.bale_types.specs.declared.triple.Triple.{Triple}
+use Rattle.bale_items.specs.declared.Item.{Item}
+use Rattle.bale_items.specs.declared.triple.Triple.{Triple}
 
 -- an entry goes to the owner of its row and to the owner of its column
 abbrev pub for_both : ℕ → Triple → List (ℕ × Item)

@@ -8,8 +8,8 @@ use Rattle.std.proofs.lemmas.Bool.{cases_eq, cases_lt, eq-eqb, ne_eqb, and_parts
 use Rattle.std.proofs.lemmas.Bool.Decides.{nat_tests}
 use Rattle.std.proofs.lemmas.List.{get_or-set_same, get_or-set_other}
 use Rattle.std.proofs.lemmas.List.Elements.{All-nil, All-map, All-filter, All-append, filter_passes}
-use Rattle.bale_types.specs.declared.Item.{Item}
-use Rattle.bale_types.specs.declared.triple.Triple.{Triple}
+use Rattle.bale_items.specs.declared.Item.{Item}
+use Rattle.bale_items.specs.declared.triple.Triple.{Triple}
 use Rattle.list_laws.proofs.Lists.{changed_comm, changed_len}
 use Rattle.mtx_text.specs.Cells.{is_before, InOrder, raised}
 use Rattle.mtx_text.proofs.PlaceOrder.{pairs_none}

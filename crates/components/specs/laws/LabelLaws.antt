@@ -3,7 +3,7 @@ use Rattle.std.proofs.Common.{ℕ, ◌%◌, ◌<◌, ◌≤◌, ◌≡◌, true,
 use Rattle.std.proofs.Common.{sym, lit<, ◌∙◌}
 use Rattle.std.proofs.lemmas.Bool.Decides.{nat_tests}
 use Rattle.std.proofs.lemmas.List.Elements.{All-map, All-filter}
-use Rattle.bale_types.specs.declared.Item.{Item}
+use Rattle.bale_items.specs.declared.Item.{Item}
 use Rattle.reductions.specs.declared.reduced.Reduction.TheVariants.{Least}
 use Rattle.reductions.specs.Reductions.{reduced, has_changed}
 use Rattle.reductions.proofs.Cells.{reduced_comm, reduced_len, least_below, vote_low}

@@ -10,8 +10,8 @@ use Rattle.std.proofs.lemmas.Bool.Decides.{nat_tests}
 use Rattle.std.proofs.lemmas.List.{get_or_past, length-map}
 use Rattle.std.proofs.lemmas.List.Elements.{All-nil, All-map, All-append, All-filter}
 use Rattle.std.proofs.lemmas.List.FromFn.{get_or-range_with_len, length-range_with_len}
-use Rattle.bale_types.specs.declared.Item.{Item}
-use Rattle.bale_types.specs.declared.triple.Triple.{Triple}
+use Rattle.bale_items.specs.declared.Item.{Item}
+use Rattle.bale_items.specs.declared.triple.Triple.{Triple}
 use Rattle.mtx_text.specs.Cells.{InOrder, raised}
 use Rattle.mtx_text.proofs.Raised.{raised_ordered, raised_comm}
 use Rattle.mtx_text.proofs.Gathered.{raised_keeps}

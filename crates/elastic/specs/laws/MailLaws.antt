@@ -8,7 +8,7 @@ use Rattle.std.proofs.Math.Nat.{mod-lt}
 use Rattle.std.proofs.lemmas.Bool.Decides.{nat_tests}
 use Rattle.std.proofs.lemmas.List.{length-set, length-replicate, length-take, get_or-set_other, set_comm}
 use Rattle.std.proofs.lemmas.List.Elements.{All-nil, All-cons, All-append, All-map, All-take, All-drop}
-use Rattle.bale_types.specs.declared.Item.{Item}
+use Rattle.bale_items.specs.declared.Item.{Item}
 use Rattle.list_laws.proofs.Lists.{all_head, all_tail}
 use Rattle.round_program.specs.Laws.{Laws, Fits, IsItem, SameRound, NextRound}
 use Rattle.elastic.specs.Spelling.{IsLetter, pad, word_of, further, first_item, next_item, next_items, spelling}

@@ -5,7 +5,7 @@ ghost use Rattle.link_slots.specs.Gathering.{AreNew, HasNew};
 
 use crate::seat::ear::Ear;
 use crate::seat::ends::{InEnd, OutEnd};
-use bale_types::NoMemory;
+use bale_items::NoMemory;
 use std::alloc::Global;
 
 /// The counts of a rank, by the number of the link, and of its doorbells.

@@ -3,7 +3,7 @@ ghost use Rattle.std.specs.Prelude.{◌≡◌, ◌<◌, IfOk};
 ghost use Rattle.item_buffer.specs.Capacity.{IsCap};
 ghost use Rattle.item_buffer.specs.Contents.{blank};
 
-use bale_types::NoMemory;
+use bale_items::NoMemory;
 use item_buffer::Parcel;
 use std::alloc::Global;
 use std::marker::Model;

@@ -4,7 +4,7 @@ ghost use Rattle.list_laws.specs.Lists.{EachAt};
 ghost use Rattle.route_tensor.specs.Link.{links};
 ghost use Rattle.link_slots.specs.Counts.{IsWire};
 
-use bale_types::NoMemory;
+use bale_items::NoMemory;
 use route_tensor::Grid;
 use std::alloc::Global;
 

@@ -1,7 +1,7 @@
 -- The entries of a generated band, as they are drawn.
 use Rattle.std.specs.Prelude.{◌≡◌, ℕ, List, [], length}
 use Rattle.std.specs.List.{All}
-use Rattle.bale_types.specs.declared.triple.Triple.{Triple}
+use Rattle.bale_items.specs.declared.triple.Triple.{Triple}
 use Rattle.mtx_text.specs.declared.kind.Kind.TheVariants.{Integer}
 use Rattle.mtx_text.specs.Sparse.{IsEntry}
 use Rattle.mtx_text.specs.Cells.{sparse}

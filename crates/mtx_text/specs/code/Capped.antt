@@ -1,7 +1,7 @@
 -- How far an integer word is read.
 use Rattle.std.specs.Prelude.{ℕ, List, min, Option, Result, Ok, ok_or}
 use Rattle.std.specs.Option.{option_map}
-use Rattle.bale_types.specs.declared.triple.Triple.{Triple}
+use Rattle.bale_items.specs.declared.triple.Triple.{Triple}
 use Rattle.mtx_text.specs.declared.banner.Form.{Form}
 use Rattle.mtx_text.specs.declared.refusal.Reason.{Reason}
 use Rattle.mtx_text.specs.declared.refusal.Reason.TheVariants as reason

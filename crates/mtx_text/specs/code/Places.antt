@@ -3,7 +3,7 @@ use Rattle.std.specs.Prelude.{◌≡◌, ℕ, ◌+◌, ◌*◌, ◌==◌, ◌++�
 use Rattle.std.specs.List.{list_all, list_any}
 use Rattle.std.specs.Ordering.{nat_cmp}
 use Rattle.std.specs.BTreeSet.{BTreeSet, contains}
-use Rattle.bale_types.specs.declared.triple.Triple.{Triple}
+use Rattle.bale_items.specs.declared.triple.Triple.{Triple}
 
 -- A place as one number, where columns are below 65,536.
 abbrev pub key_of : ℕ → ℕ → ℕ

@@ -1,7 +1,7 @@
 -- What a post and a collect do on one link of a plain bank.
 use Rattle.std.specs.Prelude.{◌≡◌, ℕ, ◌+◌, ◌<◌, ◌≤◌, length, slice_get, Result, Ok, Some, IsErr}
-use Rattle.bale_types.specs.Counters.{RoseOrFull}
-use Rattle.bale_types.specs.declared.fault.NoMemory.{NoMemory}
+use Rattle.bale_items.specs.Counters.{RoseOrFull}
+use Rattle.bale_items.specs.declared.fault.NoMemory.{NoMemory}
 use Rattle.item_buffer.specs.Contents.{Contents, Shipped, shipped}
 use Rattle.route_tensor.specs.Ends.{hop_at}
 use Rattle.port_bank.specs.Logs.{lasts}

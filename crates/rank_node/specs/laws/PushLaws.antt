@@ -1,6 +1,6 @@
 -- A push toward one rank leaves it possible to push toward others.
 use Rattle.std.proofs.Common.{ℕ, ◌<◌, Bool, true, false, List, sym, ap, subst, ◌∙◌, refl}
-use Rattle.bale_types.specs.declared.item.Item.{Item}
+use Rattle.bale_items.specs.declared.item.Item.{Item}
 use Rattle.route_tensor.specs.Grid.{ranks}
 use Rattle.hop_core.specs.State.{State}
 use Rattle.exstack.specs.State.{Stack}

@@ -6,7 +6,7 @@ use Rattle.std.proofs.Common.{lit<}
 use Rattle.std.proofs.lemmas.Bool.{cases_eq, eq-eqb, ne_eqb, cases_Bool}
 use Rattle.std.proofs.lemmas.Bool.Decides.{nat_tests}
 use Rattle.std.proofs.lemmas.List.Elements.{All-nil, All-map, All-append, All-push}
-use Rattle.bale_types.specs.declared.Item.{Item}
+use Rattle.bale_items.specs.declared.Item.{Item}
 use Rattle.list_laws.proofs.Lists.{changed_comm, changed_len, changed_all, all_head, all_tail}
 use Rattle.round_program.specs.Laws.{Laws, Fits, SameRound, NextRound, IsItem}
 use Rattle.round_examples.specs.Asks.{AskState, IsAsk, IsQuery, ask_rules, is_asked, noted, answered, replies_from}

@@ -5,7 +5,7 @@ use Rattle.std.proofs.Common.{refl, sym, ap, subst, inl, inr, lit<}
 use Rattle.std.proofs.lemmas.Bool.{cases_eq, eq-eqb, ne_eqb}
 use Rattle.std.proofs.lemmas.Bool.Decides.{nat_tests}
 use Rattle.std.proofs.lemmas.List.Elements.{All-nil, All-map}
-use Rattle.bale_types.specs.declared.Item.{Item}
+use Rattle.bale_items.specs.declared.Item.{Item}
 use Rattle.list_laws.proofs.Lists.{changed_comm, changed_len}
 use Rattle.round_program.specs.Laws.{Laws, SameRound, IsItem}
 use Rattle.round_examples.specs.Counts.{CountState, IsCount, count_rules, is_named, raised, to_owner, named_item}

@@ -4,8 +4,9 @@ use Rattle.std.proofs.lemmas.List.{length-map}
 use Rattle.std.proofs.lemmas.Option.{get_or_from_slice_get}
 use mir.Val.{SFits}
 use Rattle.std.proofs.lemmas.Int.{to_z-of_z}
-use Rattle.bale_types.specs.Bits.{from_twos_complement}
+use Rattle.bale_items.specs.Bits.{from_twos_complement}
 use Rattle.list_laws.proofs.Lists.{find, get_map}
+use Rattle.app_histo_ig.proofs.ColumnWords.{column_word}
 use Rattle.app_histo_ig.proofs.Dealt.{word_is, word_there}
 use Rattle.app_histo_ig.proofs.answered.sum_at.Given.{Over}
 use Rattle.app_histo_ig.proofs.answered.sum_at.Goals.{After-answers}
@@ -46,4 +47,5 @@ returns g c = λ t at.
     ∙ c.value_of.ensures.value
     ∙ ap (λ l. from_twos_complement (get_or l c.args.at.turn 0)) (sym (own g (goal.at.returns g c).After-answers))
     ∙ ap from_twos_complement (word_is words (length c.args.p.now) c.args.at.turn c.args.at.rank (length-map c.args.p.now g.Q.Answered.words) c.requires.rank)
-    ∙ c.requires.sums.word _ t at
+    ∙ ap from_twos_complement (c.requires.sums.word _ t at)
+    ∙ (column_word c.args.m.now t.j c.known.ensures).back

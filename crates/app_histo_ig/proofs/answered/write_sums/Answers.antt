@@ -1,8 +1,8 @@
 use Rattle.std.proofs.Common.{◌<◌, ◌≡◌, ◌+◌, ◌*◌, rules, List, Some, slice_get, w64, length, ap, subst, sym, ◌∙◌, arith}
 use mir.Val.{SFits}
 use Rattle.std.proofs.lemmas.Int.{to_z-of_z}
-use Rattle.bale_types.specs.declared.triple.Triple.{Triple}
-use Rattle.bale_streams.proofs.Moves.{front_of_front, on_err_any}
+use Rattle.bale_items.specs.declared.triple.Triple.{Triple}
+use Rattle.bale_types.proofs.Moves.{front_of_front, on_err_any}
 use Rattle.list_laws.proofs.Lists.{find}
 use Rattle.mtx_text.specs.declared.kind.Kind.TheVariants as kind
 use Rattle.mtx_text.specs.Written.{entry_text}

@@ -1,7 +1,7 @@
 use Rattle.std.proofs.Common.{◌≡◌, ◌<◌, ◌+◌, ◌*◌, take, length}
 use Rattle.std.specs.List.{flat_map}
-use Rattle.bale_streams.specs.Stream.{after, IsFront}
-use Rattle.bale_streams.specs.Out.{appended}
+use Rattle.bale_types.specs.Stream.{after, IsFront}
+use Rattle.bale_types.specs.Out.{appended}
 use Rattle.app_histo_ig.specs.IgLines.{column_sum, ig_line}
 use Rattle.app_histo_ig.proofs.answered.write_sums.Given as goal
 

@@ -1,6 +1,6 @@
 use Rattle.std.proofs.Common.{◌<◌, rules, ◌∙◌, ap, subst, ℕ, List, Option}
-use Rattle.bale_streams.specs.Stream.{after}
-use Rattle.bale_streams.proofs.Moves.{front_of_front, on_err_any}
+use Rattle.bale_types.specs.Stream.{after}
+use Rattle.bale_types.proofs.Moves.{front_of_front, on_err_any}
 use Rattle.app_histo_ig.specs.HistoLines.{histo_line}
 use Rattle.app_histo_ig.proofs.HistoText.{histo_more, front_at_line}
 use Rattle.app_histo_ig.proofs.histo_run.histo_write.Goals as goal

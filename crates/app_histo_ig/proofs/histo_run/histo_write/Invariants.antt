@@ -1,6 +1,6 @@
 use Rattle.std.proofs.Common.{◌≡◌}
-use Rattle.bale_streams.specs.Stream.{after, IsFront}
-use Rattle.bale_streams.specs.Out.{appended}
+use Rattle.bale_types.specs.Stream.{after, IsFront}
+use Rattle.bale_types.specs.Out.{appended}
 use Rattle.mtx_text.specs.Sparse.{Sparse}
 use Rattle.app_histo_ig.specs.HistoLines.{histo_lines}
 use Rattle.app_histo_ig.specs.HistoRuns.{HistoEnded}

@@ -1,7 +1,7 @@
 use Rattle.std.proofs.Common.{◌≡◌, ℕ, ◌<◌, ◌^◌, All, List, map, length, replicate, arith, sym, ap, ◌∙◌, subst}
 use Rattle.std.specs.Prelude.{vec_len}
 use Rattle.std.proofs.lemmas.List.{length-map, length-replicate}
-use Rattle.bale_types.specs.declared.Item.{Item}
+use Rattle.bale_items.specs.declared.Item.{Item}
 use Rattle.app_histo_ig.specs.code.IgSent.{question_of, to_add}
 use Rattle.app_histo_ig.proofs.IgSent.{own_questions}
 use Rattle.app_histo_ig.proofs.SumsAsked.{asks_ranks, asker_is}

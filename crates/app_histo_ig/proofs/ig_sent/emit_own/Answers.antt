@@ -1,5 +1,5 @@
 use Rattle.std.proofs.Common.{ℕ, true, subst, arith}
-use Rattle.bale_types.specs.declared.item.Item.{Item}
+use Rattle.bale_items.specs.declared.item.Item.{Item}
 use Rattle.round_program.proofs.Emissions.{reaches_more, refused_at, none_at, all_after}
 use Rattle.app_histo_ig.specs.code.IgSent.{sent_of_own}
 use Rattle.app_histo_ig.proofs.ig_sent.emit_own.Goals as goal

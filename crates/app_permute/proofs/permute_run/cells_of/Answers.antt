@@ -1,5 +1,5 @@
 use Rattle.std.proofs.Common.{[], get_or}
-use Rattle.bale_types.specs.declared.triple.Triple.{Triple}
+use Rattle.bale_items.specs.declared.triple.Triple.{Triple}
 use Rattle.sparse_rows.specs.Owners.{Numbered}
 use Rattle.sparse_rows.proofs.Starts.{fields_more}
 use Rattle.app_permute.proofs.permute_run.cells_of.Goals as goal

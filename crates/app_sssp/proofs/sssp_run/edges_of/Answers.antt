@@ -1,5 +1,5 @@
 use Rattle.std.proofs.Common.{ℕ, [], ◌∷◌, ◌++◌, ◌%◌, get_or, ap, ◌∙◌}
-use Rattle.bale_types.specs.declared.Item.{Item}
+use Rattle.bale_items.specs.declared.Item.{Item}
 use Rattle.sparse_rows.specs.Owners.{Numbered, row_owner}
 use Rattle.sparse_rows.proofs.Starts.{fields_more}
 use Rattle.app_sssp.specs.SsspRuns.{edge_item}

@@ -1,5 +1,5 @@
 use Rattle.std.proofs.Common.{◌≡◌, length, rules}
-use Rattle.bale_streams.proofs.Moves.{on_err_any}
+use Rattle.bale_types.proofs.Moves.{on_err_any}
 use Rattle.app_tally.proofs.Kept.{store_kept, strings_kept, store_more, strings_more}
 use Rattle.app_tally.proofs.strings.append.Goals as goal
 

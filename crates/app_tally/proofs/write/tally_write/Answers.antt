@@ -1,5 +1,5 @@
 use Rattle.std.proofs.Common.{rules}
-use Rattle.bale_streams.proofs.Moves.{front_of_front, on_err_any}
+use Rattle.bale_types.proofs.Moves.{front_of_front, on_err_any}
 use Rattle.app_tally.proofs.Written.{entry_more, entry_front}
 use Rattle.app_tally.proofs.write.tally_write.Goals as goal
 

@@ -1,8 +1,8 @@
 use Rattle.std.proofs.Common.{◌≡◌, [], ◌∷◌, ◌++◌, ap, subst, ◌∙◌, rules}
 use Rattle.std.specs.Prelude.{decimal}
-use Rattle.bale_streams.specs.Stream.{after, IsFront}
-use Rattle.bale_streams.specs.Out.{appended}
-use Rattle.bale_streams.proofs.Moves.{front_of_front, on_err_any}
+use Rattle.bale_types.specs.Stream.{after, IsFront}
+use Rattle.bale_types.specs.Out.{appended}
+use Rattle.bale_types.proofs.Moves.{front_of_front, on_err_any}
 use Rattle.list_laws.proofs.Results.{on_ok_map}
 use Rattle.mtx_text.proofs.WrittenPieces.{front_first, front_second, front_third, all_three}
 use Rattle.app_tally.proofs.Written.{on_err_map}
@@ -11,7 +11,7 @@ use Rattle.app_tally.proofs.write.write_entry.Goals as goal
 pub returns-in_err-line : goal.returns-in_err-line
 returns-in_err-line g c = record {
   ok = search rules;
-  err = let number : c.byte.new.self ≡ decimal c.args.times ++ 32 ∷ [] = c.byte.ensures.bytes ∙ ap (λ l. l ++ 32 ∷ []) (c.natural.ensures.bytes ∙ ap (λ l. l ++ decimal c.args.times) c.new-number.ensures) in
+  err = let number : c.byte.new.self ≡ decimal c.args.times ++ 32 ∷ [] = c.byte.ensures.bytes ∙ ap (λ l. l ++ 32 ∷ []) (c.number.ensures.bytes ∙ ap (λ l. l ++ decimal c.args.times) c.new-count.ensures) in
       on_err_any c.from_residual.result
       (front_first _ _ (decimal c.args.times ++ 32 ∷ []) c.args.line.now (10 ∷ [])
       (subst (λ l. IsFront (g.K.Sink.taken c.line.new.self.sink.now) (after (appended g.K.Sink.taken c.args.out.now) l)) number c.in_err-line.ensures.written.err));
@@ -21,7 +21,7 @@ returns-in_err-line g c = record {
 pub returns-in_err-text : goal.returns-in_err-text
 returns-in_err-text g c = record {
   ok = search rules;
-  err = let number : c.byte.new.self ≡ decimal c.args.times ++ 32 ∷ [] = c.byte.ensures.bytes ∙ ap (λ l. l ++ 32 ∷ []) (c.natural.ensures.bytes ∙ ap (λ l. l ++ decimal c.args.times) c.new-number.ensures) in
+  err = let number : c.byte.new.self ≡ decimal c.args.times ++ 32 ∷ [] = c.byte.ensures.bytes ∙ ap (λ l. l ++ 32 ∷ []) (c.number.ensures.bytes ∙ ap (λ l. l ++ decimal c.args.times) c.new-count.ensures) in
       on_err_any c.from_residual-in_err-text.result
       (front_second _ (appended g.K.Sink.taken c.line.new.self) (appended g.K.Sink.taken c.args.out.now) (decimal c.args.times ++ 32 ∷ []) c.args.line.now (10 ∷ [])
       (c.in_ok-line.ensures.written.ok ∙ ap (after (appended g.K.Sink.taken c.args.out.now)) number) c.in_err-text.ensures.written.err);
@@ -30,12 +30,12 @@ returns-in_err-text g c = record {
 
 pub returns : goal.returns
 returns g c = record {
-  ok = let number : c.byte.new.self ≡ decimal c.args.times ++ 32 ∷ [] = c.byte.ensures.bytes ∙ ap (λ l. l ++ 32 ∷ []) (c.natural.ensures.bytes ∙ ap (λ l. l ++ decimal c.args.times) c.new-number.ensures) in
+  ok = let number : c.byte.new.self ≡ decimal c.args.times ++ 32 ∷ [] = c.byte.ensures.bytes ∙ ap (λ l. l ++ 32 ∷ []) (c.number.ensures.bytes ∙ ap (λ l. l ++ decimal c.args.times) c.new-count.ensures) in
       on_ok_map c.byte-2.result
       (λ e. all_three _ (appended g.K.Sink.taken c.text.new.self) (appended g.K.Sink.taken c.line.new.self) (appended g.K.Sink.taken c.args.out.now) (decimal c.args.times ++ 32 ∷ []) c.args.line.now (10 ∷ [])
       e c.in_ok-text.ensures.written.ok (c.in_ok-line.ensures.written.ok ∙ ap (after (appended g.K.Sink.taken c.args.out.now)) number))
       c.byte-2.ensures.written.ok;
-  err = let number : c.byte.new.self ≡ decimal c.args.times ++ 32 ∷ [] = c.byte.ensures.bytes ∙ ap (λ l. l ++ 32 ∷ []) (c.natural.ensures.bytes ∙ ap (λ l. l ++ decimal c.args.times) c.new-number.ensures) in
+  err = let number : c.byte.new.self ≡ decimal c.args.times ++ 32 ∷ [] = c.byte.ensures.bytes ∙ ap (λ l. l ++ 32 ∷ []) (c.number.ensures.bytes ∙ ap (λ l. l ++ decimal c.args.times) c.new-count.ensures) in
       on_err_map c.byte-2.result
       (λ e. front_third _ (appended g.K.Sink.taken c.text.new.self) (appended g.K.Sink.taken c.line.new.self) (appended g.K.Sink.taken c.args.out.now) (decimal c.args.times ++ 32 ∷ []) c.args.line.now (10 ∷ [])
       (c.in_ok-line.ensures.written.ok ∙ ap (after (appended g.K.Sink.taken c.args.out.now)) number) c.in_ok-text.ensures.written.ok e)

@@ -1,8 +1,8 @@
 use Rattle.std.proofs.Common.{◌≡◌, ◌*◌, ◌/◌, ◌%◌, length, arith, sym, ap, ◌∙◌}
 use Rattle.std.specs.Prelude.{Some}
 use Rattle.std.specs.List.{flat_map}
-use Rattle.bale_types.specs.declared.triple.Triple.{Triple}
-use Rattle.bale_types.specs.declared.Item.{Item}
+use Rattle.bale_items.specs.declared.triple.Triple.{Triple}
+use Rattle.bale_items.specs.declared.Item.{Item}
 use Rattle.app_topo.specs.code.TopoSent.{for_both}
 use Rattle.app_topo.proofs.TopoKept.{both_even, both_odd, both_len}
 use Rattle.app_topo.proofs.sent.first_emission.Goals as goal

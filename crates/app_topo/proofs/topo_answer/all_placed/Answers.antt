@@ -1,7 +1,7 @@
 use Rattle.std.proofs.Common.{◌<◌, ◌^◌, map, arith, sym, ap, ◌∙◌, subst, All}
 use Rattle.std.specs.Option.{option_copied}
-use Rattle.bale_types.specs.declared.triple.Triple.{Triple}
-use Rattle.bale_types.specs.Bits.{twos_complement}
+use Rattle.bale_items.specs.declared.triple.Triple.{Triple}
+use Rattle.bale_items.specs.Bits.{twos_complement}
 use Rattle.app_topo.specs.declared.placed.Placed.{Placed}
 use Rattle.app_topo.specs.TopoEnds.{cell_of, place_of}
 use Rattle.app_topo.proofs.TopoEnding.{rank_found, rank_cells, rank_levels, ranks_more, whole_claims, whole_small}

@@ -1,5 +1,5 @@
 use Rattle.std.proofs.Common.{rules, sym, arith, ◌∙◌}
-use Rattle.bale_streams.proofs.Moves.{front_of_front, on_err_any}
+use Rattle.bale_types.proofs.Moves.{front_of_front, on_err_any}
 use Rattle.app_topo.proofs.TopoText.{lines_more, front_at, lines_all}
 use Rattle.app_topo.proofs.topo_lines.topo_write.Goals as goal
 

@@ -1,5 +1,5 @@
 use Rattle.std.proofs.Common.{rules}
-use Rattle.bale_streams.proofs.Moves.{front_of_front}
+use Rattle.bale_types.proofs.Moves.{front_of_front}
 use Rattle.bale_answers.proofs.finish.flush_text.Goals as goal
 
 pub returns-clause-sink : goal.returns-clause-sink

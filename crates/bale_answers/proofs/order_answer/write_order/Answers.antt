@@ -1,5 +1,5 @@
 use Rattle.std.proofs.Common.{List, Option, subst, sym}
-use Rattle.bale_streams.specs.Out.{Writes}
+use Rattle.bale_types.specs.Out.{Writes}
 use Rattle.app_topo.specs.Levels.{Claim}
 use Rattle.bale_answers.specs.Orders.{order_text}
 use Rattle.bale_answers.proofs.order_answer.write_order.Goals as goal

@@ -1,4 +1,4 @@
-use Rattle.bale_streams.proofs.Moves.{front_of_front}
+use Rattle.bale_types.proofs.Moves.{front_of_front}
 use Rattle.bale_subjects.proofs.refusal.say.Goals as goal
 
 pub returns-then-is_ok-clause-held : goal.returns-then-is_ok-clause-held

@@ -67,7 +67,7 @@ returns-clause-swept g c =
           let told = c.in_ok-banks-2.ensures.posted l (subst (λ (y : Bank). l < links y.dims) (sym c.in_ok-banks.ensures.queries) below) in
           let none_q : length (sent_of c.in_ok-banks.banks.queries l) ≡ 0 = ap (λ (y : Bank). length (sent_of y l)) c.in_ok-banks.ensures.queries ∙ none_first c.args.grid.now c.args.slots l in
           let none_r : length (sent_of c.in_ok-banks.banks.replies l) ≡ 0 = ap (λ (y : Bank). length (sent_of y l)) c.in_ok-banks.ensures.replies ∙ none_first c.args.grid.now c.args.slots l in
-          let all_q : length (logs_of (round_of q).sent l) ≡ length (sent_of b.queries l) = ap (λ y. length (logs_of (round_of y).sent l)) (sym same_q) ∙ all_sent g.row.CAP b.queries (round_of x.0) l x.3 in
-          let all_r : length (logs_of (round_of r).sent l) ≡ length (sent_of b.replies l) = ap (λ y. length (logs_of (round_of y).sent l)) (sym same_r) ∙ all_sent g.row.CAP b.replies (round_of x.1) l x.5 in
+          let all_q : length (logs_of (round_of q).sent l) ≡ length (sent_of b.queries l) = ap (λ y. length (logs_of (round_of y).sent l)) (sym same_q) ∙ ap length (all_sent g.row.CAP b.queries (round_of x.0) l x.3) in
+          let all_r : length (logs_of (round_of r).sent l) ≡ length (sent_of b.replies l) = ap (λ y. length (logs_of (round_of y).sent l)) (sym same_r) ∙ ap length (all_sent g.row.CAP b.replies (round_of x.1) l x.5) in
           (omega (arith, told.0, none_q, all_q), omega (arith, told.1, none_r, all_r));
     })

@@ -1,9 +1,14 @@
 use Rattle.std.proofs.Common.{rules, ◌<◌, true, ◌++◌, ◌∷◌, [], sym, ap, subst, ◌∙◌}
+use denote.Signature.{named_lft}
+use denote.Param.{param, number}
+use denote.Param.Send.{param_send}
 use Rattle.route_tensor.specs.Grid.{ranks}
 use Rattle.link_slots.specs.Closed.{AllThere}
 use Rattle.link_slots.specs.Shape.{Shape}
 use Rattle.rank_group.specs.declared.closed_round.ClosedRound.TheVariants.{Slots}
 use Rattle.biconvey.specs.Drives.{AreAskers, AreFresh, TellsExchange, askers_of}
+use Rattle.biconvey.specs.contracts.at_ports.AtPorts as AtPorts
+use Rattle.biconvey.proofs.Crosses.{at_ports_send}
 use Rattle.biconvey.proofs.Threaded.{IsLeft, sat_at, numbered_at, all_there, have_heard, told, all_told}
 use Rattle.biconvey.proofs.on_threads.thread_with.Goals as goal
 
@@ -117,3 +122,10 @@ returns-clause-told g c = λ r low.
     let seated = c.in_ok-seated.ensures.seated c.args.steady c.args.askers fresh in
     all_told T g.row.CAP b p same c.args.steady c.args.askers all c.in_ok-all.all.items fresh c.in_ok-seated.seated.items c.in_ok-ended.ended.items c.in_ok-seated.ensures.nodes seated (g.G.Gate.told c.args.gate.now) c.in_ok-ended.ensures.ran c.in_ok-ended.ensures.over
     r (subst (λ (h : Shape). r < ranks h.dims) (sym shape_q) low)
+
+pub run_together-requires-send-A : goal.run_together-requires-send-A
+run_together-requires-send-A g c κs within =
+    let κ = named_lft 6 5 tt κs in
+    let R = AtPorts.the_row κ (param 3 g.row.A) (param 0 (number g.row.CAP)) (param 1 (number g.row.HOPS)) g.A.Asker in
+    let s = at_ports_send κ (param 3 g.row.A) (param 0 (number g.row.CAP)) (param 1 (number g.row.HOPS)) g.A.Asker c.type_bounds.send-A in
+    record { owned = s.owned; leaving = (param_send 1 R s).leaving }

@@ -1,4 +1,4 @@
-use Rattle.std.proofs.Common.{◌≡◌, ℕ, suc, true, false, ◌<◌, [], ◌∷◌, ◌++◌, length, length-append, arith, refl, sym, ap, subst, ◌∙◌, rules, sum}
+use Rattle.std.proofs.Common.{◌≡◌, ℕ, true, false, ◌<◌, [], ◌∷◌, ◌++◌, length, length-append, arith, refl, sym, ap, subst, ◌∙◌, rules, sum}
 use Rattle.route_tensor.specs.Link.{links}
 use Rattle.route_tensor.specs.Neighbour.{in_index}
 use Rattle.std.specs.List.{flat_map}
@@ -7,13 +7,14 @@ use Rattle.std.proofs.lemmas.List.{append-nil}
 use Rattle.item_buffer.specs.Contents.{shipped}
 use Rattle.port_bank.specs.Logs.{Logs}
 use Rattle.port_bank.proofs.Kept.{added-here}
-use Rattle.bale_types.specs.Counters.{RoseOrFull}
-use Rattle.port_bank.proofs.Channels.{changed-here, changed-other}
+use Rattle.bale_items.specs.Counters.{RoseOrFull}
+use Rattle.port_bank.proofs.Channels.{changed-here}
 use Rattle.hop_core.specs.Link.{is_wanted}
 use Rattle.hop_core.specs.State.{in_at}
 use Rattle.convey.specs.Buffers.{in_of}
 use Rattle.convey.specs.Due.{Wants}
-use Rattle.port_bank.specs.Calls.{once_more_if}
+use Rattle.port_bank.specs.Calls.{once_if}
+use Rattle.port_bank.specs.Calls.Call.{Collect}
 use Rattle.convey.specs.Way.{GoesOn}
 use Rattle.convey.proofs.Ways.{no_more, goes_on_refl, collects_first}
 use Rattle.convey.proofs.States.{in_number}
@@ -168,46 +169,40 @@ take_in-requires g c =
       ),
     )
 
-pub returns-in-Got-clause-collects : goal.returns-in-Got-clause-collects
-returns-in-Got-clause-collects g c =
+pub returns-in-Got-clause-calls : goal.returns-in-Got-clause-calls
+returns-in-Got-clause-calls g c =
     let st = c.args.state.now in
     let s = c.known.ensures.standing in
     let n : c.args.number ≡ in_index st.dims c.args.link = c.requires.number ∙ ap (λ ds. in_index ds c.args.link) (sym c.requires.ready.same_dims) in
     let wants : Wants st c.args.link = subst (λ i. is_wanted (in_at st i) ≡ true) n (sym c.wants_from.ensures ∙ c.if-not-wants_from.false) in
-    ap (λ calls. calls c.args.link) c.collect.ensures.collects
-    ∙ (changed-here (g.P.Port.collects c.args.port.now) c.args.link (suc (g.P.Port.collects c.args.port.now c.args.link)) ∙ ap (λ b. once_more_if b (g.P.Port.collects c.args.port.now c.args.link)) (sym wants))
+    c.collect.ensures.calls ∙ ap (λ b. g.P.Port.calls c.args.port.now ++ once_if b (Collect c.args.link)) (sym wants)
 
 pub returns-in-Got-clause-elsewhere : goal.returns-in-Got-clause-elsewhere
 returns-in-Got-clause-elsewhere g c = record {
   got = search rules;
   noted = search rules;
   idle = search rules;
-  collects = λ m ne.
-      ap (λ calls. calls m) c.collect.ensures.collects ∙ changed-other (g.P.Port.collects c.args.port.now) c.args.link m (suc (g.P.Port.collects c.args.port.now c.args.link)) ne;
 }
 
-pub returns-in-Nothing-clause-collects : goal.returns-in-Nothing-clause-collects
-returns-in-Nothing-clause-collects g c =
+pub returns-in-Nothing-clause-calls : goal.returns-in-Nothing-clause-calls
+returns-in-Nothing-clause-calls g c =
     let st = c.args.state.now in
     let s = c.known.ensures.standing in
     let n : c.args.number ≡ in_index st.dims c.args.link = c.requires.number ∙ ap (λ ds. in_index ds c.args.link) (sym c.requires.ready.same_dims) in
     let wants : Wants st c.args.link = subst (λ i. is_wanted (in_at st i) ≡ true) n (sym c.wants_from.ensures ∙ c.if-not-wants_from.false) in
-    ap (λ calls. calls c.args.link) c.collect.ensures.collects
-    ∙ (changed-here (g.P.Port.collects c.args.port.now) c.args.link (suc (g.P.Port.collects c.args.port.now c.args.link)) ∙ ap (λ b. once_more_if b (g.P.Port.collects c.args.port.now c.args.link)) (sym wants))
+    c.collect.ensures.calls ∙ ap (λ b. g.P.Port.calls c.args.port.now ++ once_if b (Collect c.args.link)) (sym wants)
 
 pub returns-in-Nothing-clause-elsewhere : goal.returns-in-Nothing-clause-elsewhere
 returns-in-Nothing-clause-elsewhere g c = record {
   got = search rules;
   noted = search rules;
   idle = search rules;
-  collects = λ m ne.
-      ap (λ calls. calls m) c.collect.ensures.collects ∙ changed-other (g.P.Port.collects c.args.port.now) c.args.link m (suc (g.P.Port.collects c.args.port.now c.args.link)) ne;
 }
 
-pub returns-then-not-wants_from-clause-collects : goal.returns-then-not-wants_from-clause-collects
-returns-then-not-wants_from-clause-collects g c =
+pub returns-then-not-wants_from-clause-calls : goal.returns-then-not-wants_from-clause-calls
+returns-then-not-wants_from-clause-calls g c =
     let st = c.args.state.now in
     let s = c.known.ensures.standing in
     let n : c.args.number ≡ in_index st.dims c.args.link = c.requires.number ∙ ap (λ ds. in_index ds c.args.link) (sym c.requires.ready.same_dims) in
     let no : is_wanted (in_of st c.args.link) ≡ false = subst (λ i. is_wanted (in_at st i) ≡ false) n (sym c.wants_from.ensures ∙ c.if-not-wants_from.true) in
-    ap (λ b. once_more_if b (g.P.Port.collects c.args.port.now c.args.link)) (sym no)
+    sym (append-nil (g.P.Port.calls c.args.port.now)) ∙ ap (λ b. g.P.Port.calls c.args.port.now ++ once_if b (Collect c.args.link)) (sym no)

@@ -1,4 +1,5 @@
-use Rattle.std.proofs.Common.{◌≡◌, ℕ, ◌<◌, false, List, length, inl, refl, sym, ap, subst, ◌∙◌, rules}
+use Rattle.std.proofs.Common.{◌≡◌, ℕ, ◌<◌, ◌++◌, false, List, length, inl, refl, sym, ap, subst, ◌∙◌, rules}
+use Rattle.std.proofs.lemmas.List.{append-nil}
 use Rattle.std.proofs.lemmas.Result.{on_ok_weaker}
 use Rattle.hop_core.specs.declared.phase.Phase.TheVariants.{Cleanup, Complete}
 use Rattle.item_buffer.specs.Contents.{blank}
@@ -8,12 +9,12 @@ use Rattle.route_tensor.specs.Ends.{sender_at}
 use Rattle.port_bank.specs.Logs.{Logs}
 use Rattle.hop_core.specs.Link.{is_wanted}
 use Rattle.convey.specs.Buffers.{in_of, is_complete}
-use Rattle.convey.specs.Due.{IsDue, WasServed}
-use Rattle.port_bank.specs.Calls.{once_more_if}
+use Rattle.convey.specs.Due.{IsDue, WasServed, collects_of, posts_below}
+use Rattle.port_bank.specs.Calls.{Call}
 use Rattle.convey.proofs.Ways.{ready_at, link_at, end_at, goes_on_refl}
 use Rattle.convey.proofs.Sent.{all_closed_by, sent_not_due, same_closed, cleanup_incomplete}
 use Rattle.convey.proofs.Completes.{complete_phase, over_not_due, over_not_wanted}
-use Rattle.convey.proofs.Asks.{served_not}
+use Rattle.convey.proofs.Asks.{served_not, none_served, none_wanted}
 use Rattle.convey.proofs.Movements.{not_true, noted_ready, moves_on, held, has_served, over_moves, over_served, over_held}
 use Rattle.convey.proofs.Advances.{not_over}
 use Rattle.convey.proofs.moving.move_on.Goals as goal
@@ -151,21 +152,45 @@ returns-then-eq-clause-served g c =
     _ _ _ c.relay_all.ensures.standing c.relay_all.ensures.stopped
     (λ l h from. record { looked = λ d. absurd (not_due l h d); crowded = λ d. absurd (not_due l h d) })
 
-pub returns-then-is_over-clause-posts : goal.returns-then-is_over-clause-posts
-returns-then-is_over-clause-posts g c =
+pub returns-clause-calls : goal.returns-clause-calls
+returns-clause-calls g c =
+    let k = c.collect_all.ensures in
+    let new : State = c.post_all.new.state in
+    let sent' : Logs = g.P.Port.sent c.post_all.new.port in
+    let before : List Call = g.P.Port.calls c.args.port.now in
+    on_ok_weaker c.post_all.result
+    (λ is. is ∙ ap (λ sent. g.P.Port.calls c.collect_all.new.port ++ posts_below new sent sent' (links new.dims)) k.leaves.same_outs.sent
+    ∙ ap (λ cs. cs ++ posts_below new (g.P.Port.sent c.args.port.now) sent' (links new.dims)) (k.calls ∙ ap (λ st. before ++ collects_of st) c.note_done.ensures.state)) c.post_all.ensures.calls
+
+pub returns-clause-stops : goal.returns-clause-stops
+returns-clause-stops g c =
+    let k = c.collect_all.ensures in
+    let new : State = c.post_all.new.state in
+    let sent' : Logs = g.P.Port.sent c.post_all.new.port in
+    let before : List Call = g.P.Port.calls c.args.port.now in
+    λ err.
+    let s = c.post_all.ensures.stops err in
+    record {
+      link = s.link;
+      below = s.below;
+      starts_here = s.starts_here;
+      due = s.due;
+      calls_are = s.calls_are ∙ ap (λ sent. g.P.Port.calls c.collect_all.new.port ++ posts_below new sent sent' s.link) k.leaves.same_outs.sent
+          ∙ ap (λ cs. cs ++ posts_below new (g.P.Port.sent c.args.port.now) sent' s.link) (k.calls ∙ ap (λ st. before ++ collects_of st) c.note_done.ensures.state);
+    }
+
+pub returns-then-is_over-clause-calls : goal.returns-then-is_over-clause-calls
+returns-then-is_over-clause-calls g c =
     let st : State = c.args.state.now in
     let over : st.phase ≡ Complete = complete_phase st.phase (ap is_complete (sym c.phase.ensures.value) ∙ (sym c.is_over.ensures ∙ c.if-is_over.true)) in
     let log : Logs = g.P.Port.sent c.args.port.now in
-    λ l h from. ap (λ b. once_more_if b (g.P.Port.posts c.args.port.now l)) (sym (served_not st l (log l) (log l) refl (over_not_due st c.phase.ensures.standing (c.requires.conveyor.complete over) l h)))
+    let before : List Call = g.P.Port.calls c.args.port.now in
+    let none = none_wanted st (λ l h to. not_true (is_wanted (in_of st l)) (over_not_wanted st c.phase.ensures.standing (c.requires.conveyor.complete over) l h to)) in
+    let unserved = none_served st log log (λ l h from. served_not st l (log l) (log l) refl (over_not_due st c.phase.ensures.standing (c.requires.conveyor.complete over) l h)) in
+    sym (append-nil before) ∙ ap (λ cs. before ++ cs) (sym none) ∙ sym (append-nil (before ++ collects_of st)) ∙ ap (λ cs. (before ++ collects_of st) ++ cs) (sym unserved)
 
-pub returns-then-is_over-clause-collects : goal.returns-then-is_over-clause-collects
-returns-then-is_over-clause-collects g c =
-    let st : State = c.args.state.now in
-    let over : st.phase ≡ Complete = complete_phase st.phase (ap is_complete (sym c.phase.ensures.value) ∙ (sym c.is_over.ensures ∙ c.if-is_over.true)) in
-    λ l h to. ap (λ b. once_more_if b (g.P.Port.collects c.args.port.now l)) (sym (not_true (is_wanted (in_of st l)) (over_not_wanted st c.phase.ensures.standing (c.requires.conveyor.complete over) l h to)))
-
-pub returns-then-eq-clause-posts : goal.returns-then-eq-clause-posts
-returns-then-eq-clause-posts g c =
+pub returns-then-eq-clause-calls : goal.returns-then-eq-clause-calls
+returns-then-eq-clause-calls g c =
     let st : State = c.args.state.now in
     let mid : State = c.relay_all.new.state in
     let k = c.collect_all.ensures in
@@ -175,9 +200,12 @@ returns-then-eq-clause-posts g c =
     let all = c.requires.conveyor.sent (sym phase ∙ cleanup) in
     let same_dims : mid.dims ≡ st.dims = passed.ready.same_dims ∙ sym c.requires.ready.same_dims in
     let same = same_closed st c.note_done.new.state c.collect_all.new.state mid c.args.done c.note_done.ensures.state k.leaves.outs (k.leaves.ready.same_dims ∙ sym c.requires.ready.same_dims) passed.closes in
-    λ l h from.
-    let not_due : IsDue mid l → ⊥ = sent_not_due st mid l c.phase.ensures.standing c.relay_all.ensures.standing same_dims same all (subst (λ ds. l < links ds) (sym same_dims) h) in
-    ap (λ f. f l) k.leaves.same_outs.posts ∙ ap (λ b. once_more_if b (g.P.Port.posts c.args.port.now l)) (sym (served_not mid l (g.P.Port.sent c.args.port.now l) (g.P.Port.sent c.collect_all.new.port l) (ap (λ s. s l) k.leaves.same_outs.sent) not_due))
+    let sent : Logs = g.P.Port.sent c.args.port.now in
+    let sent' : Logs = g.P.Port.sent c.collect_all.new.port in
+    let before : List Call = g.P.Port.calls c.args.port.now in
+    let unserved = none_served mid sent sent' (λ l h from.
+    served_not mid l (sent l) (sent' l) (ap (λ s. s l) k.leaves.same_outs.sent) (sent_not_due st mid l c.phase.ensures.standing c.relay_all.ensures.standing same_dims same all h)) in
+    k.calls ∙ ap (λ s. before ++ collects_of s) c.note_done.ensures.state ∙ sym (append-nil (before ++ collects_of st)) ∙ ap (λ cs. (before ++ collects_of st) ++ cs) (sym unserved)
 
 pub returns-clause-held : goal.returns-clause-held
 returns-clause-held g c =

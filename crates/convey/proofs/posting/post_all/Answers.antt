@@ -1,13 +1,17 @@
-use Rattle.std.proofs.Common.{◌≡◌, ◌<◌, sum, sym, ap, subst, ◌∙◌, arith, rules}
+use Rattle.std.proofs.Common.{◌≡◌, ◌<◌, ◌++◌, sum, sym, ap, subst, ◌∙◌, arith, rules}
 use Rattle.route_tensor.specs.Grid.{ranks, IsGrid}
 use Rattle.route_tensor.specs.Link.{links}
 use Rattle.route_tensor.specs.Ends.{sender_at}
 use Rattle.route_tensor.specs.Neighbour.{link_to, out_index}
-use Rattle.route_tensor.proofs.Neighbours.{out_index-link_to, out_stands}
+use Rattle.route_tensor.proofs.Neighbours.{out_index-link_to}
 use Rattle.convey.proofs.Ways.{to_below, to_sender, below_sum, link_here, ready_at, link_at, end_at, waits_more, posted_more, serving_none, serving_more, serving_all, posts_first, posts_then}
-use Rattle.convey.specs.Due.{was_served}
-use Rattle.port_bank.specs.Calls.{once_more_if}
-use Rattle.convey.proofs.Asks.{counted_none, counted_out, served_same}
+use Rattle.std.proofs.lemmas.List.{append-nil}
+use Rattle.convey.specs.Due.{was_served, posts_below}
+use Rattle.port_bank.specs.Calls.{once_if}
+use Rattle.port_bank.specs.Calls.Call.{Post}
+use Rattle.convey.proofs.Asks.{served_before, posts_here}
+use Rattle.port_bank.proofs.Sweeping.{swept_same, swept_more}
+use Rattle.convey.proofs.Ascending.{all_posts, posts_before}
 use Rattle.convey.proofs.posting.post_all.Goals as goal
 
 pub post_one-requires : goal.post_one-requires
@@ -100,7 +104,7 @@ loop-i-init g c =
       empty = c.requires.empty;
       leaves = posts_first g.P.Port c.args.state.now c.args.port.now c.requires.ready;
       serving = serving_none dims rank c.args.state.now _ _ _;
-      counted = counted_none dims rank out_index sender_at _ _;
+      calls = sym (append-nil (g.P.Port.calls c.args.port.now));
     }
 
 pub loop-i-preserved : goal.loop-i-preserved
@@ -132,14 +136,18 @@ loop-i-preserved g c =
         cap = e.leaves.goes_on.cap;
         steady = e.leaves.goes_on.steady;
       }) c.in_ok-post_one.ensures.served;
-      counted = counted_out dims rank _ _ _ _ _ _ _ grid own below here k.counted (record {
-        stays = λ m h from ne. served_same c.loop-i.state c.post_one.new.state m _ _ _ (new.same_dims ∙ sym k.leaves.ready.same_dims) e.leaves.ins e.leaves.goes_on.done e.leaves.goes_on.cap e.leaves.goes_on.steady
-            (e.out m (link_at dims _ m k.leaves.same_port.dims h) (end_at sender_at dims _ rank _ m k.leaves.same_port.dims k.leaves.same_port.rank from) ne) (e.elsewhere.sent m ne);
-        here = c.in_ok-post_one.ensures.posts ∙ ap (λ log. once_more_if (was_served c.post_one.new.state link log (g.P.Port.sent c.post_one.new.port link)) (g.P.Port.posts c.loop-i.port link))
-            (k.serving.to_post link (subst (λ l. l < links dims) (sym here) (to_below dims rank _ grid own below)) (ap (sender_at dims) here ∙ to_sender dims rank _ grid own below)
-            (omega (arith, ap (out_index dims) here, out_index-link_to dims rank c.loop-i.i grid own below)));
-        others = e.elsewhere.posts;
-      });
+      calls =
+          let sent = g.P.Port.sent c.args.port.now in
+          let sent'' = g.P.Port.sent c.post_one.new.port in
+          let log = k.serving.to_post link (subst (λ l. l < links dims) (sym here) (to_below dims rank _ grid own below)) (ap (sender_at dims) here ∙ to_sender dims rank _ grid own below)
+          (omega (arith, ap (out_index dims) here, out_index-link_to dims rank c.loop-i.i grid own below)) in
+          swept_more _ _ _ (λ j. was_served c.loop-i.state (link_to dims rank j) (sent (link_to dims rank j)) (g.P.Port.sent c.loop-i.port (link_to dims rank j)))
+          (λ j. was_served c.post_one.new.state (link_to dims rank j) (sent (link_to dims rank j)) (sent'' (link_to dims rank j))) (λ j. Post (link_to dims rank j)) c.loop-i.i _ _
+          (served_before dims rank c.loop-i.i link c.loop-i.state c.post_one.new.state sent _ _ grid own below here (new.same_dims ∙ sym k.leaves.ready.same_dims) e.leaves.ins e.leaves.goes_on.done e.leaves.goes_on.cap e.leaves.goes_on.steady
+          (λ m h from ne. e.out m (link_at dims _ m k.leaves.same_port.dims h) (end_at sender_at dims _ rank _ m k.leaves.same_port.dims k.leaves.same_port.rank from) ne) e.elsewhere.sent)
+          k.calls
+          (c.in_ok-post_one.ensures.calls ∙ ap (λ xs. g.P.Port.calls c.loop-i.port ++ once_if (was_served c.post_one.new.state link xs (sent'' link)) (Post link)) log)
+          (ap (λ l. was_served c.post_one.new.state l (sent l) (sent'' l)) here) (ap Post here);
     }
 
 pub returns-clause-served : goal.returns-clause-served
@@ -151,14 +159,22 @@ returns-clause-served g c =
     let all : c.loop-i.i ≡ sum dims = omega (arith, ap sum first, c.neighbours-i-end.ensures.value) in
     serving_all _ _ _ _ _ _ _ _ _ _ grid all k.serving
 
-pub returns-clause-posts : goal.returns-clause-posts
-returns-clause-posts g c =
+pub returns-clause-calls : goal.returns-clause-calls
+returns-clause-calls g c =
     let dims = g.P.Port.dims c.args.port.now in
+    let rank = g.P.Port.rank c.args.port.now in
     let k = c.loop-i.invariant in
+    let st = c.loop-i.state in
     let first : c.routes.result.now.dims ≡ dims = ap (λ t. t.dims) c.routes.ensures ∙ c.requires.ready.same_dims in
     let grid : IsGrid dims = subst IsGrid first c.neighbours-i-end.ensures.grid in
+    let own : rank < ranks dims = subst (λ r. r < ranks dims) (ap (λ t. t.rank) c.routes.ensures ∙ c.requires.ready.same_rank) (subst (λ ds. c.routes.result.now.rank < ranks ds) first c.neighbours-i-end.ensures.rank) in
     let all : c.loop-i.i ≡ sum dims = omega (arith, ap sum first, c.neighbours-i-end.ensures.value) in
-    λ l h from. k.counted.done l h from (subst (λ n. out_index dims l < n) (sym all) ((out_stands dims _ l grid h from).below))
+    let sent = g.P.Port.sent c.args.port.now in
+    let sent' = g.P.Port.sent c.loop-i.port in
+    let calls = g.P.Port.calls c.args.port.now in
+    k.calls ∙ ap (λ cs. calls ++ cs)
+    (all_posts dims rank grid own (λ l. was_served st l (sent l) (sent' l)) c.loop-i.i all ∙ posts_here dims rank (links dims) st sent sent' k.leaves.ready.same_dims k.leaves.ready.same_rank)
+    ∙ ap (λ ds. calls ++ posts_below st sent sent' (links ds)) (sym k.leaves.ready.same_dims)
 
 pub returns-in_err-post_one-clause-stops : goal.returns-in_err-post_one-clause-stops
 returns-in_err-post_one-clause-stops g c =
@@ -174,12 +190,21 @@ returns-in_err-post_one-clause-stops g c =
     let e = c.post_one.ensures in
     let new = ready_at dims _ rank _ _ _ _ k.leaves.same_port.dims k.leaves.same_port.rank e.leaves.ready in
     let st = c.post_one.new.state in
-    let at : out_index st.dims link ≡ c.loop-i.i = ap (λ ds. out_index ds link) new.same_dims ∙ (ap (out_index dims) here ∙ out_index-link_to dims rank c.loop-i.i grid own below) in
     λ err. record {
       link = link;
       below = subst (λ ds. link < links ds) (sym new.same_dims) (subst (λ l. l < links dims) (sym here) (to_below dims rank _ grid own below));
       starts_here = ap (λ ds. sender_at ds link) new.same_dims ∙ (ap (sender_at dims) here ∙ (to_sender dims rank _ grid own below ∙ sym new.same_rank));
       due = c.in_err-post_one.ensures.still_due (search rules);
-      later = λ l h from le. ap (λ f. f l) (c.in_err-post_one.ensures.no_post (search rules)) ∙ k.counted.to_do l (subst (λ ds. l < links ds) new.same_dims h)
-          (sym (ap (λ ds. sender_at ds l) new.same_dims) ∙ (from ∙ new.same_rank)) (omega (arith, le, at, ap (λ ds. out_index ds l) new.same_dims));
+      calls_are =
+          let sent = g.P.Port.sent c.args.port.now in
+          let sent' = g.P.Port.sent c.loop-i.port in
+          let sent'' = g.P.Port.sent c.post_one.new.port in
+          let calls = g.P.Port.calls c.args.port.now in
+          let before = swept_same (λ j. was_served c.loop-i.state (link_to dims rank j) (sent (link_to dims rank j)) (sent' (link_to dims rank j)))
+          (λ j. was_served st (link_to dims rank j) (sent (link_to dims rank j)) (sent'' (link_to dims rank j))) (λ j. Post (link_to dims rank j)) c.loop-i.i
+          (served_before dims rank c.loop-i.i link c.loop-i.state st sent sent' sent'' grid own below here (new.same_dims ∙ sym k.leaves.ready.same_dims) e.leaves.ins e.leaves.goes_on.done e.leaves.goes_on.cap e.leaves.goes_on.steady
+          (λ m h from ne. e.out m (link_at dims _ m k.leaves.same_port.dims h) (end_at sender_at dims _ rank _ m k.leaves.same_port.dims k.leaves.same_port.rank from) ne) e.elsewhere.sent) in
+          c.in_err-post_one.ensures.no_post (search rules) ∙ k.calls ∙ ap (λ cs. calls ++ cs)
+          (sym before ∙ posts_before dims rank grid own (λ l. was_served st l (sent l) (sent'' l)) c.loop-i.i below ∙ posts_here dims rank (link_to dims rank c.loop-i.i) st sent sent'' new.same_dims new.same_rank)
+          ∙ ap (λ l. calls ++ posts_below st sent sent'' l) (sym here);
     }

@@ -1,11 +1,11 @@
-use Rattle.std.proofs.Common.{◌≡◌}
+use Rattle.std.proofs.Common.{◌≡◌, ◌++◌}
 use Rattle.item_buffer.specs.Contents.{blank}
 use Rattle.convey.specs.Way.{LeftByPosts}
-use Rattle.route_tensor.specs.Ends.{sender_at}
-use Rattle.route_tensor.specs.Neighbour.{out_index}
+use Rattle.route_tensor.specs.Neighbour.{link_to}
 use Rattle.convey.specs.Due.{was_served}
 use Rattle.convey.proofs.Ways.{Serving}
-use Rattle.convey.proofs.Asks.{Counted}
+use Rattle.port_bank.specs.Calls.{swept}
+use Rattle.port_bank.specs.Calls.Call.{Post}
 use Rattle.convey.proofs.posting.post_all.Given as goal
 
 abbrev pub invariant-loop-i : goal.invariant-loop-i
@@ -13,6 +13,8 @@ invariant-loop-i g l = record {
   empty : l.spare ≡ blank l.state.epoch;
   serving : Serving (g.P.Port.dims l.fn.port) (g.P.Port.rank l.fn.port) l.i l.fn.state l.state (g.P.Port.sent l.fn.port) (g.P.Port.sent l.port)
       (g.P.Port.looks_out l.fn.port) (g.P.Port.looks_out l.port) (g.P.Port.crowded l.port);
-  counted : Counted (g.P.Port.dims l.fn.port) (g.P.Port.rank l.fn.port) out_index sender_at l.i (λ m. was_served l.state m (g.P.Port.sent l.fn.port m) (g.P.Port.sent l.port m)) (g.P.Port.posts l.fn.port) (g.P.Port.posts l.port);
+  calls : g.P.Port.calls l.port ≡ g.P.Port.calls l.fn.port ++ swept (λ i. was_served l.state (link_to (g.P.Port.dims l.fn.port) (g.P.Port.rank l.fn.port) i)
+      (g.P.Port.sent l.fn.port (link_to (g.P.Port.dims l.fn.port) (g.P.Port.rank l.fn.port) i)) (g.P.Port.sent l.port (link_to (g.P.Port.dims l.fn.port) (g.P.Port.rank l.fn.port) i)))
+      (λ i. Post (link_to (g.P.Port.dims l.fn.port) (g.P.Port.rank l.fn.port) i)) l.i;
   leaves : LeftByPosts g.P.Port l.fn.state l.state l.fn.port l.port;
 }

@@ -1,8 +1,8 @@
-use Rattle.std.proofs.Common.{◌≡◌, ◌≢◌, ℕ, suc, ◌<◌, inl, inr, refl, sym, ap, subst, ◌∙◌, rules, sum, Ok, Err, Result}
+use Rattle.std.proofs.Common.{◌≡◌, ◌++◌, append-nil, ◌≢◌, ◌<◌, inl, inr, refl, sym, ap, subst, ◌∙◌, rules, sum, Ok, Err, Result}
 use Rattle.std.proofs.lemmas.Bool.{cases_eq}
-use Rattle.bale_types.specs.declared.fault.NoMemory.{NoMemory}
+use Rattle.bale_items.specs.declared.fault.NoMemory.{NoMemory}
 use Rattle.std.specs.List.{All}
-use Rattle.bale_types.specs.declared.item.Entry.{Entry}
+use Rattle.bale_items.specs.declared.item.Entry.{Entry}
 use Rattle.item_buffer.specs.Contents.{Contents, IsFresh, shipped}
 use Rattle.route_tensor.specs.Tag.{IsFair}
 use Rattle.route_tensor.specs.Link.{links}
@@ -10,13 +10,14 @@ use Rattle.route_tensor.specs.Neighbour.{hop_to, out_index}
 use Rattle.port_bank.specs.declared.port.Posted.{Posted}
 use Rattle.port_bank.specs.declared.port.Posted.TheVariants.{Sent, NoRoom}
 use Rattle.port_bank.proofs.Kept.{added-here}
-use Rattle.port_bank.proofs.Channels.{changed-here, changed-other}
+use Rattle.port_bank.proofs.Channels.{changed-other}
 use Rattle.hop_core.specs.State.{State}
 use Rattle.convey.specs.Buffers.{out_of}
 use Rattle.convey.proofs.States.{out_number}
 use Rattle.convey.proofs.Collects.{grew}
 use Rattle.convey.proofs.Posts.{taken_out, not_due, place_empty, opened, reopened, may_post, dated, served_one, served_none, still_waits, still_due, no_longer_due}
-use Rattle.port_bank.specs.Calls.{once_more_if}
+use Rattle.port_bank.specs.Calls.{once_if}
+use Rattle.port_bank.specs.Calls.Call.{Post}
 use Rattle.convey.proofs.Ways.{posts_first}
 use Rattle.convey.proofs.Asks.{served_sent, served_due, served_not}
 use Rattle.convey.proofs.posting.post_one.Goals as goal
@@ -339,28 +340,26 @@ returns-in-Ok-NoRoom-clause-posted g c =
 pub returns-in-Err-clause-posted : goal.returns-in-Err-clause-posted
 returns-in-Err-clause-posted g c = inl (ap (λ logs. logs c.args.link) (c.post.ensures.not_sent (failed _ _ c.in-Err.is)))
 
-pub returns-then-not-due_to-clause-posts : goal.returns-then-not-due_to-clause-posts
-returns-then-not-due_to-clause-posts g c =
+pub returns-then-not-due_to-clause-calls : goal.returns-then-not-due_to-clause-calls
+returns-then-not-due_to-clause-calls g c =
     let st = c.args.state.now in
     let s = c.known.ensures.standing in
     let below : c.args.link < links st.dims = subst (λ ds. c.args.link < links ds) (sym c.requires.ready.same_dims) c.requires.link in
     let n : c.args.number ≡ out_index st.dims c.args.link = c.requires.number ∙ ap (λ ds. out_index ds c.args.link) (sym c.requires.ready.same_dims) in
     let no = not_due st c.args.number c.args.link _ s below n c.due_to.ensures c.if-not-due_to.true in
     let log = g.P.Port.sent c.args.port.now c.args.link in
-    ap (λ b. once_more_if b (g.P.Port.posts c.args.port.now c.args.link)) (sym (served_not st c.args.link log log refl no))
+    sym (append-nil (g.P.Port.calls c.args.port.now)) ∙ ap (λ b. g.P.Port.calls c.args.port.now ++ once_if b (Post c.args.link)) (sym (served_not st c.args.link log log refl no))
 
-pub returns-in-Ok-Sent-clause-posts : goal.returns-in-Ok-Sent-clause-posts
-returns-in-Ok-Sent-clause-posts g c =
+pub returns-in-Ok-Sent-clause-calls : goal.returns-in-Ok-Sent-clause-calls
+returns-in-Ok-Sent-clause-calls g c =
     let q = shipped c.take_out.new.parcel in
     let was : c.post.result ≡ Ok Sent = c.in-Ok-Sent.is ∙ ap Ok c.in-Ok-Sent.field-0-is in
     let log = g.P.Port.sent c.args.port.now c.args.link in
     let more = ap (λ logs. logs c.args.link) (c.post.ensures.sent was) ∙ added-here (g.P.Port.sent c.args.port.now) c.args.link q in
-    let calls : ℕ → ℕ = g.P.Port.posts c.args.port.now in
-    let once = ap (λ f. f c.args.link) (c.post.ensures.posts (search rules)) ∙ changed-here calls c.args.link (suc (calls c.args.link)) in
-    once ∙ ap (λ b. once_more_if b (calls c.args.link)) (sym (served_sent c.take_out.new.self c.args.link log _ q more))
+    c.post.ensures.calls (search rules) ∙ ap (λ b. g.P.Port.calls c.args.port.now ++ once_if b (Post c.args.link)) (sym (served_sent c.take_out.new.self c.args.link log _ q more))
 
-pub returns-in-Ok-NoRoom-clause-posts : goal.returns-in-Ok-NoRoom-clause-posts
-returns-in-Ok-NoRoom-clause-posts g c =
+pub returns-in-Ok-NoRoom-clause-calls : goal.returns-in-Ok-NoRoom-clause-calls
+returns-in-Ok-NoRoom-clause-calls g c =
     let st = c.args.state.now in
     let s = c.known.ensures.standing in
     let below : c.args.link < links st.dims = subst (λ ds. c.args.link < links ds) (sym c.requires.ready.same_dims) c.requires.link in
@@ -373,9 +372,7 @@ returns-in-Ok-NoRoom-clause-posts g c =
     let keeps = ap (λ p. p.untaken) (e.kept no) ∙ t.entries in
     let due = still_due _ _ st _ c.args.link _ q _ (g.P.Port.sent c.args.port.now) _ _ s c.requires.ready c.requires.link c.requires.starts_here t.due t.entries t.last e.same_ins.got new keeps refl in
     let log = g.P.Port.sent c.args.port.now c.args.link in
-    let calls : ℕ → ℕ = g.P.Port.posts c.args.port.now in
-    let once = ap (λ f. f c.args.link) (c.post.ensures.posts (search rules)) ∙ changed-here calls c.args.link (suc (calls c.args.link)) in
-    once ∙ ap (λ b. once_more_if b (calls c.args.link)) (sym (served_due c.put_back.new.self c.args.link log _ due))
+    c.post.ensures.calls (search rules) ∙ ap (λ b. g.P.Port.calls c.args.port.now ++ once_if b (Post c.args.link)) (sym (served_due c.put_back.new.self c.args.link log _ due))
 
 pub returns-in-Err-clause-still_due : goal.returns-in-Err-clause-still_due
 returns-in-Err-clause-still_due g c =
@@ -392,34 +389,29 @@ returns-in-Err-clause-still_due g c =
     λ err. still_due _ _ st _ c.args.link _ q _ (g.P.Port.sent c.args.port.now) _ _ s c.requires.ready c.requires.link c.requires.starts_here t.due t.entries t.last e.same_ins.got new keeps refl
 
 pub returns-in-Err-clause-no_post : goal.returns-in-Err-clause-no_post
-returns-in-Err-clause-no_post g c = λ err. ap g.P.Port.posts (c.post.ensures.no_memory (search rules))
+returns-in-Err-clause-no_post g c = λ err. ap g.P.Port.calls (c.post.ensures.no_memory (search rules))
 
 pub returns-in-Err-clause-elsewhere : goal.returns-in-Err-clause-elsewhere
 returns-in-Err-clause-elsewhere g c =
     let same = c.post.ensures.no_memory (search rules) in
     record {
       sent = λ m ne. ap (λ port. g.P.Port.sent port m) same;
-      posts = λ m ne. ap (λ port. g.P.Port.posts port m) same;
       looks_out = λ m ne. ap (λ port. g.P.Port.looks_out port m) same;
       crowded = λ m ne. ap (λ port. g.P.Port.crowded port m) same;
     }
 
 pub returns-in-Ok-Sent-clause-elsewhere : goal.returns-in-Ok-Sent-clause-elsewhere
 returns-in-Ok-Sent-clause-elsewhere g c =
-    let calls : ℕ → ℕ = g.P.Port.posts c.args.port.now in
     record {
       sent = search rules;
-      posts = λ m ne. ap (λ f. f m) (c.post.ensures.posts (search rules)) ∙ changed-other calls c.args.link m (suc (calls c.args.link)) ne;
       looks_out = search rules;
       crowded = search rules;
     }
 
 pub returns-in-Ok-NoRoom-clause-elsewhere : goal.returns-in-Ok-NoRoom-clause-elsewhere
 returns-in-Ok-NoRoom-clause-elsewhere g c =
-    let calls : ℕ → ℕ = g.P.Port.posts c.args.port.now in
     record {
       sent = search rules;
-      posts = λ m ne. ap (λ f. f m) (c.post.ensures.posts (search rules)) ∙ changed-other calls c.args.link m (suc (calls c.args.link)) ne;
       looks_out = search rules;
       crowded = search rules;
     }

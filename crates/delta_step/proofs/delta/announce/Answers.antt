@@ -1,5 +1,5 @@
 use Rattle.std.proofs.Common.{ℕ, refl}
-use Rattle.bale_types.specs.declared.Item.{Item}
+use Rattle.bale_items.specs.declared.Item.{Item}
 use Rattle.sparse_rows.proofs.Starts.{made_more}
 use Rattle.delta_step.proofs.delta.announce.Goals as goal
 

@@ -1,7 +1,7 @@
 use Rattle.std.proofs.Common.{◌<◌, ◌≡◌, rules, arith, ◌∙◌, ap, subst, ℕ, List, Option}
-use Rattle.bale_streams.specs.Stream.{after}
-use Rattle.bale_streams.specs.Out.{appended}
-use Rattle.bale_streams.proofs.Moves.{front_of_front, on_err_any}
+use Rattle.bale_types.specs.Stream.{after}
+use Rattle.bale_types.specs.Out.{appended}
+use Rattle.bale_types.proofs.Moves.{front_of_front, on_err_any}
 use Rattle.least_walks.specs.Lines.{vertex_line, sssp_lines}
 use Rattle.least_walks.proofs.Settled.{least_once}
 use Rattle.least_walks.proofs.Texts.{lines_more, front_at_line}

@@ -1,6 +1,6 @@
 use Rattle.std.proofs.Common.{◌≡◌, ℕ, Option}
-use Rattle.bale_streams.specs.Stream.{after, IsFront}
-use Rattle.bale_streams.specs.Out.{appended}
+use Rattle.bale_types.specs.Stream.{after, IsFront}
+use Rattle.bale_types.specs.Out.{appended}
 use Rattle.mtx_text.specs.Sparse.{Sparse}
 use Rattle.least_walks.specs.Walks.{AreLeast}
 use Rattle.least_walks.specs.Lines.{sssp_lines}

@@ -1,5 +1,5 @@
 use Rattle.std.proofs.Common.{ℕ, ◌<◌, arith, ◌+◌, ◌/◌, ◌==◌, ◌%◌, cond, map, replicate, sym, ap, ◌∙◌, subst}
-use Rattle.bale_types.specs.declared.Item.{Item}
+use Rattle.bale_items.specs.declared.Item.{Item}
 use Rattle.sparse_rows.specs.Owners.{Numbered, row_owner}
 use Rattle.sparse_rows.proofs.Starts.{own_part, part_below}
 use Rattle.sparse_rows.proofs.Places.{place_below}

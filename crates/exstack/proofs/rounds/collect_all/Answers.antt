@@ -1,4 +1,4 @@
-use Rattle.std.proofs.Common.{◌≡◌, ◌≢◌, ◌<◌, ◌+◌, ◌*◌, ℕ, List, [], ◌∷◌, length, get_or, true, rules, arith, ap, sym, subst, refl, ◌∙◌, inl, inr}
+use Rattle.std.proofs.Common.{◌≡◌, ◌≢◌, ◌<◌, ◌+◌, ◌*◌, ◌++◌, append-nil, ℕ, List, [], ◌∷◌, length, get_or, true, rules, arith, ap, sym, subst, refl, ◌∙◌, inl, inr}
 use Rattle.std.proofs.lemmas.Bool.{cases_eq}
 use Rattle.list_laws.specs.Lists.{Begins}
 use Rattle.route_tensor.specs.Link.{links}
@@ -6,19 +6,21 @@ use Rattle.route_tensor.specs.Ends.{sender_at, reader_at}
 use Rattle.port_bank.specs.Logs.{lasts}
 use Rattle.port_bank.proofs.Frames.{port_at_first, port_then, outs_at_first, outs_then}
 use Rattle.port_bank.proofs.Fronts.{begins_refl, begins_trans}
-use Rattle.port_bank.specs.Calls.{once_more_if}
+use Rattle.port_bank.specs.Calls.Call.{Collect}
+use Rattle.port_bank.proofs.Sweeping.{swept_more}
 use Rattle.exstack.specs.Links.{In, no_in}
 use Rattle.exstack.specs.State.{number}
+use Rattle.exstack.specs.Steps.{collects_from}
 use Rattle.exstack.proofs.OneHop.{number_within, number_sender, number_reader}
 use Rattle.exstack.proofs.Sweeps.{sweep_start, sweep_more, sweep_each, sweep_here}
-use Rattle.exstack.proofs.Moves.{Sight, in_sight, in_seen, Collected, Asked, CollectsCounted, in_number, none_collected, in_apart, begins_between}
+use Rattle.exstack.proofs.Moves.{Sight, in_sight, in_seen, Collected, Asked, in_number, none_collected, in_apart, begins_between}
 use Rattle.exstack.proofs.rounds.collect_all.Goals as goal
 
 pub loop-a-init : goal.loop-a-init
 loop-a-init g c = record {
   collected = sweep_start _ _ _ _ _;
   asked = sweep_start _ _ _ _ _;
-  counted = sweep_start _ _ _ _ _;
+  calls = sym (append-nil (g.P.Port.calls c.args.port.now));
   own = λ b. b;
   left = record { grows = λ m. begins_refl (g.P.Port.got c.args.port.now m); crowded = λ m e. refl; same_outs = outs_at_first; same_port = port_at_first };
 }
@@ -86,9 +88,9 @@ loop-a-preserved g c =
     record {
       collected = sweep_more (Collected c.args.exchange) no_in (in_number n r) a xs c.loop-a.ins.items before mid after x y within k.collected c.index_mut.ensures.value moved others;
       asked = sweep_more Asked no_in (in_number n r) a xs c.loop-a.ins.items before mid after x y within k.asked c.index_mut.ensures.value vain others;
-      counted = sweep_more CollectsCounted no_in (in_number n r) a xs c.loop-a.ins.items (g.P.Port.collects c.args.port.now) (g.P.Port.collects c.loop-a.port) (g.P.Port.collects c.collect.new.port) x y within k.counted c.index_mut.ensures.value
-          (subst (λ m. g.P.Port.collects c.collect.new.port m ≡ once_more_if x.due (g.P.Port.collects c.loop-a.port m)) (sym here) e.collects)
-          (λ m w ne. e.elsewhere.collects (number n m r) (λ q. in_apart n r a m c.requires.port.within ne (q ∙ sym here)));
+      calls =
+          let now : x ≡ get_or xs a no_in = sweep_here _ _ _ _ _ _ _ _ _ within k.collected c.index_mut.ensures.value in
+          swept_more _ _ _ (λ m. (get_or xs m no_in).due) (λ m. (get_or xs m no_in).due) (λ m. Collect (number n m r)) a _ _ (λ m less. refl) k.calls e.calls (ap (λ (i : In). i.due) now) (ap Collect (sym here));
       own = λ b. own (k.own b);
       left = record {
         grows = λ m. begins_trans _ _ _ (k.left.grows m) (e.left.grows m);
@@ -107,6 +109,7 @@ pub returns-clause-in_vain : goal.returns-clause-in_vain
 returns-clause-in_vain g c = λ a w.
     c.loop-a.invariant.asked.done a (omega (arith, w, c.loop-a-test.false, c.len-a-end.ensures, c.args.ins.now.ok)) w
 
-pub returns-clause-collects : goal.returns-clause-collects
-returns-clause-collects g c = λ a w.
-    c.loop-a.invariant.counted.done a (omega (arith, w, c.loop-a-test.false, c.len-a-end.ensures, c.args.ins.now.ok)) w
+pub returns-clause-calls : goal.returns-clause-calls
+returns-clause-calls g c =
+    let all : c.loop-a.a ≡ length c.args.ins.now.items = omega (arith, c.loop-a-test.false, c.len-a-end.ensures, c.args.ins.now.ok) in
+    c.loop-a.invariant.calls ∙ ap (λ m. g.P.Port.calls c.args.port.now ++ collects_from (length c.args.ins.now.items) c.args.rank c.args.ins.now.items m) all

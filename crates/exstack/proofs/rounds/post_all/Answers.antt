@@ -1,4 +1,4 @@
-use Rattle.std.proofs.Common.{◌≡◌, ◌≢◌, ◌<◌, ◌+◌, ◌*◌, ℕ, List, [], ◌∷◌, length, get_or, true, rules, arith, ap, sym, subst, refl, ◌∙◌}
+use Rattle.std.proofs.Common.{◌≡◌, ◌≢◌, ◌<◌, ◌+◌, ◌*◌, ◌++◌, append-nil, ℕ, List, [], ◌∷◌, length, get_or, true, rules, arith, ap, sym, subst, refl, ◌∙◌}
 use Rattle.route_tensor.specs.Grid.{IsGrid}
 use Rattle.route_tensor.specs.Link.{links}
 use Rattle.route_tensor.specs.Ends.{sender_at}
@@ -7,19 +7,21 @@ use Rattle.port_bank.proofs.Frames.{port_at_first, port_then, ins_at_first, ins_
 use Rattle.port_bank.proofs.Fronts.{begins_refl, begins_trans}
 use Rattle.port_bank.proofs.Kept.{law_same}
 use Rattle.std.proofs.lemmas.List.{get_or-set_same}
-use Rattle.port_bank.specs.Calls.{once_more_if}
+use Rattle.port_bank.specs.Calls.Call.{Post}
+use Rattle.port_bank.proofs.Sweeping.{swept_more}
 use Rattle.exstack.specs.Links.{Out, no_out}
 use Rattle.exstack.specs.State.{number}
+use Rattle.exstack.specs.Steps.{posts_to}
 use Rattle.exstack.proofs.OneHop.{grid_one, number_within, number_sender}
 use Rattle.exstack.proofs.Sweeps.{sweep_start, sweep_more, sweep_each, sweep_here}
-use Rattle.exstack.proofs.Moves.{Sight, out_sight, out_seen, Posted, Served, PostsCounted, none_posted, out_apart}
+use Rattle.exstack.proofs.Moves.{Sight, out_sight, out_seen, Posted, Served, none_posted, out_apart}
 use Rattle.exstack.proofs.rounds.post_all.Goals as goal
 
 pub loop-b-init : goal.loop-b-init
 loop-b-init g c = record {
   posted = sweep_start _ _ _ _ _;
   served = sweep_start _ _ _ _ _;
-  counted = sweep_start _ _ _ _ _;
+  calls = sym (append-nil (g.P.Port.calls c.args.port.now));
   law = c.requires.law;
   left = record { grows = λ m. begins_refl (g.P.Port.sent c.args.port.now m); same_ins = ins_at_first; same_port = port_at_first };
 }
@@ -80,9 +82,9 @@ loop-b-preserved g c =
     record {
       posted = sweep_more (Posted c.args.last c.args.epoch) no_out (number n r) b xs c.loop-b.outs.items before mid after x y within k.posted c.index_mut.ensures.value moved others;
       served = sweep_more Served no_out (number n r) b xs c.loop-b.outs.items before mid after x y within k.served c.index_mut.ensures.value vain others;
-      counted = sweep_more PostsCounted no_out (number n r) b xs c.loop-b.outs.items (g.P.Port.posts c.args.port.now) (g.P.Port.posts c.loop-b.port) (g.P.Port.posts c.post.new.port) x y within k.counted c.index_mut.ensures.value
-          (subst (λ m. g.P.Port.posts c.post.new.port m ≡ once_more_if x.due (g.P.Port.posts c.loop-b.port m)) (sym here) c.in_ok-post.ensures.posts)
-          (λ m w ne. e.elsewhere.posts (number n r m) (λ q. out_apart n r b m ne (q ∙ sym here)));
+      calls =
+          let now : x ≡ get_or xs b no_out = sweep_here _ _ _ _ _ _ _ _ _ within k.posted c.index_mut.ensures.value in
+          swept_more _ _ _ (λ m. (get_or xs m no_out).due) (λ m. (get_or xs m no_out).due) (λ m. Post (number n r m)) b _ _ (λ m less. refl) k.calls c.in_ok-post.ensures.calls (ap (λ (o : Out). o.due) now) (ap Post (sym here));
       law = law_same _ _ _ _ _ _ _ _ (sym k.left.same_port.dims) (sym k.left.same_port.rank) refl (sym k.left.same_ins.got) e.law;
       left = record {
         grows = λ m. begins_trans _ _ _ (k.left.grows m) (e.left.grows m);
@@ -120,9 +122,10 @@ pub returns-clause-in_vain : goal.returns-clause-in_vain
 returns-clause-in_vain g c = λ ok b w.
     c.loop-b.invariant.served.done b (omega (arith, w, c.loop-b-test.false, c.len-b-end.ensures, c.args.outs.now.ok)) w
 
-pub returns-clause-posts : goal.returns-clause-posts
-returns-clause-posts g c = λ b w.
-    c.loop-b.invariant.counted.done b (omega (arith, w, c.loop-b-test.false, c.len-b-end.ensures, c.args.outs.now.ok)) w
+pub returns-clause-calls : goal.returns-clause-calls
+returns-clause-calls g c =
+    let all : c.loop-b.b ≡ length c.args.outs.now.items = omega (arith, c.loop-b-test.false, c.len-b-end.ensures, c.args.outs.now.ok) in
+    c.loop-b.invariant.calls ∙ ap (λ m. g.P.Port.calls c.args.port.now ++ posts_to (length c.args.outs.now.items) c.args.rank c.args.outs.now.items m) all
 
 pub returns-in_err-post-clause-stops : goal.returns-in_err-post-clause-stops
 returns-in_err-post-clause-stops g c =
@@ -135,6 +138,6 @@ returns-in_err-post-clause-stops g c =
     λ err. record {
       to = b;
       below = within;
-      due = ap (λ (o : Out). o.due) (get_or-set_same c.loop-b.outs.items b y no_out (omega (arith, within, k.counted.count))) ∙ c.in_err-post.ensures.still_due (search rules);
-      later = λ m le w. ap (λ f. f (number n c.args.rank m)) (c.in_err-post.ensures.no_post (search rules)) ∙ k.counted.shown m le w;
+      due = ap (λ (o : Out). o.due) (get_or-set_same c.loop-b.outs.items b y no_out (omega (arith, within, k.posted.count))) ∙ c.in_err-post.ensures.still_due (search rules);
+      calls_are = c.in_err-post.ensures.no_post (search rules) ∙ k.calls;
     }

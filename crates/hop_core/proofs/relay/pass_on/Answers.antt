@@ -1,5 +1,5 @@
 use Rattle.std.proofs.Common.{◌∙◌, ◌<◌, sym, ap, subst, arith, length, get_or, set, ◌+◌}
-use Rattle.bale_types.specs.declared.item.Entry.{Entry}
+use Rattle.bale_items.specs.declared.item.Entry.{Entry}
 use Rattle.list_laws.specs.Lists.{EachAt}
 use Rattle.route_tensor.specs.Neighbour.{hop_to}
 use Rattle.hop_core.specs.Link.{read_on}

@@ -1,6 +1,6 @@
 use Rattle.std.proofs.Common.{◌≡◌, ◌≢◌, ◌<◌, ◌+◌, ℕ, length, get_or, sym, ◌∙◌, rules, arith, subst, pos}
 use Rattle.std.proofs.lemmas.List.{get_or_read_under}
-use Rattle.bale_types.specs.declared.triple.Triple.{Triple}
+use Rattle.bale_items.specs.declared.triple.Triple.{Triple}
 use Rattle.mtx_text.specs.code.Chains.{LeadsTo}
 use Rattle.mtx_text.proofs.Chains.{step}
 use Rattle.mtx_text.proofs.apart.is_row_apart.Goals as goal

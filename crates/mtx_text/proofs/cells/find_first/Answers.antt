@@ -1,6 +1,6 @@
 use Rattle.std.proofs.Common.{ℕ, ◌+◌, ◌-◌, ◌/◌, pos, ◌<◌, ◌≤◌, ◌≡◌, false, length, get_or, arith, sym, ◌∙◌, subst}
 use Rattle.std.proofs.lemmas.List.{get_or_default}
-use Rattle.bale_types.specs.declared.triple.Triple.{Triple}
+use Rattle.bale_items.specs.declared.triple.Triple.{Triple}
 use Rattle.mtx_text.specs.Cells.{comes_before}
 use Rattle.mtx_text.proofs.Nearest.{all_before, first_is}
 use Rattle.mtx_text.proofs.cells.find_first.Goals as goal

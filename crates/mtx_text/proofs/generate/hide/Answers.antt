@@ -2,7 +2,7 @@ use Rattle.std.proofs.Common.{suc, ◌≡◌, ◌+◌, ◌-◌, ◌%◌, ◌<◌
 use Rattle.std.specs.List.{All}
 use Rattle.std.proofs.lemmas.List.{length_push}
 use Rattle.std.proofs.lemmas.List.Elements.{All-nil, All-push}
-use Rattle.bale_types.specs.declared.triple.Triple.{Triple}
+use Rattle.bale_items.specs.declared.triple.Triple.{Triple}
 use Rattle.mtx_text.specs.declared.kind.Kind.TheVariants.{Integer}
 use Rattle.mtx_text.specs.Sparse.{IsEntry}
 use Rattle.mtx_text.specs.Cells.{sparse}

@@ -1,5 +1,5 @@
 use Rattle.std.proofs.Common.{sym, subst}
-use Rattle.bale_streams.specs.Out.{Writes}
+use Rattle.bale_types.specs.Out.{Writes}
 use Rattle.mtx_text.specs.Written.{banner_text}
 use Rattle.mtx_text.proofs.write.write_banner.Goals as goal
 

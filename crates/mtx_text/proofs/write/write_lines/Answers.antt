@@ -1,7 +1,7 @@
 use Rattle.std.proofs.Common.{rules, ap, subst, ◌∙◌}
-use Rattle.bale_streams.specs.Stream.{after, IsFront}
-use Rattle.bale_streams.specs.Out.{appended}
-use Rattle.bale_streams.proofs.Moves.{front_of_front, on_err_any, front_in_loop}
+use Rattle.bale_types.specs.Stream.{after, IsFront}
+use Rattle.bale_types.specs.Out.{appended}
+use Rattle.bale_types.proofs.Moves.{front_of_front, on_err_any, front_in_loop}
 use Rattle.mtx_text.specs.Written.{entry_text}
 use Rattle.mtx_text.proofs.WrittenPieces.{pieces_more}
 use Rattle.mtx_text.proofs.write.write_lines.Goals as goal

@@ -1,7 +1,7 @@
 use Rattle.std.proofs.Common.{◌≡◌, take}
 use Rattle.std.specs.List.{flat_map}
-use Rattle.bale_streams.specs.Stream.{after, IsFront}
-use Rattle.bale_streams.specs.Out.{appended}
+use Rattle.bale_types.specs.Stream.{after, IsFront}
+use Rattle.bale_types.specs.Out.{appended}
 use Rattle.mtx_text.specs.Written.{entry_text}
 use Rattle.mtx_text.proofs.write.write_lines.Given as goal
 

@@ -1,8 +1,8 @@
 use Rattle.std.proofs.Common.{◌≡◌, ap, ap₂, ◌∙◌, subst, rules}
 use Rattle.std.specs.List.{flat_map}
-use Rattle.bale_streams.specs.Stream.{after, IsFront}
-use Rattle.bale_streams.specs.Out.{appended}
-use Rattle.bale_streams.proofs.Moves.{front_of_front, on_err_any}
+use Rattle.bale_types.specs.Stream.{after, IsFront}
+use Rattle.bale_types.specs.Out.{appended}
+use Rattle.bale_types.proofs.Moves.{front_of_front, on_err_any}
 use Rattle.mtx_text.specs.Written.{entry_text, banner_text, size_text}
 use Rattle.mtx_text.proofs.WrittenMatrix.{read_again}
 use Rattle.mtx_text.proofs.WrittenPieces.{front_first, front_second, front_third, all_three}

@@ -1,6 +1,6 @@
 use Rattle.std.proofs.Common.{rules, get_or, sym, ap, subst, ◌∙◌}
 use Rattle.std.proofs.lemmas.Option.{slice_get-get_or}
-use Rattle.bale_types.specs.declared.item.Entry.{Entry}
+use Rattle.bale_items.specs.declared.item.Entry.{Entry}
 use Rattle.hop_core.specs.State.{State, pulls}
 use Rattle.hop_core.proofs.Going.{no_entry}
 use Rattle.query_node.specs.Taking.{Answers}

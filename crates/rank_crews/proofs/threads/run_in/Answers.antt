@@ -6,8 +6,8 @@ use Rattle.rank_crews.proofs.threads.run_in.Goals as goal
 pub returns : goal.returns
 returns g c =
     let all = c.args.all.items in
-    let back = c.join_all-back.result.items in
+    let back = c.take_ranks.result.items in
     record {
-      ran = c.run_back.ensures.ran all (subst (λ xs. AllRan (g.A.Seated.ran g.J.Telling.told) xs back) (ap reverse (c.run_kept-children.ensures ∙ c.start_all-children.ensures) ∙ reverse-reverse all) c.join_all-back.ensures);
-      over = c.run_back.ensures.over;
+      ran = subst (λ xs. AllRan (AllRan (g.A.Seated.ran g.J.GateLog.told)) xs back) (ap reverse (c.run_caller-children.ensures.same ∙ c.start_all-children.ensures.first) ∙ reverse-reverse all) c.take_ranks.ensures.ran;
+      over = c.take_ranks.ensures.over;
     }

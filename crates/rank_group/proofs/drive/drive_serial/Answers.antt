@@ -1,4 +1,4 @@
-use Rattle.std.proofs.Common.{rules, ◌≡◌, ◌+◌, ◌<◌, ◌≤◌, [], ◌∷◌, ◌++◌, length, sym, ap, subst, ◌∙◌, arith}
+use Rattle.std.proofs.Common.{rules, ◌≡◌, ◌+◌, ◌<◌, ◌≤◌, [], ◌∷◌, ◌++◌, length, refl, sym, ap, subst, ◌∙◌, arith}
 use Rattle.port_bank.specs.Plain.{Bank, sent_of, got_of}
 use Rattle.route_tensor.specs.Grid.{ranks}
 use Rattle.route_tensor.specs.Link.{links}
@@ -9,7 +9,7 @@ use Rattle.rank_group.specs.Ranks.{IsOrder}
 use Rattle.rank_group.specs.Turns.{Scene, SweepsOf}
 use Rattle.rank_group.specs.Worlds.{all_progress}
 use Rattle.rank_group.specs.declared.closed_round.ClosedRound.TheVariants.{Plain}
-use Rattle.rank_group.proofs.Ended.{run_needs, steps_at, world_after, have_ended, told, fewest_turns, only_one, none_first, all_sent}
+use Rattle.rank_group.proofs.Ended.{run_needs, steps_at, world_after, have_ended, told, fewest_turns, only_one, none_first, all_sent, all_got}
 use Rattle.rank_group.proofs.drive.drive_serial.Goals as goal
 
 pub run_all-requires : goal.run_all-requires
@@ -68,7 +68,7 @@ pub returns-clause-swept : goal.returns-clause-swept
 returns-clause-swept g c =
     let swept = c.in_ok-bank-2.ensures.order in
     let first = c.in_ok-all.all.items in
-    let last : Scene g.row.Q.Denot = record { ranks = c.run_all.new.all.items; sent = sent_of c.in_ok-bank-2.bank; got = got_of c.in_ok-bank-2.bank } in
+    let last : Scene g.row.Q.Denot = record { ranks = c.run_all.new.all.items; sent = sent_of c.in_ok-bank-2.bank; got = got_of c.in_ok-bank-2.bank; turns = c.run_all.new.steps } in
     let made = c.in_ok-bank.ensures.made in
     let w = world_after g.Q.Program.rules g.met.Q.Program.laws g.row.CAP c.args.grid.now c.args.slots (manner_of c.args.via c.args.steady) c.args.progs c.requires.run.begins.0 c.requires.run.begins.1 c.requires.run.begins.2 c.requires.run.begins.3 first c.in_ok-all.ensures.fresh c.requires.fits.cap_is.some
     c.in_ok-bank.bank made c.in_ok-bank.ensures.lawful c.run_all.new.all.items c.in_ok-bank-2.bank c.in_ok-bank-2.ensures.world in
@@ -82,8 +82,15 @@ returns-clause-swept g c =
         last = last;
         fresh = c.in_ok-all.ensures.fresh;
         ended = sym c.in_ok-progs.ensures.progs;
-        swept = subst (λ (b : Bank). SweepsOf g.Q.Program.rules b.dims g.row.CAP b.slots c.args.order.now swept.0 (record { ranks = first; sent = sent_of b; got = got_of b }) last) made swept.1;
+        counted = refl;
+        swept = subst (λ (b : Bank). SweepsOf g.Q.Program.rules b.dims g.row.CAP b.slots c.args.order.now swept.0 (record { ranks = first; sent = sent_of b; got = got_of b; turns = c.args.steps.now }) last) made swept.1;
       };
+      exchanged = λ round is l.
+          let rounds = c.in_ok-add.ensures.added ∙ ap (λ xs. xs ++ Plain c.close.result ∷ []) c.new-rounds.ensures in
+          let same : Plain c.close.result ≡ round = only_one (Plain c.close.result) round (sym rounds ∙ is) in (
+            ap (λ x. logs_of (round_of x).sent l) (sym same) ∙ all_sent g.row.CAP c.in_ok-bank-2.bank c.close.result l c.close.ensures.round,
+            ap (λ x. logs_of (round_of x).got l) (sym same) ∙ all_got g.row.CAP c.in_ok-bank-2.bank c.close.result l c.close.ensures.round,
+          );
       fewest = λ n rounds.
           fewest_turns g.Q.Program.rules g.met.Q.Program.laws c.closes_laws.ensures g.row.CAP c.args.grid.now c.args.slots (manner_of c.args.via c.args.steady) c.args.progs w.0 c.run_all.new.all.items c.in_ok-bank-2.bank ed es w.1.ranked (c.in_ok-bank-2.ensures.over) c.requires.run.begins.0 c.requires.run.begins.1 n c.requires.run.begins.2 rounds
           first c.in_ok-all.ensures.fresh c.args.steps.now c.run_all.new.steps more;
@@ -92,6 +99,6 @@ returns-clause-swept g c =
           let same : Plain c.close.result ≡ round = only_one (Plain c.close.result) round (sym rounds ∙ is) in
           let told = c.in_ok-bank-2.ensures.posted l (subst (λ d. l < links d) (sym (ap (λ (b : Bank). b.dims) made)) below) in
           let none : length (sent_of c.in_ok-bank.bank l) ≡ 0 = ap (λ (b : Bank). length (sent_of b l)) made ∙ none_first c.args.grid.now c.args.slots l in
-          let all : length (logs_of (round_of round).sent l) ≡ length (sent_of c.in_ok-bank-2.bank l) = ap (λ x. length (logs_of (round_of x).sent l)) (sym same) ∙ all_sent g.row.CAP c.in_ok-bank-2.bank c.close.result l c.close.ensures.round in
+          let all : length (logs_of (round_of round).sent l) ≡ length (sent_of c.in_ok-bank-2.bank l) = ap (λ x. length (logs_of (round_of x).sent l)) (sym same) ∙ ap length (all_sent g.row.CAP c.in_ok-bank-2.bank c.close.result l c.close.ensures.round) in
           omega (arith, told, none, all);
     }

@@ -10,7 +10,7 @@ new-requires g c =
     let here = next_prog g.Q.Program.rules c.args.grid.now g.row.CAP (manner_of c.args.via c.args.steady) c.args.progs c.loop-prog.progs c.loop-prog.all.items c.loop-prog.invariant.making c.in-Some.prog (sym c.in-Some.ensures.first) in
     let all = c.requires.begins.2 in
     let m = all.each (length c.loop-prog.all.items) c.in-Some.prog here in
-    (search rules, (c.requires.fits, ((c.requires.one_hop, (omega (arith, m.own_rank, within c.args.progs (length c.loop-prog.all.items) c.in-Some.prog here, all.size), (m.all_ranks, m.same_round))))))
+    (search rules, (c.requires.fits, ((c.requires.one_hop, (omega (arith, m.own_rank, within c.args.progs (length c.loop-prog.all.items) c.in-Some.prog here, all.size), m.all_ranks)))))
 
 pub push_reserved-requires : goal.push_reserved-requires
 push_reserved-requires g c =

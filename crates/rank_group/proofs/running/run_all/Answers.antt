@@ -65,9 +65,9 @@ loop-bank-preserved g c =
     let driving = driving_more g.Q.Program.rules g.row.CAP c.args.all.now.items c.args.bank c.args.steps.now c.loop-bank.all.items c.loop-bank.bank c.loop-bank.steps c.loop-bank.invariant.driving g.met.Q.Program.laws c.closes_laws.ensures c.rest_law.ensures c.args.order.now c.requires.order on
     c.sweep.new.all.items c.in_ok-bank.bank c.sweep.new.steps c.in_ok-bank.ensures.bank.lawful c.in_ok-bank.ensures.bank.same_dims c.in_ok-bank.ensures.bank.same_slots c.sweep.ensures.most_steps c.in_ok-bank.ensures.swept in
     let R = g.Q.Program.rules in
-    let first : Scene g.row.Q.Denot = record { ranks = c.args.all.now.items; sent = sent_of c.args.bank; got = got_of c.args.bank } in
-    let before : Scene g.row.Q.Denot = record { ranks = c.loop-bank.all.items; sent = sent_of c.loop-bank.bank; got = got_of c.loop-bank.bank } in
-    let after : Scene g.row.Q.Denot = record { ranks = c.sweep.new.all.items; sent = sent_of c.in_ok-bank.bank; got = got_of c.in_ok-bank.bank } in
+    let first : Scene g.row.Q.Denot = record { ranks = c.args.all.now.items; sent = sent_of c.args.bank; got = got_of c.args.bank; turns = c.args.steps.now } in
+    let before : Scene g.row.Q.Denot = record { ranks = c.loop-bank.all.items; sent = sent_of c.loop-bank.bank; got = got_of c.loop-bank.bank; turns = c.loop-bank.steps } in
+    let after : Scene g.row.Q.Denot = record { ranks = c.sweep.new.all.items; sent = sent_of c.in_ok-bank.bank; got = got_of c.in_ok-bank.bank; turns = c.sweep.new.steps } in
     let v = c.loop-bank.invariant.driving in
     let one = subst (λ d. TurnsOf R d g.row.CAP c.args.bank.slots c.args.order.now before after) v.same_dims
     (subst (λ k. TurnsOf R c.loop-bank.bank.dims g.row.CAP k c.args.order.now before after) v.same_slots c.in_ok-bank.ensures.order) in

@@ -12,7 +12,7 @@ invariant-loop-bank g l = record {
   completed : all_progress l.fn.bank.dims l.all.items + l.fn.steps ≤ all_progress l.fn.bank.dims l.fn.all.items + l.steps;
   posted : (r : ℕ) → r < links l.fn.bank.dims → length (sent_of l.bank r) + l.fn.steps ≤ length (sent_of l.fn.bank r) + l.steps;
   swept : (k : ℕ) × SweepsOf g.Q.Program.rules l.fn.bank.dims g.row.CAP l.fn.bank.slots l.order k
-      (record { ranks = l.fn.all.items; sent = sent_of l.fn.bank; got = got_of l.fn.bank }) (record { ranks = l.all.items; sent = sent_of l.bank; got = got_of l.bank });
+      (record { ranks = l.fn.all.items; sent = sent_of l.fn.bank; got = got_of l.fn.bank; turns = l.fn.steps }) (record { ranks = l.all.items; sent = sent_of l.bank; got = got_of l.bank; turns = l.steps });
 }
 
 abbrev pub decreases-loop-bank : goal.decreases-loop-bank

@@ -1,4 +1,4 @@
-use Rattle.std.proofs.Common.{rules, ◌≡◌, ◌⊎◌, ◌<◌, take, length, get_or, arith, ap, subst, sym, refl, inr}
+use Rattle.std.proofs.Common.{rules, ◌≡◌, ◌⊎◌, ◌<◌, ◌+◌, ◌∙◌, cond, take, length, get_or, arith, ap, subst, sym, refl, inr}
 use Rattle.std.proofs.lemmas.List.{take_more}
 use Rattle.std.proofs.Math.Seq.{take-length}
 use Rattle.list_laws.proofs.Lists.{all_get, get_once}
@@ -60,13 +60,13 @@ loop-i-preserved g c =
     let w = (world_at g.Q.Program.rules g.row.CAP c.args.order.now c.args.all.now.items c.args.bank c.args.steps.now c.loop-i.i c.loop-i.all.items c.loop-i.bank c.loop-i.steps v c.requires.world.0 c.requires.world.1 c.requires.world.2 c.requires.world.3 c.requires.world.4 c.requires.world.5).5 in
     let sweeping = sweeping_more g.Q.Program.rules g.met.Q.Program.laws c.requires.law g.row.CAP c.args.order.now c.args.all.now.items c.args.bank c.args.steps.now c.loop-i.i (get_or c.args.order.now c.loop-i.i 0) c.loop-i.all.items c.turn_one.new.all.items c.loop-i.bank c.in_ok-bank.bank c.loop-i.steps c.turn_one.new.steps
     v at (subst (λ d. get_or c.args.order.now c.loop-i.i 0 < ranks d) (sym v.same_dims) number) c.in_ok-bank.ensures.bank.lawful c.in_ok-bank.ensures.bank.same_dims c.in_ok-bank.ensures.bank.same_slots c.turn_one.ensures.most_steps
-    c.turn_one.ensures.fewest_steps c.in_ok-bank.ensures.steps w.ranked.all c.turn_one.ensures.size c.turn_one.ensures.others c.in_ok-bank.ensures.turned in
+    c.turn_one.ensures.fewest_steps (λ n was on. c.in_ok-bank.ensures.steps n was ∙ ap (λ b. c.loop-i.steps + cond b 0 1) on) w.ranked.all c.turn_one.ensures.size c.turn_one.ensures.others c.in_ok-bank.ensures.turned in
     let R = g.Q.Program.rules in
-    let first : Scene g.row.Q.Denot = record { ranks = c.args.all.now.items; sent = sent_of c.args.bank; got = got_of c.args.bank } in
-    let before : Scene g.row.Q.Denot = record { ranks = c.loop-i.all.items; sent = sent_of c.loop-i.bank; got = got_of c.loop-i.bank } in
-    let after : Scene g.row.Q.Denot = record { ranks = c.turn_one.new.all.items; sent = sent_of c.in_ok-bank.bank; got = got_of c.in_ok-bank.bank } in
+    let first : Scene g.row.Q.Denot = record { ranks = c.args.all.now.items; sent = sent_of c.args.bank; got = got_of c.args.bank; turns = c.args.steps.now } in
+    let before : Scene g.row.Q.Denot = record { ranks = c.loop-i.all.items; sent = sent_of c.loop-i.bank; got = got_of c.loop-i.bank; turns = c.loop-i.steps } in
+    let after : Scene g.row.Q.Denot = record { ranks = c.turn_one.new.all.items; sent = sent_of c.in_ok-bank.bank; got = got_of c.in_ok-bank.bank; turns = c.turn_one.new.steps } in
     let r = get_or c.args.order.now c.loop-i.i 0 in
-    let one : IsTurnOf R c.loop-i.bank.dims g.row.CAP c.loop-i.bank.slots r before after = record { all = c.turn_one.ensures.size; others = c.turn_one.ensures.others; turned = c.in_ok-bank.ensures.turned } in
+    let one : IsTurnOf R c.loop-i.bank.dims g.row.CAP c.loop-i.bank.slots r before after = record { all = c.turn_one.ensures.size; others = c.turn_one.ensures.others; turned = c.in_ok-bank.ensures.turned; counted = c.in_ok-bank.ensures.steps } in
     let here : IsTurnOf R c.args.bank.dims g.row.CAP c.args.bank.slots r before after =
     subst (λ d. IsTurnOf R d g.row.CAP c.args.bank.slots r before after) v.same_dims (subst (λ k. IsTurnOf R c.loop-i.bank.dims g.row.CAP k r before after) v.same_slots one) in
     record {
@@ -91,7 +91,7 @@ returns-clause-some_step g c = λ r x at on.
 pub returns-clause-order : goal.returns-clause-order
 returns-clause-order g c =
     let end : c.loop-i.i ≡ length c.args.order.now = omega (arith, c.loop-i-test.false, c.loop-i.auto.i-end) in
-    let first : Scene g.row.Q.Denot = record { ranks = c.args.all.now.items; sent = sent_of c.args.bank; got = got_of c.args.bank } in
-    let last : Scene g.row.Q.Denot = record { ranks = c.loop-i.all.items; sent = sent_of c.loop-i.bank; got = got_of c.loop-i.bank } in
+    let first : Scene g.row.Q.Denot = record { ranks = c.args.all.now.items; sent = sent_of c.args.bank; got = got_of c.args.bank; turns = c.args.steps.now } in
+    let last : Scene g.row.Q.Denot = record { ranks = c.loop-i.all.items; sent = sent_of c.loop-i.bank; got = got_of c.loop-i.bank; turns = c.loop-i.steps } in
     subst (λ rs. TurnsOf g.Q.Program.rules c.args.bank.dims g.row.CAP c.args.bank.slots rs first last) (take-length c.args.order.now)
     (subst (λ i. TurnsOf g.Q.Program.rules c.args.bank.dims g.row.CAP c.args.bank.slots (take i c.args.order.now) first last) end c.loop-i.invariant.turns)

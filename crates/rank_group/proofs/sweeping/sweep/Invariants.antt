@@ -8,5 +8,5 @@ abbrev pub invariant-loop-i : goal.invariant-loop-i
 invariant-loop-i g l = record {
   sweeping : Sweeping g.Q.Program.rules g.row.CAP l.order l.fn.all.items l.fn.bank l.fn.steps l.i l.all.items l.bank l.steps;
   turns : TurnsOf g.Q.Program.rules l.fn.bank.dims g.row.CAP l.fn.bank.slots (take l.i l.order)
-      (record { ranks = l.fn.all.items; sent = sent_of l.fn.bank; got = got_of l.fn.bank }) (record { ranks = l.all.items; sent = sent_of l.bank; got = got_of l.bank });
+      (record { ranks = l.fn.all.items; sent = sent_of l.fn.bank; got = got_of l.fn.bank; turns = l.fn.steps }) (record { ranks = l.all.items; sent = sent_of l.bank; got = got_of l.bank; turns = l.steps });
 }

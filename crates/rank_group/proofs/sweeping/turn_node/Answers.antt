@@ -1,4 +1,4 @@
-use Rattle.std.proofs.Common.{rules, ◌≡◌, Ok, refl, ap, ◌∙◌, sym, subst}
+use Rattle.std.proofs.Common.{rules, ◌≡◌, Ok, ap, ◌∙◌, sym, subst}
 use Rattle.port_bank.specs.Plain.{Bank, sent_of, got_of}
 use Rattle.port_bank.specs.Logs.{starting_at, ending_at}
 use Rattle.rank_node.specs.Movers.{dims_of}

@@ -1,9 +1,10 @@
-use Rattle.std.proofs.Common.{rules, ◌≡◌, ◌<◌, length, slice_get, slice_set, Some, refl, ap, ◌∙◌, subst, arith, IfOk}
+use Rattle.std.proofs.Common.{rules, ◌≡◌, ◌<◌, ◌+◌, length, slice_get, slice_set, Some, refl, ap, ◌∙◌, subst, arith, IfOk}
 use Rattle.std.proofs.lemmas.Result.{IfOk-weaker}
 use Rattle.std.proofs.lemmas.Option.{slice_get_read}
 use Rattle.list_laws.proofs.Lists.{get_once, get_here, get_other}
 use Rattle.port_bank.specs.Plain.{sent_of, got_of}
 use Rattle.rank_group.specs.Ranks.{RankState, AfterRank}
+use Rattle.rank_group.specs.Turns.{turn_count}
 use Rattle.rank_group.proofs.Resting.{epoch_few}
 use Rattle.rank_group.proofs.sweeping.turn_one.Goals as goal
 
@@ -24,14 +25,14 @@ pub returns-clause-others : goal.returns-clause-others
 returns-clause-others g c = λ k apart. get_other c.args.all.now.items c.args.number k c.turn_rank.new.rank apart
 
 pub returns-clause-steps : goal.returns-clause-steps
-returns-clause-steps g c = λ n was on.
+returns-clause-steps g c = λ n was.
     let rs = c.args.all.now.items in
     let r = c.args.number in
     let w = c.requires.world.5 in
     let low : r < length rs = omega (arith, c.requires.number, w.ranked.all) in
     let at : slice_get rs r ≡ Some c.index_mut.result.now = slice_get_read rs (length rs) r c.index_mut.result.now refl low c.index_mut.ensures.value in
     let same : c.index_mut.result.now ≡ n = get_once rs r c.index_mut.result.now n at was in
-    IfOk-weaker c.turn_rank.result _ _ (λ b told. told (ap (λ (m : RankState g.row.Q.Denot). m.over) same ∙ on)) c.turn_rank.ensures.steps
+    IfOk-weaker c.turn_rank.result _ _ (λ b told. told ∙ ap (λ (m : RankState g.row.Q.Denot). c.args.steps.now + turn_count m) same) c.turn_rank.ensures.steps
 
 pub returns-clause-turned : goal.returns-clause-turned
 returns-clause-turned g c = λ n n' was now.

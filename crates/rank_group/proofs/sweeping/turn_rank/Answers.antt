@@ -1,4 +1,4 @@
-use Rattle.std.proofs.Common.{rules, ◌<◌, ◌^◌, not, ap, Ok, ◌∙◌, sym, subst}
+use Rattle.std.proofs.Common.{rules, ◌≡◌, ◌+◌, ◌<◌, ◌^◌, ℕ, Bool, true, false, not, cond, ap, Ok, ◌∙◌, sym, subst, arith}
 use Rattle.port_bank.specs.Plain.{sent_of, got_of}
 use Rattle.port_bank.specs.Logs.{starting_at, ending_at}
 use Rattle.rank_node.specs.declared.turn.Turn.{Turn}
@@ -8,6 +8,22 @@ use Rattle.rank_group.proofs.OneTurn.{NextTold}
 use Rattle.rank_group.proofs.Ranked.{rank_over, rank_going, rank_ended}
 use Rattle.rank_node.proofs.Halted.{ok_once}
 use Rattle.rank_group.proofs.sweeping.turn_rank.Goals as goal
+
+-- a rank whose run is over makes no turn, and another makes one
+counted : (over : Bool) (steps : ℕ) → over ≡ true → steps ≡ steps + cond over 0 1
+counted over steps e = let none : cond over 0 1 ≡ 0 = ap {B = ℕ} (λ b. cond b 0 1) e in omega (arith, none)
+
+counts : (over : Bool) (steps after : ℕ) → over ≡ false → after ≡ steps + 1 → after ≡ steps + cond over 0 1
+counts over steps after e one = let some : cond over 0 1 ≡ 1 = ap {B = ℕ} (λ b. cond b 0 1) e in omega (arith, one, some)
+
+pub returns-then-rank-clause-steps : goal.returns-then-rank-clause-steps
+returns-then-rank-clause-steps g c = counted _ c.args.steps.now (sym (ap (λ (m : RankState g.row.Q.Denot). m.over) c.rank.view_is) ∙ c.if-rank.true)
+
+pub returns-in-Going-clause-steps : goal.returns-in-Going-clause-steps
+returns-in-Going-clause-steps g c = counts _ c.args.steps.now c.turn_node.new.steps (sym (ap (λ (m : RankState g.row.Q.Denot). m.over) c.rank.view_is) ∙ c.if-rank.false) c.turn_node.ensures.steps
+
+pub returns-in_ok-rank-inside-in-Ended-clause-steps : goal.returns-in_ok-rank-inside-in-Ended-clause-steps
+returns-in_ok-rank-inside-in-Ended-clause-steps g c = counts _ c.args.steps.now c.turn_node.new.steps (sym (ap (λ (m : RankState g.row.Q.Denot). m.over) c.rank.view_is) ∙ c.if-rank.false) c.turn_node.ensures.steps
 
 pub returns-then-rank-clause-turned : goal.returns-then-rank-clause-turned
 returns-then-rank-clause-turned g c =

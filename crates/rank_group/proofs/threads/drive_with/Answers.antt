@@ -1,4 +1,9 @@
 use Rattle.std.proofs.Common.{rules, ◌≡◌, ◌<◌, true, None, Some, ◌++◌, ◌∷◌, [], map, slice_index_or, refl, sym, ap, subst, ◌∙◌}
+use denote.Signature.{named_lft}
+use denote.Param.{param, number}
+use denote.Param.Send.{param_send}
+use Rattle.rank_group.specs.contracts.at_port.AtPort as AtPort
+use Rattle.rank_group.proofs.Crosses.{at_port_send}
 use Rattle.route_tensor.specs.Grid.{ranks}
 use Rattle.port_bank.specs.Logs.{starting_at, ending_at}
 use Rattle.port_bank.specs.Round.{Round, IsRound, logs_of}
@@ -101,3 +106,10 @@ returns-clause-told g c = λ n r m rounds low below.
     let got = subst (λ (z : Round). (s : Manning) → slice_index_or lists s.rank None ≡ Some s.lists → ending_at b.shape.dims s.rank (logs_of z.got) ≡ collected_from s) c.close.ensures.round c.close.ensures.got in
     all_told R g.row.CAP c.in_ok-bank.bank (manner_of c.args.via c.args.steady) c.args.progs c.requires.run.begins.0 c.requires.run.begins.1 start c.in_ok-all.all.items fresh c.in_ok-seated.seated.items c.in_ok-ended.ended.items c.in_ok-seated.ensures.ranks seated (g.G.Gate.told c.args.gate.now) c.in_ok-ended.ensures.ran c.in_ok-ended.ensures.over c.in_ok-over.ensures.none_lost c.gather_all.new.gather c.in_ok-over.ensures.there order sent got
     (g.met.Q.Program g.world.𝓛 g.world.𝓜 g.world.𝓡 ((λ s x. x), (λ x. x), (λ x. x), λ x. x)).laws c.closes_laws.ensures n rounds r m (subst (λ (h : Shape). r < ranks h.dims) (sym c.in_ok-bank.ensures.bank) low) below
+
+pub run_together-requires-send-A : goal.run_together-requires-send-A
+run_together-requires-send-A g c κs within =
+    let κ = named_lft 6 5 tt κs in
+    let R = AtPort.the_row κ (param 3 g.row.Q) (param 0 (number g.row.CAP)) (param 1 (number g.row.HOPS)) g.Q.Program in
+    let s = at_port_send κ (param 3 g.row.Q) (param 0 (number g.row.CAP)) (param 1 (number g.row.HOPS)) g.Q.Program c.type_bounds.send-Q in
+    record { owned = s.owned; leaving = (param_send 1 R s).leaving }

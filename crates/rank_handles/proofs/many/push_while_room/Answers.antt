@@ -1,6 +1,6 @@
 use Rattle.std.proofs.Common.{◌≡◌, ◌<◌, ◌++◌, ◌∷◌, [], ℕ, List, length, get_or, arith, sym, ap, ◌∙◌, subst, true}
 use Rattle.std.proofs.lemmas.Bool.{ltb-true}
-use Rattle.bale_types.specs.declared.item.Item.{Item}
+use Rattle.bale_items.specs.declared.item.Item.{Item}
 use Rattle.route_tensor.specs.Grid.{ranks}
 use Rattle.port_bank.specs.Machine.{Step}
 use Rattle.port_bank.specs.Machine.Step.{Push}

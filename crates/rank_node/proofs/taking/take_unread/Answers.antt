@@ -1,6 +1,6 @@
 use Rattle.std.proofs.Common.{◌≡◌, ℕ, length, slice_get, Some, subst, sym, ap, arith, ◌∙◌}
-use Rattle.bale_types.specs.declared.item.Entry.{Entry}
-use Rattle.bale_types.specs.declared.item.Item.{Item}
+use Rattle.bale_items.specs.declared.item.Entry.{Entry}
+use Rattle.bale_items.specs.declared.item.Item.{Item}
 use Rattle.route_tensor.specs.Neighbour.{neighbour}
 use Rattle.route_tensor.specs.Routes.{Site}
 use Rattle.route_tensor.specs.Tag.{sender_of}

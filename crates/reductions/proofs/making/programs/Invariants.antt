@@ -1,6 +1,6 @@
 use Rattle.std.proofs.Common.{ℕ, ◌≡◌, ◌<◌, map, Result, IfOk}
 use Rattle.std.specs.List.{range_with_len}
-use Rattle.bale_types.specs.declared.fault.NoMemory.{NoMemory}
+use Rattle.bale_items.specs.declared.fault.NoMemory.{NoMemory}
 use Rattle.reductions.proofs.making.programs.Given as goal
 
 abbrev pub invariant-loop-rank : goal.invariant-loop-rank

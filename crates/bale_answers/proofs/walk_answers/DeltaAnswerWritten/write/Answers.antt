@@ -1,5 +1,5 @@
 use Rattle.std.proofs.Common.{◌-◌, List, ℕ, refl, sym, subst}
-use Rattle.bale_streams.specs.Out.{Writes}
+use Rattle.bale_types.specs.Out.{Writes}
 use Rattle.least_walks.specs.Lines.{sssp_lines}
 use Rattle.bale_answers.proofs.walk_answers.DeltaAnswerWritten.write.Goals as goal
 

@@ -10,14 +10,14 @@ invariant_of-self g c =
     let i = c.self.inside in
     let q = c.watch.new.self.port.seat in
     let p = c.watch-2.new.self.port.seat in
-    let n = c.turn-2.new in
-    let t = c.turn-2.ensures in
+    let n = c.turn.new in
+    let t = c.turn.ensures in
     let x : SeatedState g.row.A.Denot = record { node = i.node; queries = q; replies = p; turns = i.turns } in
     let was : SeatedState g.row.A.Denot = record { node = i.node; queries = i.queries.port.seat; replies = i.replies.port.seat; turns = i.turns } in
     let at : x ≡ was = ap (λ k. record { node = i.node; queries = k.seat; replies = p; turns = i.turns }) c.watch.ensures.port ∙ ap (λ k. record { node = i.node; queries = i.queries.port.seat; replies = k.seat; turns = i.turns }) c.watch-2.ensures.port in
-    let heard = subst (λ k. g.G.Gate.told c.args.gate.now k i.turns ≡ true) (sym (ap (λ k. k.seat.rank) c.watch.ensures.port)) (subst (λ k. g.G.Gate.told c.args.gate.now k i.turns ≡ true) c.rank.ensures.value c.turn.ensures.told) in
-    has_way g.A.Asker.talk g.row.CAP (g.G.Gate.told c.args.gate.now) x _ (subst (HasWay g.A.Asker.talk g.row.CAP) (sym at) c.self.invariant)
-    (turned g.A.Asker.talk g.row.CAP (g.G.Gate.told c.args.gate.now) i.node n.self q n.queries.port.seat p n.replies.port.seat i.turns heard
+    let heard = subst (λ (z : SeatedState g.row.A.Denot). g.J.GateLog.told z.queries.rank z.turns ≡ true) (sym (at ∙ c.self.view_is)) c.requires.notified in
+    has_way g.A.Asker.talk g.row.CAP g.J.GateLog.told x _ (subst (HasWay g.A.Asker.talk g.row.CAP) (sym at) c.self.invariant)
+    (turned g.A.Asker.talk g.row.CAP g.J.GateLog.told i.node n.self q n.queries.port.seat p n.replies.port.seat i.turns heard
     (one_seat q n.queries.port.seat (ap (λ (r : Others). r.bank) t.queries.same_port.others) t.queries.same_port.dims t.queries.same_port.slots t.queries.same_port.rank)
     (one_seat p n.replies.port.seat (ap (λ (r : Others). r.bank) t.replies.same_port.others) t.replies.same_port.dims t.replies.same_port.slots t.replies.same_port.rank)
     t.dims t.rank t.queries.steady t.replies.steady t.kept t.queries.grows.shape t.replies.grows.shape)
@@ -27,20 +27,21 @@ returns g c =
     let i = c.self.inside in
     let q = c.watch.new.self.port.seat in
     let p = c.watch-2.new.self.port.seat in
-    let n = c.turn-2.new in
-    let t = c.turn-2.ensures in
+    let n = c.turn.new in
+    let t = c.turn.ensures in
     let x : SeatedState g.row.A.Denot = record { node = i.node; queries = q; replies = p; turns = i.turns } in
     let was : SeatedState g.row.A.Denot = record { node = i.node; queries = i.queries.port.seat; replies = i.replies.port.seat; turns = i.turns } in
     let at : x ≡ was = ap (λ k. record { node = i.node; queries = k.seat; replies = p; turns = i.turns }) c.watch.ensures.port ∙ ap (λ k. record { node = i.node; queries = i.queries.port.seat; replies = k.seat; turns = i.turns }) c.watch-2.ensures.port in
     let y : SeatedState g.row.A.Denot = record { node = n.self; queries = n.queries.port.seat; replies = n.replies.port.seat; turns = i.turns + 1 } in
-    let heard = subst (λ k. g.G.Gate.told c.args.gate.now k i.turns ≡ true) (sym (ap (λ k. k.seat.rank) c.watch.ensures.port)) (subst (λ k. g.G.Gate.told c.args.gate.now k i.turns ≡ true) c.rank.ensures.value c.turn.ensures.told) in
+    let heard = subst (λ (z : SeatedState g.row.A.Denot). g.J.GateLog.told z.queries.rank z.turns ≡ true) (sym (at ∙ c.self.view_is)) c.requires.notified in
     record {
-      ran = subst (λ (z : SeatedState g.row.A.Denot). Ran g.A.Asker.talk g.row.CAP (g.G.Gate.told c.args.gate.now) z y) (at ∙ c.self.view_is)
-          (turned g.A.Asker.talk g.row.CAP (g.G.Gate.told c.args.gate.now) i.node n.self q n.queries.port.seat p n.replies.port.seat i.turns heard
+      ran = subst (λ (z : SeatedState g.row.A.Denot). Ran g.A.Asker.talk g.row.CAP g.J.GateLog.told z y) (at ∙ c.self.view_is)
+          (turned g.A.Asker.talk g.row.CAP g.J.GateLog.told i.node n.self q n.queries.port.seat p n.replies.port.seat i.turns heard
           (one_seat q n.queries.port.seat (ap (λ (r : Others). r.bank) t.queries.same_port.others) t.queries.same_port.dims t.queries.same_port.slots t.queries.same_port.rank)
           (one_seat p n.replies.port.seat (ap (λ (r : Others). r.bank) t.replies.same_port.others) t.replies.same_port.dims t.replies.same_port.slots t.replies.same_port.rank)
           t.dims t.rank t.queries.steady t.replies.steady t.kept t.queries.grows.shape t.replies.grows.shape);
-      counted = omega (arith, ap (λ (x : SeatedState g.row.A.Denot). x.turns) c.self.view_is, t.steps);
+      one = omega (arith, ap (λ (x : SeatedState g.row.A.Denot). x.turns) c.self.view_is);
+      counted = t.steps;
       still = λ none.
           let asked = not (c.asked.result == c.asked-asked.result) in
           let last = neither (asked || c.moved.result) c.moved-2.result none in

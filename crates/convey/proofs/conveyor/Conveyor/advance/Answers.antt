@@ -1,15 +1,14 @@
-use Rattle.std.proofs.Common.{◌≡◌, ℕ, ◌<◌, true, false, length, slice_get, Some, None, sym, ap, subst, ◌∙◌, rules}
+use Rattle.std.proofs.Common.{◌≡◌, ℕ, ◌<◌, ◌++◌, List, true, false, length, slice_get, Some, None, sym, ap, subst, ◌∙◌, rules}
 use Rattle.std.proofs.lemmas.Bool.{false≢true}
 use Rattle.route_tensor.specs.Link.{links}
 use Rattle.route_tensor.specs.Ends.{hop_at, sender_at, reader_at}
 use Rattle.hop_core.specs.declared.phase.Phase.TheVariants.{Complete}
-use Rattle.port_bank.specs.Calls.{once_more_if}
-use Rattle.hop_core.specs.Link.{is_wanted}
+use Rattle.port_bank.specs.Calls.{Call}
 use Rattle.hop_core.specs.State.{State, all_closed, phase_of, at_end}
 use Rattle.hop_core.specs.Standing.{IsState}
 use Rattle.convey.specs.Buffers.{out_of, in_of, is_complete, buffers_of}
 use Rattle.convey.specs.Agreement.{Agrees}
-use Rattle.convey.specs.Due.{IsDue, WasServed, NextIs, WasFull, HeldUp, was_served}
+use Rattle.convey.specs.Due.{IsDue, WasServed, StopsAt, NextIs, WasFull, HeldUp, collects_of, posts_below}
 use Rattle.convey.specs.Progress.{progress_of}
 use Rattle.convey.specs.Way.{MovesOn, HasServed}
 use Rattle.convey.specs.Advance.{WereAsked}
@@ -62,7 +61,6 @@ returns-in_err-move_on-clause-asked g c =
     let k = subst (λ (t : State). MovesOn t mid c.args.done (g.P.Port.sent c.args.port.now) (g.P.Port.sent c.move_on.new.port) (g.P.Port.got c.args.port.now) (g.P.Port.got c.move_on.new.port)
     (g.P.Port.noted c.args.port.now) (g.P.Port.noted c.move_on.new.port) (g.P.Port.idle c.move_on.new.port)) c.self.view_is c.move_on.ensures.moves_on in
     were_asked g.P.Port now mid c.args.done c.args.port.now c.move_on.new.port k mid.phase mid.pulled
-    (subst (λ (t : State). (l : ℕ) → l < links t.dims → reader_at t.dims l ≡ t.rank → g.P.Port.collects c.move_on.new.port l ≡ once_more_if (is_wanted (in_of t l)) (g.P.Port.collects c.args.port.now l)) c.self.view_is c.move_on.ensures.collects)
 
 pub returns-clause-stays : goal.returns-clause-stays
 returns-clause-stays g c =
@@ -123,8 +121,7 @@ returns-clause-asked g c =
     let k = subst (λ (t : State). MovesOn t mid c.args.done (g.P.Port.sent c.args.port.now) (g.P.Port.sent c.move_on.new.port) (g.P.Port.got c.args.port.now) (g.P.Port.got c.move_on.new.port)
     (g.P.Port.noted c.args.port.now) (g.P.Port.noted c.move_on.new.port) (g.P.Port.idle c.move_on.new.port)) c.self.view_is c.move_on.ensures.moves_on in
     subst (λ s. WereAsked g.P.Port now s c.args.port.now c.move_on.new.port) (sym c.settle.ensures.state)
-    (were_asked g.P.Port now mid c.args.done c.args.port.now c.move_on.new.port k (phase_of mid) None
-    (subst (λ (t : State). (l : ℕ) → l < links t.dims → reader_at t.dims l ≡ t.rank → g.P.Port.collects c.move_on.new.port l ≡ once_more_if (is_wanted (in_of t l)) (g.P.Port.collects c.args.port.now l)) c.self.view_is c.move_on.ensures.collects))
+    (were_asked g.P.Port now mid c.args.done c.args.port.now c.move_on.new.port k (phase_of mid) None)
 
 pub returns-clause-served : goal.returns-clause-served
 returns-clause-served g c =
@@ -138,7 +135,6 @@ returns-clause-served g c =
     let sent' = g.P.Port.sent q in
     let is_crowded = g.P.Port.crowded q in
     let k = subst (λ (t : State). HasServed t mid sent sent' (g.P.Port.looks_out p) (g.P.Port.looks_out q) is_crowded) c.self.view_is c.in_ok-move_on.ensures.served in
-    let calls = subst (λ (t : State). (l : ℕ) → l < links t.dims → sender_at t.dims l ≡ t.rank → g.P.Port.posts q l ≡ once_more_if (was_served mid l (sent l) (sent' l)) (g.P.Port.posts p l)) c.self.view_is c.in_ok-move_on.ensures.posts in
     let cap : now.cap ≡ g.row.CAP = subst (λ (t : State). t.cap ≡ g.row.CAP) c.self.view_is c.move_on.ensures.cap in
     let same : new.dims ≡ now.dims = ap (λ s. s.dims) e ∙ (c.move_on.ensures.ready.same_dims ∙ c.requires.at_port.same_dims) in
     let ending : (l : ℕ) → l < links now.dims → sender_at now.dims l ≡ now.rank → at_end new.dims new.ins new.done (hop_at new.dims l) ≡ true → (out_of new l).closed ≡ false → is_crowded l ≡ true = λ l below from ends open'.
@@ -147,7 +143,6 @@ returns-clause-served g c =
       each = λ l below from.
           let w = k.served l below from in
           subst (λ s. WasServed s l (g.P.Port.looks_out p l) (g.P.Port.looks_out q l) (is_crowded l)) (sym e) (record { looked = w.looked; crowded = w.crowded });
-      posts = λ l below from. subst (λ s. g.P.Port.posts q l ≡ once_more_if (was_served s l (sent l) (sent' l)) (g.P.Port.posts p l)) (sym e) (calls l below from);
       full = λ l below from stays full. k.full l below from stays (full ∙ sym cap);
       ending = ending;
       closing = λ l below from says arrived open'.
@@ -157,6 +152,22 @@ returns-clause-served g c =
           (λ at. next_map now.dims now.rank l x.tag (HeldUp now.cap mid sent sent' is_crowded) (HeldUp g.row.CAP (record mid { phase = phase_of mid; pulled = None }) sent sent' is_crowded)
           (λ m b from hop held. same_held now.cap g.row.CAP mid (phase_of mid) sent sent' is_crowded m cap held) (k.stopped l x below to less at));
     }
+
+pub returns-clause-calls : goal.returns-clause-calls
+returns-clause-calls g c =
+    let mid : State = c.move_on.new.state in
+    let p = c.args.port.now in
+    let q = c.move_on.new.port in
+    let posts : State → List Call = λ s. posts_below s (g.P.Port.sent p) (g.P.Port.sent q) (links s.dims) in
+    c.in_ok-move_on.ensures.calls ∙ ap (λ (t : State). (g.P.Port.calls p ++ collects_of t) ++ posts mid) c.self.view_is
+    ∙ ap (λ s. (g.P.Port.calls p ++ collects_of c.args.self.now) ++ posts s) (sym c.settle.ensures.state)
+
+pub returns-in_err-move_on-clause-stops : goal.returns-in_err-move_on-clause-stops
+returns-in_err-move_on-clause-stops g c =
+    let mid : State = c.move_on.new.state in
+    let p = c.args.port.now in
+    let q = c.move_on.new.port in
+    λ err. subst (λ (t : State). StopsAt mid (g.P.Port.sent p) (g.P.Port.sent q) (g.P.Port.calls p ++ collects_of t) (g.P.Port.calls q)) c.self.view_is (c.in_err-move_on.ensures.stops (search rules))
 
 pub invariant_of-self-2 : goal.invariant_of-self-2
 invariant_of-self-2 g c =

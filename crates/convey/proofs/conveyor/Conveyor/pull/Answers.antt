@@ -1,5 +1,5 @@
 use Rattle.std.proofs.Common.{◌≡◌, ◌<◌, ℕ, Option, Some, None, IfSome, refl, sym, ap, subst, ◌∙◌}
-use Rattle.bale_types.specs.declared.item.Item.{Item}
+use Rattle.bale_items.specs.declared.item.Item.{Item}
 use Rattle.route_tensor.specs.Grid.{ranks}
 use Rattle.hop_core.specs.State.{State, lowest_unread, pull_from, pulled_from}
 use Rattle.hop_core.specs.Standing.{IsState}

@@ -1,7 +1,7 @@
 -- What comes in the first round is an edge inside.
 use Rattle.std.proofs.Common.{ℕ, ◌<◌, ◌≡◌, true, [], ◌∷◌, arith, sym, ◌∙◌}
 use Rattle.std.proofs.lemmas.Bool.Decides.{nat_tests}
-use Rattle.bale_types.specs.declared.Item.{Item}
+use Rattle.bale_items.specs.declared.Item.{Item}
 use Rattle.delta_step.specs.Deltas.{may_delta}
 use Rattle.delta_step.proofs.delta.Delta.absorb_on.Goals as goal
 

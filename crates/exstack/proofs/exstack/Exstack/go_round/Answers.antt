@@ -1,12 +1,12 @@
-use Rattle.std.proofs.Common.{◌≡◌, ℕ, ◌<◌, Bool, length, get_or, refl, sym, ap, subst, ◌∙◌, arith, rules}
+use Rattle.std.proofs.Common.{◌≡◌, ℕ, ◌<◌, ◌++◌, Bool, List, length, get_or, refl, sym, ap, subst, ◌∙◌, arith, rules}
 use Rattle.list_laws.specs.Lists.{Begins}
 use Rattle.port_bank.specs.Logs.{Logs}
-use Rattle.port_bank.specs.Calls.{once_more_if}
+use Rattle.port_bank.specs.Calls.{Call}
 use Rattle.port_bank.proofs.Kept.{law_same}
 use Rattle.exstack.specs.Links.{no_in}
-use Rattle.exstack.specs.State.{Stack, dims_of, in_at, number, link_from}
+use Rattle.exstack.specs.State.{Stack, dims_of, number, link_from}
 use Rattle.exstack.specs.Agreement.{AgreesIn}
-use Rattle.exstack.specs.Steps.{WasCollected, MadeRound, InVain}
+use Rattle.exstack.specs.Steps.{WasCollected, MadeRound, InVain, StopsAt, posts_to, collects_from}
 use Rattle.exstack.specs.Standing.{IsStack}
 use Rattle.exstack.proofs.Making.{after_round, PostsDone, CollectsDone, Before, before, none_done, round_done, stack_done, agrees_done}
 use Rattle.exstack.proofs.exstack.Exstack.go_round.Goals as goal
@@ -210,7 +210,6 @@ returns-clause-asks g c =
     let n : ℕ = length st.ins in
     let noted' : ℕ → ℕ = g.P.Port.noted c.collect_all.new.port in
     let idle' : ℕ → Bool = g.P.Port.idle c.collect_all.new.port in
-    let collects' : ℕ → ℕ = g.P.Port.collects c.collect_all.new.port in
     record {
       looked = search rules;
       crowded = search rules;
@@ -219,15 +218,32 @@ returns-clause-asks g c =
           let number_is : number n a st.rank ≡ link_from now a = ap (λ m. number m a st.rank) s.all_ins ∙ ap (λ (t : Stack). link_from t a) view in
           subst (λ l. InVain (g.P.Port.noted c.args.port.now l) (noted' l) (idle' l)) number_is
           (subst (λ (counts : ℕ → ℕ). InVain (counts (number n a st.rank)) (noted' (number n a st.rank)) (idle' (number n a st.rank))) c.post_all.ensures.left.same_ins.noted (c.collect_all.ensures.in_vain a u due));
-      posts = search rules;
-      collects = λ a w.
-          let u : a < n = omega (arith, w, s.all_ins, ap (λ (t : Stack). t.ranks) view) in
-          let l : ℕ = number n a st.rank in
-          let number_is : l ≡ link_from now a = ap (λ m. number m a st.rank) s.all_ins ∙ ap (λ (t : Stack). link_from t a) view in
-          subst (λ m. collects' m ≡ once_more_if (in_at now a).due (g.P.Port.collects c.args.port.now m)) number_is
-          (subst (λ (counts : ℕ → ℕ). collects' l ≡ once_more_if (in_at now a).due (counts l)) c.post_all.ensures.left.same_ins.collects
-          (subst (λ (t : Stack). collects' l ≡ once_more_if (in_at t a).due (g.P.Port.collects c.post_all.new.port l)) view (c.collect_all.ensures.collects a u)));
+      calls =
+          let before : List Call = g.P.Port.calls c.args.port.now in
+          let posted = c.in_ok-post_all.ensures.calls ∙ ap (λ m. before ++ posts_to m st.rank st.outs m) s.all_outs in
+          let collected = c.collect_all.ensures.calls ∙ ap (λ m. g.P.Port.calls c.post_all.new.port ++ collects_from m st.rank st.ins m) s.all_ins in
+          collected ∙ ap (λ cs. cs ++ collects_from st.ranks st.rank st.ins st.ranks) posted
+          ∙ ap (λ (t : Stack). (before ++ posts_to t.ranks t.rank t.outs t.ranks) ++ collects_from t.ranks t.rank t.ins t.ranks) view;
     }
+
+pub returns-in_err-post_all-clause-stops : goal.returns-in_err-post_all-clause-stops
+returns-in_err-post_all-clause-stops g c =
+    let st : Stack = record {
+      ranks = c.self.inside.ranks;
+      rank = c.self.inside.rank;
+      stage = c.self.inside.stage;
+      done = c.self.inside.done;
+      epoch = c.self.inside.epoch;
+      outs = c.self.inside.outs.items;
+      ins = c.self.inside.ins.items;
+      popped = c.self.inside.popped;
+    } in
+    let view : st ≡ c.args.self.now = c.self.view_is in
+    let all : length st.outs ≡ st.ranks = c.self.invariant.standing.all_outs in
+    let before : List Call = g.P.Port.calls c.args.port.now in
+    let calls : List Call = g.P.Port.calls c.post_all.new.port in
+    λ err. subst (λ (t : Stack). StopsAt st.ranks st.rank t.outs c.post_all.new.outs.items before calls) view
+    (subst (λ m. StopsAt m st.rank st.outs c.post_all.new.outs.items before calls) all (c.in_err-post_all.ensures.stops (search rules)))
 
 pub returns-in_err-post_all-clause-round : goal.returns-in_err-post_all-clause-round
 returns-in_err-post_all-clause-round g c =

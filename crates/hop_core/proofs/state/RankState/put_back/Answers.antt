@@ -1,7 +1,7 @@
 use Rattle.std.proofs.Common.{◌∙◌, ◌<◌, ◌+◌, sym, ap, subst, sum, arith}
 use Rattle.std.specs.Int.{from_bool}
 use Rattle.std.specs.List.{All}
-use Rattle.bale_types.specs.declared.item.Entry.{Entry}
+use Rattle.bale_items.specs.declared.item.Entry.{Entry}
 use Rattle.route_tensor.specs.Neighbour.{hop_to}
 use Rattle.route_tensor.specs.Tag.{IsFair}
 use Rattle.hop_core.specs.Link.{Out}

@@ -1,7 +1,7 @@
 use Rattle.std.proofs.Common.{arith, ◌≡◌, ◌<◌, ℕ, suc, refl, sym, ap, subst, ◌∙◌, length, true, false, eqb, eq-eqb}
 use Rattle.std.specs.Int.{bit_at}
 use Rattle.std.specs.Int.Bits.{bit_or}
-use Rattle.bale_types.specs.Counters.{RoseOrFull}
+use Rattle.bale_items.specs.Counters.{RoseOrFull}
 use Rattle.item_buffer.specs.Contents.{Contents}
 use Rattle.route_tensor.specs.Link.{links}
 use Rattle.route_tensor.specs.Ends.{hop_at, reader_at}

@@ -1,6 +1,6 @@
 use Rattle.std.proofs.Common.{◌≡◌, ◌+◌, length, arith, rules}
 use Rattle.std.proofs.lemmas.Grind.{common_steps}
-use Rattle.bale_streams.proofs.Laid.{laid_to}
+use Rattle.bale_types.proofs.Laid.{laid_to}
 use Rattle.mtx_text.proofs.entry_line.EntryLineLineText.lay.Goals.{After-lay-front}
 use Rattle.mtx_text.proofs.entry_line.EntryLineLineText.lay.Goals as goal
 

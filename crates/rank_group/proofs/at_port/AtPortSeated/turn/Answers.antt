@@ -28,13 +28,13 @@ returns-after-got_on-clause-ran g c =
     let at : x ≡ was = ap (λ p. record { rank = i.rank; seat = p.seat; turns = i.turns; lost = i.lost }) c.watch.ensures.port in
     let t = c.turn_over.ensures in
     let seat = c.turn_over.new.port.port.seat in
-    let heard = subst (λ k. g.G.Gate.told c.args.gate.now k i.turns ≡ true) (sym (ap (λ p. p.seat.rank) c.watch.ensures.port)) (subst (λ k. g.G.Gate.told c.args.gate.now k i.turns ≡ true) c.rank.ensures.value c.turn.ensures.told) in
+    let heard = subst (λ (z : SeatedState g.row.Q.Denot). g.J.GateLog.told z.seat.rank z.turns ≡ true) (sym (at ∙ c.self.view_is)) c.requires.notified in
     let same = one_place x seat (ap (λ (r : Others). r.bank) t.same_port.others) t.same_port.dims t.same_port.slots in
     let y : SeatedState g.row.Q.Denot = record { rank = c.turn_over.new.rank; seat = seat; turns = i.turns + 1; lost = i.lost } in
-    subst (λ (z : SeatedState g.row.Q.Denot). Ran R g.row.CAP (g.G.Gate.told c.args.gate.now) z y) (at ∙ c.self.view_is) (turned R g.row.CAP x c.turn_over.new.rank seat same t.same_port.rank (g.G.Gate.told c.args.gate.now) heard n.1 n.0 c.in-Ok.ensures.epoch c.in-Ok.ensures.kept)
+    subst (λ (z : SeatedState g.row.Q.Denot). Ran R g.row.CAP g.J.GateLog.told z y) (at ∙ c.self.view_is) (turned R g.row.CAP x c.turn_over.new.rank seat same t.same_port.rank g.J.GateLog.told heard n.1 n.0 c.in-Ok.ensures.epoch c.in-Ok.ensures.kept)
 
-pub returns-after-got_on-clause-counted : goal.returns-after-got_on-clause-counted
-returns-after-got_on-clause-counted g c = omega (arith, ap (λ (x : SeatedState g.row.Q.Denot). x.turns) c.self.view_is, c.turn_over.ensures.steps)
+pub returns-after-got_on-clause-one : goal.returns-after-got_on-clause-one
+returns-after-got_on-clause-one g c = omega (arith, ap (λ (x : SeatedState g.row.Q.Denot). x.turns) c.self.view_is)
 
 pub returns-in-Err : goal.returns-in-Err
 returns-in-Err g c =
@@ -45,12 +45,13 @@ returns-in-Err g c =
     let at : x ≡ was = ap (λ p. record { rank = i.rank; seat = p.seat; turns = i.turns; lost = i.lost }) c.watch.ensures.port in
     let t = c.turn_over.ensures in
     let seat = c.turn_over.new.port.port.seat in
-    let heard = subst (λ k. g.G.Gate.told c.args.gate.now k i.turns ≡ true) (sym (ap (λ p. p.seat.rank) c.watch.ensures.port)) (subst (λ k. g.G.Gate.told c.args.gate.now k i.turns ≡ true) c.rank.ensures.value c.turn.ensures.told) in
+    let heard = subst (λ (z : SeatedState g.row.Q.Denot). g.J.GateLog.told z.seat.rank z.turns ≡ true) (sym (at ∙ c.self.view_is)) c.requires.notified in
     let same = one_place x seat (ap (λ (r : Others). r.bank) t.same_port.others) t.same_port.dims t.same_port.slots in
     let y : SeatedState g.row.Q.Denot = record { rank = c.turn_over.new.rank; seat = seat; turns = i.turns + 1; lost = true } in
     record {
-      ran = subst (λ (z : SeatedState g.row.Q.Denot). Ran R g.row.CAP (g.G.Gate.told c.args.gate.now) z y) (at ∙ c.self.view_is) (gave_up R g.row.CAP x c.turn_over.new.rank seat same t.same_port.rank (g.G.Gate.told c.args.gate.now) heard);
-      counted = omega (arith, ap (λ (x : SeatedState g.row.Q.Denot). x.turns) c.self.view_is, c.turn_over.ensures.steps);
+      ran = subst (λ (z : SeatedState g.row.Q.Denot). Ran R g.row.CAP g.J.GateLog.told z y) (at ∙ c.self.view_is) (gave_up R g.row.CAP x c.turn_over.new.rank seat same t.same_port.rank g.J.GateLog.told heard);
+      one = omega (arith, ap (λ (x : SeatedState g.row.Q.Denot). x.turns) c.self.view_is);
+      counted = c.turn_over.ensures.steps;
       still = λ none. absurd (true≢false none);
     }
 
@@ -64,9 +65,9 @@ invariant_of-self g c =
     let at : x ≡ was = ap (λ p. record { rank = i.rank; seat = p.seat; turns = i.turns; lost = i.lost }) c.watch.ensures.port in
     let t = c.turn_over.ensures in
     let seat = c.turn_over.new.port.port.seat in
-    let heard = subst (λ k. g.G.Gate.told c.args.gate.now k i.turns ≡ true) (sym (ap (λ p. p.seat.rank) c.watch.ensures.port)) (subst (λ k. g.G.Gate.told c.args.gate.now k i.turns ≡ true) c.rank.ensures.value c.turn.ensures.told) in
+    let heard = subst (λ (z : SeatedState g.row.Q.Denot). g.J.GateLog.told z.seat.rank z.turns ≡ true) (sym (at ∙ c.self.view_is)) c.requires.notified in
     let same = one_place x seat (ap (λ (r : Others). r.bank) t.same_port.others) t.same_port.dims t.same_port.slots in
-    has_way R g.row.CAP (g.G.Gate.told c.args.gate.now) x _ (subst (HasWay R g.row.CAP) (sym at) c.self.invariant) (turned R g.row.CAP x c.turn_over.new.rank seat same t.same_port.rank (g.G.Gate.told c.args.gate.now) heard n.1 n.0 c.in-Ok.ensures.epoch c.in-Ok.ensures.kept)
+    has_way R g.row.CAP g.J.GateLog.told x _ (subst (HasWay R g.row.CAP) (sym at) c.self.invariant) (turned R g.row.CAP x c.turn_over.new.rank seat same t.same_port.rank g.J.GateLog.told heard n.1 n.0 c.in-Ok.ensures.epoch c.in-Ok.ensures.kept)
 
 pub invariant_of-self-in-Err : goal.invariant_of-self-in-Err
 invariant_of-self-in-Err g c =
@@ -77,6 +78,6 @@ invariant_of-self-in-Err g c =
     let at : x ≡ was = ap (λ p. record { rank = i.rank; seat = p.seat; turns = i.turns; lost = i.lost }) c.watch.ensures.port in
     let t = c.turn_over.ensures in
     let seat = c.turn_over.new.port.port.seat in
-    let heard = subst (λ k. g.G.Gate.told c.args.gate.now k i.turns ≡ true) (sym (ap (λ p. p.seat.rank) c.watch.ensures.port)) (subst (λ k. g.G.Gate.told c.args.gate.now k i.turns ≡ true) c.rank.ensures.value c.turn.ensures.told) in
+    let heard = subst (λ (z : SeatedState g.row.Q.Denot). g.J.GateLog.told z.seat.rank z.turns ≡ true) (sym (at ∙ c.self.view_is)) c.requires.notified in
     let same = one_place x seat (ap (λ (r : Others). r.bank) t.same_port.others) t.same_port.dims t.same_port.slots in
-    has_way R g.row.CAP (g.G.Gate.told c.args.gate.now) x _ (subst (HasWay R g.row.CAP) (sym at) c.self.invariant) (gave_up R g.row.CAP x c.turn_over.new.rank seat same t.same_port.rank (g.G.Gate.told c.args.gate.now) heard)
+    has_way R g.row.CAP g.J.GateLog.told x _ (subst (HasWay R g.row.CAP) (sym at) c.self.invariant) (gave_up R g.row.CAP x c.turn_over.new.rank seat same t.same_port.rank g.J.GateLog.told heard)

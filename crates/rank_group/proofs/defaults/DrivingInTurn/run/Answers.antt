@@ -1,6 +1,6 @@
 use Rattle.std.proofs.Common.{ℕ, ◌≡◌, List, Result, IfOk, false, subst, ap, ◌∙◌}
 use Rattle.std.specs.List.{range_with_len}
-use Rattle.bale_types.specs.declared.fault.NoMemory.{NoMemory}
+use Rattle.bale_items.specs.declared.fault.NoMemory.{NoMemory}
 use Rattle.list_laws.proofs.Results.{if_ok_is, if_ok_from}
 use Rattle.route_tensor.specs.Grid.{ranks}
 use Rattle.round_program.specs.Rules.{Rules}
@@ -26,9 +26,12 @@ module _ {S : Type 0} (R : Rules S) (cap : ℕ) (dims : List ℕ) (settings : Se
   driven slots order before after number numbers finished swept =
       if_ok_from (HasDriven R cap dims settings starts) r (λ f e. record {
         finished = subst (λ n. HasFinished R starts (made n) manner f) number (if_ok_is (HasFinished R starts (made slots) manner) r f e finished);
-        order =
-            subst (λ o. SweptBy R dims cap (count_of settings.slots) manner starts o f.progs) numbers
-            (subst (λ n. SweptBy R dims cap n manner starts order f.progs) number (if_ok_is (HasSwept R starts (made slots) manner order before after) r f e swept).order);
+        order = (
+          before,
+          after,
+          subst (λ o. SweptBy R dims cap (count_of settings.slots) manner starts o before after f.progs) numbers
+              (subst (λ n. SweptBy R dims cap n manner starts order before after f.progs) number (if_ok_is (HasSwept R starts (made slots) manner order before after) r f e swept).order),
+        );
       })
 
 pub returns : goal.returns

@@ -13,7 +13,7 @@ use Rattle.std.proofs.Crossing.{frees}
 use Rattle.rank_handles.specs.declared.part.Part.{Part}
 use Rattle.rank_handles.specs.Holds.{holds, heap}
 use Rattle.rank_handles.specs.contracts.part.Part as part
-use Rattle.rank_handles.proofs.part.Part.TheSendSync.{the_send as part_send}
+use Rattle.rank_handles.proofs.Crosses.{part_send}
 use Rattle.rank_handles.specs.contracts.held.Held.{the_row, the_type}
 
 keyless : (at : Ptr) (x : Option Part) → Keyless (holds at x)

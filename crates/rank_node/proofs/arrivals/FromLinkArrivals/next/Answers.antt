@@ -1,6 +1,6 @@
 use Rattle.std.proofs.Common.{length, subst}
 use Rattle.std.specs.List.{All}
-use Rattle.bale_types.specs.declared.item.Entry.{Entry}
+use Rattle.bale_items.specs.declared.item.Entry.{Entry}
 use Rattle.route_tensor.specs.Tag.{IsFair}
 use Rattle.list_laws.proofs.Lists.{all_tail}
 use Rattle.rank_node.proofs.arrivals.FromLinkArrivals.next.Goals as goal

@@ -1,5 +1,5 @@
 use Rattle.std.proofs.Common.{rules, ◌≡◌, ℕ, ◌+◌, ◌*◌, ◌<◌, List, [], Some, length, get_or, slice_get, subst, arith}
-use Rattle.bale_types.specs.declared.triple.Triple.{Triple}
+use Rattle.bale_items.specs.declared.triple.Triple.{Triple}
 use Rattle.sparse_rows.specs.Parts.{parts_of}
 use Rattle.sparse_rows.proofs.Turns.{parts_count, part_entry}
 use Rattle.sparse_rows.proofs.parts.Parts.entry.Goals as goal

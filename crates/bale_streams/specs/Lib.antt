@@ -1,4 +1,0 @@
-pub mod Digits
-pub mod Memory
-pub mod Out
-pub mod Stream

@@ -1,4 +1,4 @@
--- What a run answers: a status and the bytes for err, and what out got (`Wrote`).
+-- What a run answers: a status, the bytes for err, and what out takes.
 use Rattle.std.specs.Prelude.{◌≡◌, ℕ, Bool, List, [], ◌==◌, ◌&&◌, Option, Some, None, is_some, Result, Ok, Err, OnOk}
 use Rattle.std.specs.Prelude.{if◌then◌else◌}
 use Rattle.std.specs.Prelude.{OnErr}
@@ -79,20 +79,6 @@ pub record IsUnfit (serial : Command → Bool) (job : Option Command) (text : Li
 -- What is written of an answer with this status: its bytes, or, at 0 and where the matrix was generated, their summary.
 abbrev pub shown : Option Generated → ℕ → List ℕ → List ℕ
 shown generated status bytes = if is_some generated && status == 0 then summary_of bytes else bytes
-
--- What a run wrote: the bytes that are the application's answer, for the command of the words and
--- its subject, or their summary; and what those bytes mean.
--- For histo and "%%MatrixMarket matrix coordinate pattern general/2 2 0/" they are "1 0/2 0/".
-pub record Wrote (serial : Command → Bool) (job : Option Command) (text : List ℕ) (P : List ℕ → Type 0) : Type 0 where
-  pub command : Command
-  pub asked : job ≡ Some command
-  pub subject : Subject
-  pub read : subject_asked command text ≡ Ok subject
-  pub fits : unfitness command subject (serial command) ≡ None
-  pub bytes : List ℕ
-  pub answers : IsAnswer command.task subject bytes
-  pub means : Means command.task subject (task_status command.task subject) bytes
-  pub wrote : P (shown command.travel.generated (task_status command.task subject) bytes)
 
 -- What a sink has taken of an answer as it is shown: all of it, or a front where a write failed. `old` is what it held.
 pub record HasWritten {T E : Type 0} (IsAnswer : List ℕ → Type 0) (shows : List ℕ → List ℕ) (old new : Option (List ℕ))

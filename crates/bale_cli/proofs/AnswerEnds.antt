@@ -1,12 +1,15 @@
 -- A refusal is known by its status, and what is said of it is what the serial answer says.
-use Rattle.std.proofs.Common.{◌≡◌, ℕ, Bool, List, Option, None, ◌⊎◌, inl, inr, refl, sym, ap, ◌∙◌, subst, arith}
+use Rattle.std.proofs.Common.{◌≡◌, ◌≤◌, ℕ, Bool, List, Option, None, Some, ◌⊎◌, inl, inr, refl, sym, ap, ◌∙◌, subst, arith}
 use Rattle.bale_words.specs.declared.command.Command.{Command}
 use Rattle.bale_answers.specs.Tasks.{task_status}
 use Rattle.bale_subjects.specs.declared.unfit.Unfit.{Unfit as Unfitness}
 use Rattle.bale_subjects.specs.declared.refusal.BadText.{BadText as Bad}
 use Rattle.bale_subjects.specs.declared.refusal.Refusal.{Refusal}
 use Rattle.bale_subjects.specs.declared.refusal.Refusal.TheVariants.{Usage, ReadFault, BadText, Unfit, WriteFault, NoMemory}
-use Rattle.bale_answers.specs.Answer.{Answer, Wrote, IsBad, IsUnfit, refused, answer_by, answer_for, answer_to, said}
+use Rattle.bale_answers.specs.Answer.{Answer, IsBad, IsUnfit, refused, answer_by, answer_for, answer_to, said}
+use Rattle.bale_subjects.specs.Reading.{TellsText, Told}
+use Rattle.rank_group.specs.declared.closed_round.ClosedRound.{ClosedRound}
+use Rattle.bale_cli.specs.Run.{HasNotFit, HasRun}
 use Rattle.bale_subjects.specs.Refusals.{IsOfText, status_of, refusal_text}
 
 pub not_zero : (r : Refusal) → status_of r ≡ 0 → ⊥
@@ -121,12 +124,52 @@ of_text (Unfit u) two three seven = tt
 of_text WriteFault two three seven = tt
 of_text NoMemory two three seven = seven refl
 
--- what was written is the answer of a command that fits, with its status
-pub wrote_status : {P : List ℕ → Type 0} {serial : Command → Bool} {job : Option Command} {text : List ℕ} (w : Wrote serial job text P)
-    → task_status w.command.task w.subject ≡ (answer_to serial job text).status
-wrote_status {serial = serial} {job = job} {text = text} w =
+-- a refusal's status is below 8
+pub refusal_low : (r : Refusal) → status_of r ≤ 7
+unfolding status_of
+refusal_low Usage = omega arith
+refusal_low ReadFault = omega arith
+refusal_low (BadText b) = omega arith
+refusal_low (Unfit u) = omega arith
+refusal_low WriteFault = omega arith
+refusal_low NoMemory = omega arith
+
+-- of which refusals there is a status 5 or 6
+pub is_bad : (r : Refusal) → status_of r ≡ 5 → (b : Bad) × (r ≡ BadText b)
+unfolding status_of
+is_bad Usage e = absurd (omega (arith, e))
+is_bad ReadFault e = absurd (omega (arith, e))
+is_bad (BadText b) e = (b, refl)
+is_bad (Unfit u) e = absurd (omega (arith, e))
+is_bad WriteFault e = absurd (omega (arith, e))
+is_bad NoMemory e = absurd (omega (arith, e))
+
+pub is_unfit : (r : Refusal) → status_of r ≡ 6 → (u : Unfitness) × (r ≡ Unfit u)
+unfolding status_of
+is_unfit Usage e = absurd (omega (arith, e))
+is_unfit ReadFault e = absurd (omega (arith, e))
+is_unfit (BadText b) e = absurd (omega (arith, e))
+is_unfit (Unfit u) e = (u, refl)
+is_unfit WriteFault e = absurd (omega (arith, e))
+is_unfit NoMemory e = absurd (omega (arith, e))
+
+-- what a source tells of a command's text, by the words
+told_for : (job : Option Command) (c : Command) (left : Option (List ℕ)) (text : List ℕ) → job ≡ Some c → Told job left text → TellsText c.travel.generated left text
+told_for job c left text e t = subst (λ j. Told j left text) e t
+
+-- a run's own status is the serial answer's, where the text is told
+pub run_status : {serial : Command → Bool} {job : Option Command} {left : Option (List ℕ)} {P : ℕ → List ℕ → Type 0} {rounds : List ClosedRound} (text : List ℕ)
+    (r : HasRun serial job left P rounds) → Told job left text → task_status r.command.task r.subject ≡ (answer_to serial job text).status
+run_status {serial = serial} {job = job} {left = left} text r t =
     sym (ap (λ (a : Answer). a.status)
-    (ap (λ j. answer_to serial j text) w.asked ∙ (ap (answer_for (serial w.command) w.command) w.read ∙ ap (answer_by (task_status w.command.task w.subject)) w.fits)))
+    (ap (λ j. answer_to serial j text) r.asked
+    ∙ (ap (answer_for (serial r.command) r.command) (r.is.of_text text (told_for job r.command left text r.asked t)) ∙ ap (answer_by (task_status r.command.task r.subject)) r.fits)))
+
+-- why a command doesn't fit, where the text is told
+pub unfit_for : {serial : Command → Bool} {job : Option Command} {left : Option (List ℕ)} (text : List ℕ) (u : Unfitness)
+    → HasNotFit serial job left (λ why. why ≡ u) → Told job left text → IsUnfit serial job text u
+unfit_for {job = job} {left = left} text u n t =
+    record { command = n.command; asked = n.asked; subject = n.subject; read = n.is.of_text text (told_for job n.command left text n.asked t); why = n.unfit ∙ ap (λ w. Some w) n.says }
 
 pub memory_is : status_of NoMemory ≡ 7
 unfolding status_of

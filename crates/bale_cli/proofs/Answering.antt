@@ -13,8 +13,8 @@ use Rattle.bale_subjects.specs.declared.refusal.Refusal.{Refusal}
 use Rattle.bale_subjects.specs.declared.refusal.Refusal.TheVariants as refusal
 use Rattle.bale_subjects.specs.declared.subject.Subject.{Subject}
 use Rattle.bale_subjects.specs.declared.unfit.Unfit.{Unfit}
-use Rattle.bale_answers.specs.Answer.{Asked, Wrote}
-use Rattle.bale_subjects.specs.Reading.{reads, TellsText, Told}
+use Rattle.bale_answers.specs.Answer.{Asked}
+use Rattle.bale_subjects.specs.Reading.{reads, TellsText, Told, IsSubjectOf}
 use Rattle.bale_subjects.specs.Refusals.{IsOfText}
 use Rattle.bale_runs.specs.Asking.{TellsCommand}
 use Rattle.bale_runs.specs.RunEnds.{IsRunEnd}
@@ -23,7 +23,7 @@ use Rattle.bale_cli.specs.Outcomes.{Answered}
 use Rattle.bale_subjects.specs.Subjects.{subject_asked}
 use Rattle.bale_words.specs.Ranges.{InRanges}
 use Rattle.bale_meaning.proofs.Serial.{means_of}
-use Rattle.bale_cli.proofs.AnswerEnds.{before_text, wrote_status}
+use Rattle.bale_cli.proofs.AnswerEnds.{before_text}
 
 -- what holds of a result that is there
 pub when_ok : {T E : Type 0} (r : Result T E) (P : Type 0) → IfOk r (λ x. P) → IsOk r → P
@@ -99,10 +99,10 @@ module _ {S K : Type 0} {serial : Command → Bool} {left : S → Option (List �
         read_fault = λ e. absurd (no_read (of_words r refusal.ReadFault kinds (same_Err r refusal.ReadFault e)));
         no_read_fault = λ other. ap read_faults same_source;
         bad = λ text b told e. absurd (no_bad b (of_words r (refusal.BadText b) kinds (same_Err r (refusal.BadText b) e)));
-        unfit = λ text x told e. absurd (no_unfit x (of_words r (refusal.Unfit x) kinds (same_Err r (refusal.Unfit x) e)));
+        bad_read = λ b e. absurd (no_bad b (of_words r (refusal.BadText b) kinds (same_Err r (refusal.BadText b) e)));
+        unfit = λ x e. absurd (no_unfit x (of_words r (refusal.Unfit x) kinds (same_Err r (refusal.Unfit x) e)));
         kinds = λ e. no_write (of_words r refusal.WriteFault kinds e);
-        wrote = λ text told. tt;
-        status = λ text told. tt;
+        ran = tt;
         low = tt;
         write_fault = tt;
         no_write_fault = tt;
@@ -111,7 +111,6 @@ module _ {S K : Type 0} {serial : Command → Bool} {left : S → Option (List �
         read_whole = λ text told r. tt;
         read_bad = λ text told rd of_text. absurd (before_text r kinds of_text);
         no_answer = same_out;
-        rounds = λ text c m asked. tt;
       }
 
   -- the same of another spelling of the job
@@ -123,24 +122,24 @@ module _ {S K : Type 0} {serial : Command → Bool} {left : S → Option (List �
   pub subject_refused : (c : Command) (r : Refusal) → (r ≡ refusal.ReadFault → RoseOrFull (read_faults source) (read_faults source'))
       → (r ≢ refusal.ReadFault → read_faults source' ≡ read_faults source)
       → ((text : List ℕ) (b : BadText) → Told (Some c) (left source) text → r ≡ refusal.BadText b → subject_asked c text ≡ Err (refusal.BadText b))
-      → ((text : List ℕ) (u : Unfit) → Told (Some c) (left source) text → r ≡ refusal.Unfit u
-      → (s : Subject) × (subject_asked c text ≡ Ok s) × (unfitness c s (serial c) ≡ Some u))
+      → ((b : BadText) → r ≡ refusal.BadText b → reads (Some c) ≡ true)
+      → ((u : Unfit) → r ≡ refusal.Unfit u → (s : Subject) × IsSubjectOf c (left source) s × (unfitness c s (serial c) ≡ Some u))
       → (r ≢ refusal.WriteFault) × (r ≢ refusal.Usage) → (reads (Some c) ≡ false → source' ≡ source)
       → ((text : List ℕ) → left source ≡ Some text → reads (Some c) ≡ true → IsOfText r → left source' ≡ Some (drop 16777217 text)) → out' ≡ out
       → Answered serial (Some c) left read_faults source source' taken write_faults out out' (Err r)
-  subject_refused c r fault no_fault bad unfit kinds unread read_bad same_out =
+  subject_refused c r fault no_fault bad bad_read unfit kinds unread read_bad same_out =
       record {
         usage = λ e. absurd (kinds.1 (same_Err r refusal.Usage e));
         no_command = λ none. absurd (none-some c (sym none));
         read_fault = λ e. fault (same_Err r refusal.ReadFault e);
         no_read_fault = λ other. no_fault (λ e. other (ap (λ (x : Refusal). Err x) e));
         bad = λ text b told e. record { command = c; asked = refl; why = bad text b told (same_Err r (refusal.BadText b) e) };
-        unfit = λ text u told e.
-            let w = unfit text u told (same_Err r (refusal.Unfit u) e) in
-            record { command = c; asked = refl; subject = w.0; read = w.1; why = w.2 };
+        bad_read = λ b e. bad_read b (same_Err r (refusal.BadText b) e);
+        unfit = λ u e.
+            let w = unfit u (same_Err r (refusal.Unfit u) e) in
+            record { command = c; asked = refl; subject = w.0; is = w.1; why = u; unfit = w.2; says = refl };
         kinds = kinds.0;
-        wrote = λ text told. tt;
-        status = λ text told. tt;
+        ran = tt;
         low = tt;
         write_fault = tt;
         no_write_fault = tt;
@@ -149,41 +148,38 @@ module _ {S K : Type 0} {serial : Command → Bool} {left : S → Option (List �
         read_whole = λ text told r. tt;
         read_bad = read_bad;
         no_answer = same_out;
-        rounds = λ text c' m asked. tt;
       }
 
   -- run, and the answer was written, or memory was wanting
   pub ran_answered : (answered : Result RunEnd Refusal) (c : Command) (s : Subject) → InRanges c
-      → ((text : List ℕ) → Told (Some c) (left source) text → subject_asked c text ≡ Ok s) → unfitness c s (serial c) ≡ None
+      → IsSubjectOf c (left source) s → unfitness c s (serial c) ≡ None
       → read_faults source' ≡ read_faults source → (reads (Some c) ≡ false → source' ≡ source)
       → ((text : List ℕ) → left source ≡ Some text → reads (Some c) ≡ true → left source' ≡ Some (drop 16777217 text))
       → IsRunEnd c s (TellsCommand (serial c) c s) taken write_faults out out' answered
       → Answered serial (Some c) left read_faults source source' taken write_faults out out' answered
   ran_answered (Ok f) c s ranges subject fits calm unread whole finish =
       let wrote = finish.ending.answer in
-      let written : (text : List ℕ) → Told (Some c) (left source) text
-      → Wrote serial (Some c) text (λ bytes. OnOk f.ending.written (taken out' ≡ after (taken out) bytes) × OnErr f.ending.written (IsFront (taken out') (after (taken out) bytes))) = λ text told.
-      record {
-        command = c;
-        asked = refl;
-        subject = s;
-        read = subject text told;
-        fits = fits;
-        bytes = wrote.bytes;
-        answers = wrote.answers;
-        means = means_of c text s (serial c) wrote.bytes ranges (subject text told) fits wrote.answers;
-        wrote = (wrote.whole, wrote.front);
-      } in
       record {
         usage = λ e. absurd cc;
         no_command = λ none. absurd (none-some c (sym none));
         read_fault = λ e. absurd cc;
         no_read_fault = λ other. calm;
         bad = λ text b told e. absurd cc;
-        unfit = λ text u told e. absurd cc;
+        bad_read = λ b e. absurd cc;
+        unfit = λ u e. absurd cc;
         kinds = tt;
-        wrote = written;
-        status = λ text told. finish.ending.status ∙ wrote_status (written text told);
+        ran = record {
+          command = c;
+          asked = refl;
+          subject = s;
+          is = subject;
+          fits = fits;
+          bytes = wrote.bytes;
+          answers = wrote.answers;
+          means = λ text told. means_of c text s (serial c) wrote.bytes ranges (subject.of_text text told) fits wrote.answers;
+          wrote = (finish.ending.status, wrote.whole, wrote.front);
+          rounds_tell = finish.rounds;
+        };
         low = finish.ending.low;
         write_fault = finish.ending.cause;
         no_write_fault = finish.ending.no_fault;
@@ -192,10 +188,6 @@ module _ {S K : Type 0} {serial : Command → Bool} {left : S → Option (List �
         read_whole = λ text told r. whole text told r;
         read_bad = λ text told r. tt;
         no_answer = tt;
-        rounds = λ text c' s' asked.
-            let e = same_asked c s text c' s' subject asked in
-            subst (λ (y : Subject). TellsCommand (serial c') c' y f.rounds) e.1
-            (subst (λ (x : Command). TellsCommand (serial x) x s f.rounds) e.0 finish.rounds);
       }
   ran_answered (Err r) c s ranges subject fits calm unread whole finish =
       let memory = finish.memory in
@@ -206,10 +198,10 @@ module _ {S K : Type 0} {serial : Command → Bool} {left : S → Option (List �
         read_fault = λ e. absurd (no_read (of_words r refusal.ReadFault kinds (same_Err r refusal.ReadFault e)));
         no_read_fault = λ other. calm;
         bad = λ text b told e. absurd (no_bad b (of_words r (refusal.BadText b) kinds (same_Err r (refusal.BadText b) e)));
-        unfit = λ text x told e. absurd (no_unfit x (of_words r (refusal.Unfit x) kinds (same_Err r (refusal.Unfit x) e)));
+        bad_read = λ b e. absurd (no_bad b (of_words r (refusal.BadText b) kinds (same_Err r (refusal.BadText b) e)));
+        unfit = λ x e. absurd (no_unfit x (of_words r (refusal.Unfit x) kinds (same_Err r (refusal.Unfit x) e)));
         kinds = λ e. no_write (of_words r refusal.WriteFault kinds e);
-        wrote = λ text told. tt;
-        status = λ text told. tt;
+        ran = tt;
         low = tt;
         write_fault = tt;
         no_write_fault = tt;
@@ -218,7 +210,6 @@ module _ {S K : Type 0} {serial : Command → Bool} {left : S → Option (List �
         read_whole = λ text told r. tt;
         read_bad = λ text told rd of_text. absurd (before_text r kinds of_text);
         no_answer = finish.no_answer;
-        rounds = λ text c' s' asked. tt;
       }
     where
       no_usage : refusal.NoMemory ≡ refusal.Usage → ⊥

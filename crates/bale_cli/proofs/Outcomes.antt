@@ -8,15 +8,17 @@ use Rattle.bale_words.specs.declared.command.Command.{Command}
 use Rattle.bale_runs.specs.declared.exchange.RunEnd.{RunEnd}
 use Rattle.bale_subjects.specs.declared.refusal.Refusal.{Refusal}
 use Rattle.bale_subjects.specs.declared.refusal.Refusal.TheVariants as refusal
-use Rattle.bale_answers.specs.Answer.{Answer, Wrote, answer_to, said}
+use Rattle.bale_answers.specs.Answer.{Answer, answer_to, said}
 use Rattle.bale_subjects.specs.Reading.{Told, reads}
 use Rattle.bale_subjects.specs.Refusals.{refusal_text, status_of}
 use Rattle.bale_words.specs.Words.{command_of}
 use Rattle.bale_runs.specs.Asking.{TellsCommand}
 use Rattle.bale_cli.specs.Outcomes.{Answered, IsOutcome}
-use Rattle.bale_cli.specs.Run.{IsRun}
+use Rattle.bale_cli.specs.Run.{HasNotFit, HasRun, IsRun, Says}
 use Rattle.bale_cli.proofs.Answering.{same_Err}
-use Rattle.bale_cli.proofs.AnswerEnds.{not_zero, not_one, is_usage, usage_is, is_read_fault, read_fault_is, is_write_fault, bad_is, unfit_is, status_same, said_is, of_text, memory_is}
+use Rattle.bale_cli.proofs.AnswerEnds.{not_zero, not_one, is_usage, usage_is, is_read_fault, read_fault_is, is_write_fault, is_bad, bad_is, is_unfit, unfit_is, status_same, said_is, of_text, memory_is, refusal_low, run_status, unfit_for}
+use Rattle.bale_subjects.specs.declared.refusal.BadText.{BadText}
+use Rattle.bale_subjects.specs.declared.unfit.Unfit.{Unfit}
 
 -- nothing is said of an answer
 said_none : (status : ℕ) (answer : Answer) → status ≤ 1 → said status answer ≡ []
@@ -99,11 +101,11 @@ module _ {serial : Command → Bool} {job : Option Command} {S K E : Type 0} {le
   same_status : (answered : Result RunEnd Refusal) → Answered serial job left read_faults source source' taken write_faults out out' answered → IsOutcome answered said_to err_faults err err' status rounds → (text : List ℕ) → Told job (left source) text
       → status ≢ 3 → status ≢ 4 → status ≢ 7 → status ≡ (answer_to serial job text).status
   same_status (Ok f) a o text told three four seven =
-      elim (ends f o) [ inl w ↦ w.fact.0 ∙ a.status text told | inr u ↦ absurd (four u.fact.0) ]
+      elim (ends f o) [ inl w ↦ w.fact.0 ∙ (a.ran.wrote.0 ∙ run_status text a.ran told) | inr u ↦ absurd (four u.fact.0) ]
   same_status (Err r) a o text told three four seven =
       o.refused.0
       ∙ status_same serial r job text (λ e. a.usage (ap (λ (x : Refusal). Err x) e)) (λ b e. a.bad text b told (ap (λ (x : Refusal). Err x) e))
-      (λ u e. a.unfit text u told (ap (λ (x : Refusal). Err x) e)) (λ e. three (o.refused.0 ∙ e)) (λ e. four (o.refused.0 ∙ e)) (λ e. seven (o.refused.0 ∙ e))
+      (λ u e. unfit_for text u (a.unfit u (ap (λ (x : Refusal). Err x) e)) told) (λ e. three (o.refused.0 ∙ e)) (λ e. four (o.refused.0 ∙ e)) (λ e. seven (o.refused.0 ∙ e))
 
   read_fault : (answered : Result RunEnd Refusal) → Answered serial job left read_faults source source' taken write_faults out out' answered → IsOutcome answered said_to err_faults err err' status rounds → status ≡ 3 → RoseOrFull (read_faults source) (read_faults source')
   read_fault (Ok f) a o three = absurd (no_other f 3 o (omega arith) (λ e. omega (arith, e)) three)
@@ -135,27 +137,55 @@ module _ {serial : Command → Bool} {job : Option Command} {S K E : Type 0} {le
       no_job : job ≡ None → reads job ≡ true → ⊥
       no_job none r = (let e : false ≡ true = sym (ap reads none) ∙ r in cc)
 
-  answer : (answered : Result RunEnd Refusal) → Answered serial job left read_faults source source' taken write_faults out out' answered → IsOutcome answered said_to err_faults err err' status rounds → (text : List ℕ) → Told job (left source) text → (status ≡ 0) ⊎ (status ≡ 1)
-      → Wrote serial job text (λ bytes. taken out' ≡ after (taken out) bytes)
-  answer (Ok f) a o text told low =
-      elim (ends f o) [
-        | inl w ↦
-            let d = a.wrote text told in
-            record { command = d.command; asked = d.asked; subject = d.subject; read = d.read; fits = d.fits; bytes = d.bytes; answers = d.answers; means = d.means; wrote = did w d.wrote.0 }
-        | inr u ↦ absurd (elim low [ inl nought ↦ omega (arith, u.fact.0, nought) | inr one ↦ omega (arith, u.fact.0, one) ])
-      ]
-  answer (Err r) a o text told low = absurd (not_low r o low)
+  low : (answered : Result RunEnd Refusal) → Answered serial job left read_faults source source' taken write_faults out out' answered → IsOutcome answered said_to err_faults err err' status rounds → status ≤ 7
+  low (Ok f) a o = elim (ends f o) [ inl w ↦ omega (arith, w.fact.1) | inr u ↦ omega (arith, u.fact.0) ]
+  low (Err r) a o = subst (λ n. n ≤ 7) (sym o.refused.0) (refusal_low r)
 
-  front : (answered : Result RunEnd Refusal) → Answered serial job left read_faults source source' taken write_faults out out' answered → IsOutcome answered said_to err_faults err err' status rounds → (text : List ℕ) → Told job (left source) text → status ≡ 4
-      → Wrote serial job text (λ bytes. IsFront (taken out') (after (taken out) bytes))
-  front (Ok f) a o text told four =
-      elim (ends f o) [
-        | inl w ↦ absurd (low_not status 4 (omega arith) w.fact.1 four)
-        | inr u ↦
-            let d = a.wrote text told in
-            record { command = d.command; asked = d.asked; subject = d.subject; read = d.read; fits = d.fits; bytes = d.bytes; answers = d.answers; means = d.means; wrote = failed u d.wrote.1 }
-      ]
-  front (Err r) a o text told four = absurd (not_four r a.kinds o four)
+  has_run : (answered : Result RunEnd Refusal) → Answered serial job left read_faults source source' taken write_faults out out' answered → IsOutcome answered said_to err_faults err err' status rounds
+      → (status ≡ 0) ⊎ (status ≡ 1) ⊎ (status ≡ 4)
+      → HasRun serial job (left source) (λ own bytes. (status ≢ 4 → (status ≡ own) × (taken out' ≡ after (taken out) bytes)) × IsFront (taken out') (after (taken out) bytes)) rounds
+  has_run (Ok f) a o s =
+      let r = a.ran in
+      record {
+        command = r.command;
+        asked = r.asked;
+        subject = r.subject;
+        is = r.is;
+        fits = r.fits;
+        bytes = r.bytes;
+        answers = r.answers;
+        means = r.means;
+        wrote = elim (ends f o) [
+          | inl w ↦ (λ other. (w.fact.0 ∙ r.wrote.0, did w r.wrote.1), subst (IsFront (taken out')) (did w r.wrote.1) (front_same (taken out')))
+          | inr u ↦ (λ other. absurd (other u.fact.0), failed u r.wrote.2)
+        ];
+        rounds_tell = subst (TellsCommand (serial r.command) r.command r.subject) (sym o.told) r.rounds_tell;
+      }
+  has_run (Err r) a o s =
+      absurd (elim s [ inl nought ↦ not_low r o (inl nought) | inr more ↦ elim more [ inl one ↦ not_low r o (inr one) | inr four ↦ not_four r a.kinds o four ] ])
+
+  bad : (answered : Result RunEnd Refusal) → Answered serial job left read_faults source source' taken write_faults out out' answered → IsOutcome answered said_to err_faults err err' status rounds
+      → status ≡ 5 → (reads job ≡ true) × ((b : BadText) × Says said_to err_faults err err' (refusal.BadText b))
+  bad (Ok f) a o five = absurd (no_other f 5 o (omega arith) (λ e. omega (arith, e)) five)
+  bad (Err r) a o five =
+      let is = is_bad r (sym o.refused.0 ∙ five) in
+      (a.bad_read is.0 (ap (λ (x : Refusal). Err x) is.1), (is.0, subst (Says said_to err_faults err err') is.1 o.refused.1))
+
+  not_fit : (answered : Result RunEnd Refusal) → Answered serial job left read_faults source source' taken write_faults out out' answered → IsOutcome answered said_to err_faults err err' status rounds
+      → status ≡ 6 → HasNotFit serial job (left source) (λ u. Says said_to err_faults err err' (refusal.Unfit u))
+  not_fit (Ok f) a o six = absurd (no_other f 6 o (omega arith) (λ e. omega (arith, e)) six)
+  not_fit (Err r) a o six =
+      let is = is_unfit r (sym o.refused.0 ∙ six) in
+      let n = a.unfit is.0 (ap (λ (x : Refusal). Err x) is.1) in
+      record {
+        command = n.command;
+        asked = n.asked;
+        subject = n.subject;
+        is = n.is;
+        why = n.why;
+        unfit = n.unfit;
+        says = subst (Says said_to err_faults err err') (is.1 ∙ ap (λ (u : Unfit). refusal.Unfit u) (sym n.says)) o.refused.1;
+      }
 
   no_answer : (answered : Result RunEnd Refusal) → Answered serial job left read_faults source source' taken write_faults out out' answered → IsOutcome answered said_to err_faults err err' status rounds → status ≢ 0 → status ≢ 1 → status ≢ 4 → out' ≡ out
   no_answer (Ok f) a o nought one four = absurd (only_refused f o nought one four)
@@ -167,7 +197,7 @@ module _ {serial : Command → Bool} {job : Option Command} {S K E : Type 0} {le
       ap (λ n. said n (answer_to serial job text)) o.refused.0
       ∙ said_is serial r job text (λ e. a.usage (ap (λ (x : Refusal). Err x) e))
       (λ b e. a.bad text b (told (inl (o.refused.0 ∙ ap status_of e ∙ bad_is b))) (ap (λ (x : Refusal). Err x) e))
-      (λ u e. a.unfit text u (told (inr (o.refused.0 ∙ ap status_of e ∙ unfit_is u))) (ap (λ (x : Refusal). Err x) e))
+      (λ u e. unfit_for text u (a.unfit u (ap (λ (x : Refusal). Err x) e)) (told (inr (o.refused.0 ∙ ap status_of e ∙ unfit_is u))))
 
   said_whole : (answered : Result RunEnd Refusal) → Answered serial job left read_faults source source' taken write_faults out out' answered → IsOutcome answered said_to err_faults err err' status rounds → (text : List ℕ) → ((status ≡ 5) ⊎ (status ≡ 6) → Told job (left source) text)
       → ¬ RoseOrFull (err_faults err) (err_faults err') → said_to err' ≡ after (said_to err) (said status (answer_to serial job text))
@@ -192,13 +222,6 @@ module _ {serial : Command → Bool} {job : Option Command} {S K E : Type 0} {le
   silent (Ok f) a o low =
       elim (ends f o) [ inl w ↦ w.fact.2 | inr u ↦ absurd (elim low [ inl nought ↦ omega (arith, u.fact.0, nought) | inr one ↦ omega (arith, u.fact.0, one) ]) ]
   silent (Err r) a o low = absurd (not_low r o low)
-
-  -- the rounds of an answer, and none of a refusal
-  rounds_told : (P : List ClosedRound → Type 0) (answered : Result RunEnd Refusal) → Answered serial job left read_faults source source' taken write_faults out out' answered → IsOutcome answered said_to err_faults err err' status rounds → IfOk answered (λ f. P f.rounds)
-      → (status ≡ 0) ⊎ (status ≡ 1) ⊎ (status ≡ 4) → P rounds
-  rounds_told P (Ok f) a o p ended = subst P (sym o.told) p
-  rounds_told P (Err r) a o p ended =
-      absurd (elim ended [ inl nought ↦ not_low r o (inl nought) | inr more ↦ elim more [ inl one ↦ not_low r o (inr one) | inr four ↦ not_four r a.kinds o four ] ])
 
   no_rounds : (answered : Result RunEnd Refusal) → Answered serial job left read_faults source source' taken write_faults out out' answered → IsOutcome answered said_to err_faults err err' status rounds → status ≢ 0 → status ≢ 1 → status ≢ 4 → rounds ≡ []
   no_rounds (Ok f) a o nought one four = absurd (only_refused f o nought one four)
@@ -235,14 +258,15 @@ is_run serial words left read_faults source source' taken write_faults out out' 
   no_write_fault = no_write_fault answered a o;
   unread = a.unread;
   read_whole = read_whole answered a o;
-  answer = answer answered a o;
-  front = front answered a o;
+  low = low answered a o;
+  has_run = has_run answered a o;
+  no_rounds = no_rounds answered a o;
+  bad = bad answered a o;
+  not_fit = not_fit answered a o;
   held = a.held;
   no_answer = no_answer answered a o;
   said_whole = said_whole answered a o;
   said_front = said_front answered a o;
   said_held = o.held;
   silent = silent answered a o;
-  rounds_tell = λ text c s asked ended. rounds_told (λ (rs : List ClosedRound). TellsCommand (serial c) c s rs) answered a o (a.rounds text c s asked) ended;
-  no_rounds = no_rounds answered a o;
 }

@@ -10,12 +10,11 @@ use Rattle.bale_runs.specs.declared.exchange.RunEnd.{RunEnd}
 use Rattle.bale_subjects.specs.declared.refusal.BadText.{BadText}
 use Rattle.bale_subjects.specs.declared.refusal.Refusal.{Refusal}
 use Rattle.bale_subjects.specs.declared.refusal.Refusal.TheVariants as refusal
-use Rattle.bale_subjects.specs.declared.subject.Subject.{Subject}
 use Rattle.bale_subjects.specs.declared.unfit.Unfit.{Unfit}
-use Rattle.bale_answers.specs.Answer.{answer_to, Asked, IsBad, IsUnfit, Wrote}
+use Rattle.bale_answers.specs.Answer.{IsBad}
 use Rattle.bale_subjects.specs.Refusals.{refusal_text, status_of, IsOfText}
 use Rattle.bale_subjects.specs.Reading.{reads, Told}
-use Rattle.bale_runs.specs.Asking.{TellsCommand}
+use Rattle.bale_cli.specs.Run.{HasNotFit, HasRun}
 
 -- An answer, or why there is none: what the words ask for (`job`), of a source before and after, on
 -- a sink before and after. `left` is what a source tells of what it has left, `taken` what a sink
@@ -30,14 +29,12 @@ pub record Answered {S K : Type 0} (serial : Command → Bool) (job : Option Com
   pub no_read_fault : answered ≢ Err refusal.ReadFault → read_faults source' ≡ read_faults source
   pub bad : (text : List ℕ) (b : BadText) → Told job (left source) text → answered ≡ Err (refusal.BadText b)
       → IsBad job text b
-  pub unfit : (text : List ℕ) (u : Unfit) → Told job (left source) text → answered ≡ Err (refusal.Unfit u)
-      → IsUnfit serial job text u
+  pub bad_read : (b : BadText) → answered ≡ Err (refusal.BadText b) → reads job ≡ true
+  pub unfit : (u : Unfit) → answered ≡ Err (refusal.Unfit u) → HasNotFit serial job (left source) (λ why. why ≡ u)
   pub kinds : IfErr answered (λ r. r ≢ refusal.WriteFault)
-  pub wrote : (text : List ℕ) → Told job (left source) text → IfOk answered (λ f. Wrote serial job text
-      (λ bytes. OnOk f.ending.written (taken out' ≡ after (taken out) bytes)
-      × OnErr f.ending.written (IsFront (taken out') (after (taken out) bytes))))
-  pub status : (text : List ℕ) → Told job (left source) text
-      → IfOk answered (λ f. f.ending.status ≡ (answer_to serial job text).status)
+  pub ran : IfOk answered (λ f. HasRun serial job (left source) (λ own bytes. (f.ending.status ≡ own)
+      × OnOk f.ending.written (taken out' ≡ after (taken out) bytes)
+      × OnErr f.ending.written (IsFront (taken out') (after (taken out) bytes))) f.rounds)
   pub low : IfOk answered (λ f. f.ending.status ≤ 1)
   pub write_fault : IfOk answered (λ f. HasCause (write_faults out) (write_faults out') f.ending.written)
   pub no_write_fault : IfOk answered (λ f. OnOk f.ending.written (write_faults out' ≡ write_faults out))
@@ -48,8 +45,6 @@ pub record Answered {S K : Type 0} (serial : Command → Bool) (job : Option Com
   pub read_bad : (text : List ℕ) → left source ≡ Some text → reads job ≡ true
       → IfErr answered (λ r. IsOfText r → left source' ≡ Some (drop 16777217 text))
   pub no_answer : OnErr answered (out' ≡ out)
-  pub rounds : (text : List ℕ) (c : Command) (s : Subject) → Asked serial (left source) job text c s →
-      IfOk answered (λ f. TellsCommand (serial c) c s f.rounds)
 
 -- How an answer is told, or why there is none: the status, the rounds, and what is said on a sink before and after.
 pub record IsOutcome {E : Type 0} (answered : Result RunEnd Refusal) (taken : E → Option (List ℕ)) (faults : E → ℕ)

@@ -1,15 +1,58 @@
 -- What the two top calls promise alike.
-use Rattle.std.specs.Prelude.{◌≡◌, ◌≢◌, ◌⊎◌, ℕ, Bool, true, false, List, [], Option, None, Some, drop}
+use Rattle.std.specs.Prelude.{◌≡◌, ◌≢◌, ◌⊎◌, ◌≤◌, ℕ, Bool, true, false, List, [], Option, None, Some, drop}
 use Rattle.bale_types.specs.Stream.{after, IsFront}
 use Rattle.bale_items.specs.Counters.{RoseOrFull}
 use Rattle.rank_group.specs.declared.closed_round.ClosedRound.{ClosedRound}
 use Rattle.bale_words.specs.declared.command.Command.{Command}
 use Rattle.bale_words.specs.Words.{command_of}
+use Rattle.bale_subjects.specs.declared.refusal.BadText.{BadText}
+use Rattle.bale_subjects.specs.declared.refusal.Refusal.{Refusal}
+use Rattle.bale_subjects.specs.declared.refusal.Refusal.TheVariants as refusal
 use Rattle.bale_subjects.specs.declared.subject.Subject.{Subject}
-use Rattle.bale_subjects.specs.Reading.{reads, Told}
-use Rattle.bale_answers.specs.Answer.{serial_answer, said, Asked, Wrote}
+use Rattle.bale_subjects.specs.declared.unfit.Unfit.{Unfit}
+use Rattle.bale_subjects.specs.Fitness.{unfitness}
+use Rattle.bale_subjects.specs.Reading.{reads, Told, TellsText, IsSubjectOf}
+use Rattle.bale_subjects.specs.Refusals.{refusal_text}
+use Rattle.bale_answers.specs.Answer.{serial_answer, said, shown, Asked}
+use Rattle.bale_answers.specs.Tasks.{IsAnswer, Means, task_status}
 use Rattle.bale_runs.specs.Asking.{TellsCommand, TurnsOfCommand, FewestOfCommand}
 use Rattle.bale_runs.specs.Jobs.{on_one_thread}
+
+-- What a run with an answer ran: a command of the words on a subject that it fits, the text's if the
+-- source tells it. `bytes` are that command's answer, `P` says of its status and of the bytes shown
+-- what out took, and the rounds tell what was exchanged.
+-- This holds of standard input too, which tells no text: status 0 on the words `histo` then says
+-- that some matrix was read, that the answer for it was written, and that its items travelled.
+pub record HasRun (serial : Command → Bool) (job : Option Command) (left : Option (List ℕ))
+    (P : ℕ → List ℕ → Type 0) (rounds : List ClosedRound) : Type 0 where
+  pub command : Command
+  pub asked : job ≡ Some command
+  pub subject : Subject
+  pub is : IsSubjectOf command left subject
+  pub fits : unfitness command subject (serial command) ≡ None
+  pub bytes : List ℕ
+  pub answers : IsAnswer command.task subject bytes
+  -- What the bytes mean, if the source tells the text.
+  pub means : (text : List ℕ) → TellsText command.travel.generated left text
+      → Means command.task subject (task_status command.task subject) bytes
+  pub wrote : P (task_status command.task subject)
+      (shown command.travel.generated (task_status command.task subject) bytes)
+  pub rounds_tell : TellsCommand (serial command) command subject rounds
+
+-- Why a run ended at 6: a command of the words doesn't fit its subject, which is the text's if the
+-- source tells it; `P` says of the first test that fails what is said of it.
+pub record HasNotFit (serial : Command → Bool) (job : Option Command) (left : Option (List ℕ)) (P : Unfit → Type 0) : Type 0 where
+  pub command : Command
+  pub asked : job ≡ Some command
+  pub subject : Subject
+  pub is : IsSubjectOf command left subject
+  pub why : Unfit
+  pub unfit : unfitness command subject (serial command) ≡ Some why
+  pub says : P why
+
+-- err has taken a refusal's text, unless its own faults rose.
+abbrev pub Says : {E : Type 0} → (E → Option (List ℕ)) → (E → ℕ) → E → E → Refusal → Type 0
+Says told faults err err' r = ¬ RoseOrFull (faults err) (faults err') → told err' ≡ after (told err) (refusal_text r)
 
 -- A run of the command that the words name, which ends with a status and tells its rounds. `serial`
 -- says of each command whether one thread turns all its ranks; `left` is what a source tells of
@@ -25,6 +68,7 @@ pub record IsRun {S K E : Type 0} (serial : Command → Bool) (words : List (Lis
     (status : ℕ) (rounds : List ClosedRound) : Type 0 where
   -- The status is the serial answer's for the words and the text. 3 comes exactly where a read
   -- failed and 4 where a write did; 7, want of memory, is free.
+  pub low : status ≤ 7
   pub usage : status ≡ 2 → command_of words ≡ None
   pub no_command : command_of words ≡ None → status ≢ 7 → status ≡ 2
   pub status_is : (text : List ℕ) → Told (command_of words) (left source) text → status ≢ 3 → status ≢ 4 → status ≢ 7
@@ -38,14 +82,24 @@ pub record IsRun {S K E : Type 0} (serial : Command → Bool) (words : List (Lis
   pub unread : reads (command_of words) ≡ false → source' ≡ source
   pub read_whole : (text : List ℕ) → left source ≡ Some text → reads (command_of words) ≡ true → status ≢ 3 → status ≢ 7
       → left source' ≡ Some (drop 16_777_217 text)
-  -- At 0 and 1 out has taken the answer, at 4 a front of it, and else it is as it was; what it held
-  -- stays, so at 4 it has what it held and then a front of the answer.
-  pub answer : (text : List ℕ) → Told (command_of words) (left source) text → (status ≡ 0) ⊎ (status ≡ 1)
-      → Wrote serial (command_of words) text (λ bytes. taken out' ≡ after (taken out) bytes)
-  pub front : (text : List ℕ) → Told (command_of words) (left source) text → status ≡ 4
-      → Wrote serial (command_of words) text (λ bytes. IsFront (taken out') (after (taken out) bytes))
+  -- At 0, 1 and 4 a command that fits its subject was run: at 0 and 1 out has taken the answer, at 4
+  -- a front of it. What out held stays, so at 4 it has what it held and then a front of the answer.
+  -- The rounds tell the canonical run of the application's programs for its matrix or lines, and for
+  -- ig over biconvey that of the sums and then the queries and the replies, over banks of the grid,
+  -- the capacity and the slots that the words name: plain ones for one thread, else ones of slots.
+  -- Over conveyors that aren't steady each epoch's entries travel in few parcels, by port_bank's
+  -- few_parcels_law. At the other statuses out is as it was, and there are no rounds.
+  pub has_run : (status ≡ 0) ⊎ (status ≡ 1) ⊎ (status ≡ 4) → HasRun serial (command_of words) (left source)
+      (λ own bytes. (status ≢ 4 → (status ≡ own) × (taken out' ≡ after (taken out) bytes))
+      × IsFront (taken out') (after (taken out) bytes)) rounds
+  pub no_rounds : status ≢ 0 → status ≢ 1 → status ≢ 4 → rounds ≡ []
   pub held : IsFront (taken out) (taken out')
   pub no_answer : status ≢ 0 → status ≢ 1 → status ≢ 4 → out' ≡ out
+  -- At 5 a text was read, and err names a bad line; at 6 the command doesn't fit, and err says why.
+  pub bad : status ≡ 5 → (reads (command_of words) ≡ true)
+      × ((b : BadText) × Says told err_faults err err' (refusal.BadText b))
+  pub not_fit : status ≡ 6 → HasNotFit serial (command_of words) (left source)
+      (λ u. Says told err_faults err err' (refusal.Unfit u))
   -- What is said on err is whole unless its own faults rose; the text matters at 5 and 6 alone. At
   -- 0 and 1 err is as it was.
   pub said_whole : (text : List ℕ) → ((status ≡ 5) ⊎ (status ≡ 6) → Told (command_of words) (left source) text)
@@ -55,14 +109,6 @@ pub record IsRun {S K E : Type 0} (serial : Command → Bool) (words : List (Lis
       → IsFront (told err') (after (told err) (said status (serial_answer serial words text)))
   pub said_held : IsFront (told err) (told err')
   pub silent : (status ≡ 0) ⊎ (status ≡ 1) → err' ≡ err
-  -- At 0, 1 and 4 the rounds tell the canonical run of the application's programs for its matrix or
-  -- lines, and for ig over biconvey that of the sums and then the queries and the replies, over
-  -- banks of the grid, the capacity and the slots that the words name: plain ones for one thread,
-  -- else ones of slots; else there are none. Over conveyors that aren't steady each epoch's entries
-  -- travel in few parcels, by port_bank's few_parcels_law.
-  pub rounds_tell : (text : List ℕ) (c : Command) (s : Subject) → Asked serial (left source) (command_of words) text c s
-      → (status ≡ 0) ⊎ (status ≡ 1) ⊎ (status ≡ 4) → TellsCommand (serial c) c s rounds
-  pub no_rounds : status ≢ 0 → status ≢ 1 → status ≢ 4 → rounds ≡ []
 
 -- The turns of a run on one thread, from `before` to `after`, by what the words name and what the source tells.
 pub record AreTurns (left : Option (List ℕ)) (job : Option Command) (before after : ℕ) : Type 0 where

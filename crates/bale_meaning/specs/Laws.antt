@@ -9,7 +9,7 @@ use Rattle.bale_answers.specs.Answer.{serial_answer}
 use Rattle.bale_answers.specs.Tasks.{IsAnswer, Means}
 
 -- The words give this command, this is what it is asked of, it fits it, and these bytes are its
--- answer: the facts of `Wrote`.
+-- answer.
 -- for "histo" and "%%MatrixMarket matrix coordinate pattern general/2 2 0/" the bytes are "1 0/2 0/", with / for LF
 pub record Answers (serial : Command → Bool) (words : List (List ℕ)) (text : List ℕ) (c : Command) (s : Subject)
     (bytes : List ℕ) : Type 0 where

@@ -1,10 +1,11 @@
 -- What it is to have read what a command is asked of.
-use Rattle.std.specs.Prelude.{◌≡◌, ℕ, Bool, false, not, List, Option, None, Some, is_some, Result, Ok, Err}
+use Rattle.std.specs.Prelude.{◌≡◌, ℕ, Bool, true, false, not, List, Option, None, Some, is_some, Result, Ok, Err}
 use Rattle.bale_words.specs.declared.command.Command.{Command}
 use Rattle.bale_words.specs.declared.command.Generated.{Generated}
 use Rattle.bale_subjects.specs.declared.refusal.Refusal.{Refusal}
 use Rattle.bale_subjects.specs.declared.refusal.Refusal.TheVariants as refusal
 use Rattle.bale_subjects.specs.declared.subject.Subject.{Subject}
+use Rattle.bale_subjects.specs.Subjects.{subject_asked, suits}
 
 -- What the source told, where the command reads it: one whose matrix is generated doesn't.
 abbrev pub TellsText : Option Generated → Option (List ℕ) → List ℕ → Type 0
@@ -19,6 +20,14 @@ Told (Some c) left text = TellsText c.travel.generated left text
 abbrev pub reads : Option Command → Bool
 reads None = false
 reads (Some c) = not (is_some c.travel.generated)
+
+-- A subject of a command: a matrix or lines, as its task asks, and the one of the source's text, if
+-- the source tells that. A generated matrix is told by the command alone.
+-- For histo and a source that has "%%MatrixMarket matrix coordinate pattern general/2 2 0/" left it
+-- is the matrix of two rows, two columns and no entry.
+pub record IsSubjectOf (c : Command) (left : Option (List ℕ)) (s : Subject) : Type 0 where
+  pub suits : suits c.task s ≡ true
+  pub of_text : (text : List ℕ) → TellsText c.travel.generated left text → subject_asked c text ≡ Ok s
 
 -- A refusal that reading gives.
 abbrev pub IsOfReading : Refusal → Type 0

@@ -9,7 +9,7 @@ ghost use Rattle.bale_words.specs.Words.{command_of};
 ghost use Rattle.bale_subjects.specs.Refusals.{IsOfText};
 ghost use Rattle.bale_subjects.specs.Reading.{TellsText, Told, reads};
 ghost use Rattle.bale_subjects.specs.Fitness.{unfitness};
-ghost use Rattle.bale_subjects.specs.Reading.{IsOfReading, IsRead, OnText};
+ghost use Rattle.bale_subjects.specs.Reading.{IsOfReading, IsRead, IsSubjectOf, OnText};
 ghost use Rattle.bale_subjects.specs.Subjects.{is_tally, matrix_asked, of_lines, of_matrix, subject_asked, suits};
 
 use crate::refusal::Refusal;
@@ -52,16 +52,14 @@ pub fn subject_for<S: Source>(
     serial: bool,
 ) -> Result<Subject, Refusal>
     requires ranges { InRanges command.now }
-    ensures subject { (text : List ℕ) → Told (Some command.now) (S.left source.old) text
-        → IfOk result (λ s. subject_asked command.now text ≡ Ok s) }
-    ensures suits { IfOk result (λ s. suits command.now.task s ≡ true) }
+    ensures subject { IfOk result (λ s. IsSubjectOf command.now (S.left source.old) s) }
     ensures fits { IfOk result (λ s. unfitness command.now s serial ≡ None) }
     ensures faults { Blames (result ≡ Err Refusal.ReadFault) (S.faults source.old) (S.faults source.new) }
     ensures bad { (text : List ℕ) (b : _) → Told (Some command.now) (S.left source.old) text
         → result ≡ Err (Refusal.BadText b) → subject_asked command.now text ≡ Err (Refusal.BadText b) }
-    ensures unfit { (text : List ℕ) (u : Unfit) → Told (Some command.now) (S.left source.old) text
-        → result ≡ Err (Refusal.Unfit u)
-        → (s : Subject) × (subject_asked command.now text ≡ Ok s) × (unfitness command.now s serial ≡ Some u) }
+    ensures bad_read { (b : _) → result ≡ Err (Refusal.BadText b) → reads (Some command.now) ≡ true }
+    ensures unfit { (u : Unfit) → result ≡ Err (Refusal.Unfit u)
+        → (s : Subject) × IsSubjectOf command.now (S.left source.old) s × (unfitness command.now s serial ≡ Some u) }
     ensures kinds { IfErr result (λ r. (r ≢ Refusal.WriteFault) × (r ≢ Refusal.Usage)) }
     ensures unread { reads (Some command.now) ≡ false → source.new ≡ source.old }
     ensures read_whole { (text : List ℕ) → S.left source.old ≡ Some text → reads (Some command.now) ≡ true
@@ -88,6 +86,7 @@ fn read_subject<S: Source>(
     ensures suits { IfOk result (λ s. suits command.now.task s ≡ true) }
     ensures faults { Blames (result ≡ Err Refusal.ReadFault) (S.faults source.old) (S.faults source.new) }
     ensures kinds { IfErr result IsOfReading }
+    ensures bad_read { (b : _) → result ≡ Err (Refusal.BadText b) → reads (Some command.now) ≡ true }
     ensures unread { reads (Some command.now) ≡ false → source.new ≡ source.old }
     ensures read_whole { (text : List ℕ) → S.left source.old ≡ Some text → reads (Some command.now) ≡ true
         → OnText result (S.left source.new ≡ Some (drop 16_777_217 text)) }
@@ -130,6 +129,7 @@ fn read_matrix_of<S: Source>(
     ensures matrix { (t : _) → is_tally t ≡ false → IfOk result (λ s. suits t s ≡ true) }
     ensures faults { Blames (result ≡ Err Refusal.ReadFault) (S.faults source.old) (S.faults source.new) }
     ensures kinds { IfErr result IsOfReading }
+    ensures bad_read { (b : _) → result ≡ Err (Refusal.BadText b) → is_some band ≡ false }
     ensures unread { is_some band ≡ true → source.new ≡ source.old }
     ensures read_whole { (text : List ℕ) → S.left source.old ≡ Some text → is_some band ≡ false
         → OnText result (S.left source.new ≡ Some (drop 16_777_217 text)) }

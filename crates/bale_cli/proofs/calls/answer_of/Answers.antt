@@ -1,10 +1,9 @@
-use Rattle.std.proofs.Common.{◌≡◌, Bool, List, ℕ, Some, None, Ok, Err, refl, ap, subst}
+use Rattle.std.proofs.Common.{◌≡◌, Bool, Some, None, Err, refl, ap, subst}
 use Rattle.bale_subjects.specs.declared.subject.Subject.{Subject}
 use Rattle.bale_subjects.specs.declared.refusal.Refusal.{Refusal}
 use Rattle.bale_subjects.specs.declared.refusal.Refusal.TheVariants as refusal
 use Rattle.bale_subjects.specs.declared.unfit.Unfit.{Unfit}
-use Rattle.bale_subjects.specs.Reading.{Told}
-use Rattle.bale_subjects.specs.Subjects.{subject_asked}
+use Rattle.bale_subjects.specs.Reading.{IsSubjectOf}
 use Rattle.bale_subjects.specs.Fitness.{unfitness}
 use Rattle.bale_cli.proofs.Answering.{subject_refused, ran_answered, same_Err}
 use Rattle.bale_cli.proofs.calls.answer_of.Goals as goal
@@ -20,7 +19,8 @@ returns-in-Err g c =
     subject_refused c.args.command.now c.in-Err.refusal (λ e. c.in-Err.ensures.faults.cause (ap (λ (r : Refusal). Err r) e))
     (λ other. c.in-Err.ensures.faults.no_fault (λ e. other (same_Err c.in-Err.refusal refusal.ReadFault e)))
     (λ text b told e. c.in-Err.ensures.bad text b told (ap (λ (r : Refusal). Err r) e))
-    (subst (λ (s : Bool). (text : List ℕ) (u : Unfit) → Told (Some c.args.command.now) (g.S.Source.left c.args.source.now) text → c.in-Err.refusal ≡ refusal.Unfit u
-    → (x : Subject) × (subject_asked c.args.command.now text ≡ Ok x) × (unfitness c.args.command.now x s ≡ Some u)) c.drives_serially-serial.ensures
-    (λ text u told e. c.in-Err.ensures.unfit text u told (ap (λ (r : Refusal). Err r) e)))
+    (λ b e. c.in-Err.ensures.bad_read b (ap (λ (r : Refusal). Err r) e))
+    (subst (λ (s : Bool). (u : Unfit) → c.in-Err.refusal ≡ refusal.Unfit u
+    → (x : Subject) × IsSubjectOf c.args.command.now (g.S.Source.left c.args.source.now) x × (unfitness c.args.command.now x s ≡ Some u)) c.drives_serially-serial.ensures
+    (λ u e. c.in-Err.ensures.unfit u (ap (λ (r : Refusal). Err r) e)))
     c.in-Err.ensures.kinds c.subject_for.ensures.unread c.in-Err.ensures.read_bad refl

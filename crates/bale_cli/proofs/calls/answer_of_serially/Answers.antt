@@ -17,11 +17,11 @@ pub returns-in-Ok-clause-turns : goal.returns-in-Ok-clause-turns
 returns-in-Ok-clause-turns g c =
     record {
       bounded = λ text command m asked.
-          let e = same_asked c.args.command.now c.in-Ok.subject text command m c.in-Ok.ensures.subject asked in
+          let e = same_asked c.args.command.now c.in-Ok.subject text command m c.in-Ok.ensures.subject.of_text asked in
           subst (λ (y : Subject). TurnsOfCommand command y c.args.steps.now c.run_serially.new.steps) e.1
           (subst (λ (x : Command). TurnsOfCommand x c.in-Ok.subject c.args.steps.now c.run_serially.new.steps) e.0 c.run_serially.ensures.steps);
       idle = λ text told none.
-          absurd (none c.args.command.now c.in-Ok.subject (record { asked = refl; told = told; subject = c.in-Ok.ensures.subject text told; fits = c.in-Ok.ensures.fits }));
+          absurd (none c.args.command.now c.in-Ok.subject (record { asked = refl; told = told; subject = c.in-Ok.ensures.subject.of_text text told; fits = c.in-Ok.ensures.fits }));
     }
 
 pub returns-in-Ok-clause-no_turns : goal.returns-in-Ok-clause-no_turns
@@ -31,7 +31,8 @@ pub returns-in-Err-clause-answered : goal.returns-in-Err-clause-answered
 returns-in-Err-clause-answered g c =
     subject_refused c.args.command.now c.in-Err.refusal (λ e. c.in-Err.ensures.faults.cause (ap (λ (r : Refusal). Err r) e))
     (λ other. c.in-Err.ensures.faults.no_fault (λ e. other (same_Err c.in-Err.refusal refusal.ReadFault e)))
-    (λ text b told e. c.in-Err.ensures.bad text b told (ap (λ (r : Refusal). Err r) e)) (λ text u told e. c.in-Err.ensures.unfit text u told (ap (λ (r : Refusal). Err r) e))
+    (λ text b told e. c.in-Err.ensures.bad text b told (ap (λ (r : Refusal). Err r) e)) (λ b e. c.in-Err.ensures.bad_read b (ap (λ (r : Refusal). Err r) e))
+    (λ u e. c.in-Err.ensures.unfit u (ap (λ (r : Refusal). Err r) e))
     c.in-Err.ensures.kinds c.subject_for.ensures.unread c.in-Err.ensures.read_bad refl
 
 pub returns-in-Err-clause-turns : goal.returns-in-Err-clause-turns
@@ -39,7 +40,7 @@ returns-in-Err-clause-turns g c = record { bounded = λ text command m asked. no
 
 pub returns-in-Ok-clause-fewest : goal.returns-in-Ok-clause-fewest
 returns-in-Ok-clause-fewest g c = λ text command m asked ok.
-    let e = same_asked c.args.command.now c.in-Ok.subject text command m c.in-Ok.ensures.subject asked in
+    let e = same_asked c.args.command.now c.in-Ok.subject text command m c.in-Ok.ensures.subject.of_text asked in
     subst (λ (y : Subject). FewestOfCommand command y c.args.steps.now c.run_serially.new.steps) e.1
     (subst (λ (x : Command). FewestOfCommand x c.in-Ok.subject c.args.steps.now c.run_serially.new.steps) e.0
     (when_ok c.run_serially.result (FewestOfCommand c.args.command.now c.in-Ok.subject c.args.steps.now c.run_serially.new.steps) c.run_serially.ensures.fewest ok))

@@ -69,3 +69,23 @@ one_taken f all done done' left left' y x t s d e n =
 
 pub all_taken : {X Y : Type 0} (f : X → Y) (all : List Y) (done : List X) (left : List Y) → Taken f all done left → slice_get left 0 ≡ None → all ≡ map f done
 all_taken f all done left t n = t.parts ∙ (ap (λ l. map f done ++ l) (none_left left n) ∙ append-nil (map f done))
+
+-- Some were moved from the front of a list to the end of another, which was empty.
+pub record Moved {X : Type 0} (all done left : List X) : Type 0 where
+  pub parts : all ≡ done ++ left
+
+pub none_moved : {X : Type 0} (all : List X) → Moved all [] all
+none_moved all = record { parts = refl }
+
+pub one_moved : {X : Type 0} (all done done' left left' : List X) (x : X) → Moved all done left → slice_get left 0 ≡ Some x → left' ≡ drop 1 left
+    → done' ≡ done ++ x ∷ [] → Moved all done' left'
+one_moved all done done' left left' x m s d e =
+    record {
+      parts =
+          m.parts
+          ∙ (ap (λ l. done ++ l) (first_is left x s)
+          ∙ (sym (append_assoc done (x ∷ []) (drop 1 left)) ∙ (ap (λ z. z ++ drop 1 left) (sym e) ∙ ap (λ l. done' ++ l) (sym d))));
+    }
+
+pub all_moved : {X : Type 0} (all done left : List X) → Moved all done left → slice_get left 0 ≡ None → done ≡ all
+all_moved all done left m n = sym (m.parts ∙ (ap (λ l. done ++ l) (none_left left n) ∙ append-nil done))

@@ -4,10 +4,10 @@ ghost use Rattle.std.specs.Prelude.{◌≡◌, ℕ, List};
 ghost use Rattle.round_program.specs.Injections.{Injects};
 ghost use Rattle.app_cases.specs.Any.{AnyState, any_rules};
 
+use crate::tally_case::TallyCase;
 use app_histo_ig::{Histo, Ig, IgSums};
 use app_permute::{Permute, Transpose};
 use app_sssp::Sssp;
-use app_tally::TallyMailer;
 use app_topo::Topo;
 use delta_step::Delta;
 use either::{Either, Left, Right};
@@ -16,7 +16,7 @@ use round_program::Program;
 /// Any of the applications: ig whole or its sums alone, and tally in its mailer.
 pub type AnyProgram = Either<
     Either<Histo, Either<Ig, IgSums>>,
-    Either<Either<Permute, Transpose>, Either<Either<Topo, TallyMailer>, Either<Sssp, Delta>>>,
+    Either<Either<Permute, Transpose>, Either<Either<Topo, TallyCase>, Either<Sssp, Delta>>>,
 >;
 
 /// A program that is one of the applications.
@@ -164,7 +164,7 @@ impl Case for Topo {
     }
 }
 
-impl Case for TallyMailer {
+impl Case for TallyCase {
     ghost use Rattle.app_cases.specs.Any.{tally_way};
 
     ghost case_of = { tally_way.case };
@@ -177,7 +177,7 @@ impl Case for TallyMailer {
         Right(Right(Left(Right(self))))
     }
 
-    fn taken(any: AnyProgram) -> TallyMailer {
+    fn taken(any: AnyProgram) -> TallyCase {
         match any {
             Right(Right(Left(Right(tally)))) => tally,
             _ => unreachable!(),

@@ -7,13 +7,16 @@
 //! |---|---|
 //! | `AnyProgram` | any of the applications |
 //! | `Case` | one of them |
+//! | `TallyCase` | a mailer of tally as one of them |
 //! | `put_all`, `take_all` | the programs of one application as any of them, and out again |
 //!
 //! `specs/Any` has the tree, and the way to each leaf.
 #![tactic(auto)]
 
 mod case;
+mod tally_case;
 mod ways;
 
 pub use case::{AnyProgram, Case};
+pub use tally_case::TallyCase;
 pub use ways::{put_all, take_all};

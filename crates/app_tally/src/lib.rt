@@ -20,7 +20,6 @@
 
 mod counts;
 mod lines;
-mod mailer;
 mod numbered;
 mod read;
 mod rounds;
@@ -31,7 +30,6 @@ mod write;
 
 pub use counts::Counts;
 pub use lines::{Lines, LinesFault};
-pub use mailer::TallyMailer;
 pub use read::read_lines;
 pub use rounds::tally_rounds;
 pub use run::{tally_end, tally_start};

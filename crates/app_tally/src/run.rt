@@ -13,7 +13,6 @@ ghost use Rattle.app_tally.specs.TallyRuns.{own_lines, tally_begins, tally_start
 
 use crate::counts::{Counts, tally_all};
 use crate::lines::Lines;
-use crate::mailer::TallyMailer;
 use crate::numbered::{Numbered, numbered};
 use crate::strings::Strings;
 use crate::tally::Tally;
@@ -27,7 +26,7 @@ use std::alloc::Global;
 /// # Errors
 ///
 /// `NoMemory` where there was none for the programs.
-pub fn tally_start(alloc: Global, lines: &Lines, ranks: u32) -> Result<Progs<TallyMailer>, NoMemory>
+pub fn tally_start(alloc: Global, lines: &Lines, ranks: u32) -> Result<Progs<Mailer<Tally>>, NoMemory>
     requires { AreRanks ranks }
     ensures starts { IfOk result (λ ps. ps ≡ tally_starts ranks lines.now) }
     ensures begins { IfOk result (λ ps. InRound (mail_rules tally_rules) ranks 0 [] 1 ps) }
@@ -42,14 +41,13 @@ pub fn tally_start(alloc: Global, lines: &Lines, ranks: u32) -> Result<Progs<Tal
 }
 
 /// One rank's program.
-fn part_of(alloc: Global, lines: &Lines, ranks: u32, rank: u32) -> Result<TallyMailer, NoMemory>
+fn part_of(alloc: Global, lines: &Lines, ranks: u32, rank: u32) -> Result<Mailer<Tally>, NoMemory>
     requires { IsRankOf ranks rank }
     ensures { IfOk result (λ m. m ≡ mailing tally_rules (tally_begins ranks lines.now rank)) }
 {
     lines.known();
     let own = own_of(alloc, lines, ranks, rank)?;
-    let mailer = Mailer::new(alloc, Tally::new(alloc, rank, ranks, own))?;
-    Ok(TallyMailer::new(mailer))
+    Mailer::new(alloc, Tally::new(alloc, rank, ranks, own))
 }
 
 /// The lines of a rank.
@@ -80,7 +78,7 @@ fn how_many(len: usize, step: usize, first: usize) -> usize
 /// # Errors
 ///
 /// `NoMemory` where there was none for the answer.
-pub fn tally_end(alloc: Global, p: &Progs<TallyMailer>) -> Result<Counts, NoMemory>
+pub fn tally_end(alloc: Global, p: &Progs<Mailer<Tally>>) -> Result<Counts, NoMemory>
     ensures counts { (lines : List (List ℕ)) → TallyEnded lines p.now → IfOk result (λ c. c ≡ tally_of lines) }
     ensures each { (lines : List (List ℕ)) → TallyEnded lines p.now → IfOk result (λ c. IsTally lines c) }
 {
@@ -89,7 +87,7 @@ pub fn tally_end(alloc: Global, p: &Progs<TallyMailer>) -> Result<Counts, NoMemo
 }
 
 /// The lines that came to all ranks.
-fn all_came(alloc: Global, p: &Progs<TallyMailer>) -> Result<Vec<Numbered<'_>>, NoMemory>
+fn all_came(alloc: Global, p: &Progs<Mailer<Tally>>) -> Result<Vec<Numbered<'_>>, NoMemory>
     ensures times { (lines : List (List ℕ)) → TallyEnded lines p.now
         → IfOk result (λ all. (q : List ℕ) → times q (map (λ l. l.1.now) all.items) ≡ times q lines) }
     ensures letters { IfOk result (λ all. All IsLetter (map (λ l. l.1.now) all.items)) }
@@ -106,7 +104,7 @@ fn all_came(alloc: Global, p: &Progs<TallyMailer>) -> Result<Vec<Numbered<'_>>, 
 }
 
 /// How many lines came to all ranks, for which room is made at once.
-fn how_many_came(p: &Progs<TallyMailer>) -> usize {
+fn how_many_came(p: &Progs<Mailer<Tally>>) -> usize {
     let mut count = 0usize;
     for rank in 0..p.len() {
         let Some(program) = p.get(rank) else {

@@ -8,7 +8,8 @@ ghost use Rattle.app_tally.specs.Tallies.{tally_rules};
 ghost use Rattle.app_tally.specs.TallyRuns.{tally_starts};
 
 use crate::application::{Application, Written};
-use app_tally::{Counts, Lines, TallyMailer, tally_end, tally_start, tally_write};
+use app_cases::TallyCase;
+use app_tally::{Counts, Lines, tally_end, tally_start, tally_write};
 use bale_items::NoMemory;
 use bale_types::{Failed, Out, Sink};
 use round_program::Progs;
@@ -57,7 +58,7 @@ impl Application for TallyAnswer {
     ghost use Rattle.bale_answers.specs.Tasks.{begun_with};
     ghost use Rattle.app_tally.specs.TallyRuns.{tally_starts};
 
-    type Prog = TallyMailer;
+    type Prog = TallyCase;
 
     ghost starts = { λ _. tally_starts };
 
@@ -68,21 +69,22 @@ impl Application for TallyAnswer {
         options: &(),
         lines: &Lines,
         ranks: u32,
-    ) -> Result<Progs<TallyMailer>, NoMemory> {
-        tally_start(alloc, lines, ranks)
+    ) -> Result<Progs<TallyCase>, NoMemory> {
+        TallyCase::wrap_all(alloc, tally_start(alloc, lines, ranks)?)
     }
 
     fn end(
         alloc: Global,
         options: &(),
         lines: &Lines,
-        progs: Progs<TallyMailer>,
+        progs: Progs<TallyCase>,
     ) -> Result<Counts, NoMemory>
         requires ended { (ranks : ℕ) × (1 ≤ ranks) × (ranks ≤ 64)
             × HaveEnded (mail_rules tally_rules) (tally_starts ranks lines.now) progs }
         ensures { IfOk result (λ counts. counts ≡ tally_of lines.now) }
     {
         lines.known();
-        tally_end(alloc, &progs)
+        let mailers = TallyCase::unwrap_all(alloc, progs)?;
+        tally_end(alloc, &mailers)
     }
 }

@@ -159,11 +159,11 @@ fn code_of_phase(phase: Option<Phase>) -> i32
     ensures { result ≡ phase_code phase }
 {
     match phase {
-        Some(Phase::Dormant) => 0,
-        Some(Phase::Working) => 1,
-        Some(Phase::Endgame) => 2,
-        Some(Phase::Cleanup) => 3,
-        Some(Phase::Complete) => 4,
+        Some(Phase::Dormant) => 100,
+        Some(Phase::Working) => 101,
+        Some(Phase::Endgame) => 102,
+        Some(Phase::Cleanup) => 103,
+        Some(Phase::Complete) => 104,
         None => Answer::Gone.code(),
     }
 }

@@ -28,13 +28,13 @@ code_of InUse = negsuc 8
 code_of RankTaken = negsuc 9
 code_of NoMoreEpochs = negsuc 10
 
--- Of each phase.
+-- Of each phase: from 100 up, so that none is an answer's number.
 abbrev pub code_of_phase : Phase → ℤ
-code_of_phase phase.Dormant = pos 0
-code_of_phase phase.Working = pos 1
-code_of_phase phase.Endgame = pos 2
-code_of_phase phase.Cleanup = pos 3
-code_of_phase phase.Complete = pos 4
+code_of_phase phase.Dormant = pos 100
+code_of_phase phase.Working = pos 101
+code_of_phase phase.Endgame = pos 102
+code_of_phase phase.Cleanup = pos 103
+code_of_phase phase.Complete = pos 104
 
 -- Of the phase of a handle's rank, if there is one.
 abbrev pub phase_code : Option Phase → ℤ

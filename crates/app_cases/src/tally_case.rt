@@ -1,21 +1,22 @@
-//! tally in its mailer.
+//! tally as one of the applications.
 
-ghost use Rattle.std.specs.Prelude.{◌≡◌};
+ghost use Rattle.std.specs.Prelude.{◌≡◌, IfOk};
 
-use crate::tally::Tally;
+use app_tally::Tally;
 use bale_items::{Item, NoMemory};
 use elastic::Mailer;
-use round_program::Program;
+use round_program::{Program, Progs};
+use std::alloc::Global;
 use std::marker::Model;
 
-/// One rank of tally with its mailer: the program that is driven. It is a type without parameters, so that it can be one of
-/// several applications where those are told apart by their types.
+/// A mailer of tally, as the same program under a type without parameters: `Case` can't be implemented for `Mailer<Tally>`,
+/// an instance of a generic type.
 #[derive(Drop)]
-pub struct TallyMailer {
+pub struct TallyCase {
     mailer: Mailer<Tally>,
 }
 
-impl Model for TallyMailer {
+impl Model for TallyCase {
     ghost use Rattle.elastic.specs.Mails.{MailState};
     ghost use Rattle.app_tally.specs.Tallies.{TallyState};
 
@@ -24,23 +25,43 @@ impl Model for TallyMailer {
     ghost view = { λ m. m.mailer };
 }
 
-impl TallyMailer {
-    /// The program of a mailer.
-    pub(crate) fn new(mailer: Mailer<Tally>) -> TallyMailer
-        ensures { result ≡ mailer }
+impl TallyCase {
+    /// The mailers, in their order, each as one of the applications.
+    ///
+    /// # Errors
+    /// `NoMemory` if there was none for the list. The mailers are dropped.
+    pub fn wrap_all(
+        alloc: Global,
+        mut mailers: Progs<Mailer<Tally>>,
+    ) -> Result<Progs<TallyCase>, NoMemory>
+        ensures { IfOk result (λ cases. cases ≡ mailers) }
     {
-        TallyMailer { mailer }
+        let mut all = Progs::new(alloc);
+        while let Some(mailer) = mailers.take_first() {
+            all.add(TallyCase { mailer })?;
+        }
+        Ok(all)
     }
 
-    /// The rank of tally.
-    pub fn inner(&self) -> &Tally
-        ensures { result.now ≡ self.now.inner }
+    /// The mailers that `wrap_all` took, in their order.
+    ///
+    /// # Errors
+    /// `NoMemory` if there was none for the list. The mailers are dropped.
+    pub fn unwrap_all(
+        alloc: Global,
+        mut cases: Progs<TallyCase>,
+    ) -> Result<Progs<Mailer<Tally>>, NoMemory>
+        ensures { IfOk result (λ mailers. mailers ≡ cases) }
     {
-        self.mailer.inner()
+        let mut all = Progs::new(alloc);
+        while let Some(case) = cases.take_first() {
+            all.add(case.mailer)?;
+        }
+        Ok(all)
     }
 }
 
-impl Program for TallyMailer {
+impl Program for TallyCase {
     ghost use Rattle.elastic.specs.Mails.{mail_rules};
     ghost use Rattle.elastic.specs.laws.MailLaws.{mail_laws};
     ghost use Rattle.app_tally.specs.Tallies.{tally_rules};

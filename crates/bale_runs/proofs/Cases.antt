@@ -1,5 +1,6 @@
 -- What a drive tells of the programs as any of the applications, it tells of the application's own.
-use Rattle.std.proofs.Common.{ℕ, ◌≡◌, ◌<◌, ◌≤◌, ◌+◌, ◌*◌, List, [], ◌∷◌, map, length, Option, Result, Ok, Err, IfOk, refl, sym, ap, ◌∙◌, subst, arith}
+use Rattle.std.proofs.Common.{ℕ, ◌≡◌, ◌<◌, ◌≤◌, ◌+◌, ◌*◌, Bool, List, [], ◌∷◌, map, length, Option, Result, Ok, Err, IfOk, OnOk, refl, sym, ap, ◌∙◌, subst, arith}
+use Rattle.std.specs.List.{range_with_len}
 use Rattle.std.proofs.lemmas.List.{length-map}
 use Rattle.route_tensor.specs.Grid.{ranks}
 use Rattle.round_program.specs.Rules.{Rules}
@@ -10,7 +11,7 @@ use Rattle.rank_group.specs.declared.closed_round.ClosedRound.{ClosedRound}
 use Rattle.rank_node.specs.Movers.{Manner}
 use Rattle.rank_group.specs.declared.drive.Finished.{Finished}
 use Rattle.rank_group.specs.Told.{Made, turns_within}
-use Rattle.rank_group.specs.Driven.{HasFinished, WithinTurns}
+use Rattle.rank_group.specs.Driven.{HasFinished, HasSwept, ToldOfTurns, WithinTurns}
 use Rattle.bale_words.specs.declared.task.Task.{Task}
 use Rattle.app_cases.specs.Any.{AnyState, any_rules}
 use Rattle.app_cases.proofs.Driving.{steps, are_cases, ended, rounds}
@@ -21,7 +22,7 @@ use Rattle.bale_words.specs.declared.command.Command.{Command}
 use Rattle.bale_runs.specs.RunEnds.{IsRunEnd}
 use Rattle.bale_subjects.specs.declared.subject.Subject.{Subject}
 use Rattle.bale_answers.specs.Tasks.{plan_of, way_of, starts_of}
-use Rattle.bale_runs.specs.Runs.{HaveRun, Tells, TellsTask, IsTaskRun, TurnsOfTask, BeyondTurns, FewestOfTask}
+use Rattle.bale_runs.specs.Runs.{HaveRun, SweptInOrder, Tells, TellsTask, IsTaskRun, TurnsOfTask, BeyondTurns, FewestOfTask}
 
 pub tells : {S : Type 0} {R : Rules S} {i : S → AnyState} {w : List ℕ → List ℕ} → Injects R any_rules i w → (starts : List S) (ps : List AnyState) (made : Made) (manner : Manner)
     (run : Finished AnyState) → ps ≡ map i starts → 0 < length ps → HasFinished any_rules ps made manner run → Tells R starts made manner run.rounds
@@ -66,16 +67,48 @@ pub turns_of_task : (t : Task) (s : Subject) (manner : Manner) (dims : List ℕ)
 unfolding starts_of
 turns_of_task t s manner dims before after ps put some f = turns (way_of t s).is_case ((plan_of t s).starts (ranks dims)) ps manner dims before after put some f
 
+-- the programs of a list as any of the applications, for as many rounds
+rounds_as_any : {S : Type 0} {R : Rules S} {i : S → AnyState} {w : List ℕ → List ℕ} → Injects R any_rules i w → (starts : List S) (ps : List AnyState) (n : ℕ)
+    → ps ≡ map i starts → 0 < length ps → HasRounds R starts n → HasRounds any_rules ps n
+rounds_as_any {R = R} {i = i} {w = w} case starts ps n put some h =
+    subst (λ a. HasRounds any_rules a n) (sym put) ((same_runs R any_rules i w case).has_rounds starts n (subst (λ k. 0 < k) (ap length put ∙ length-map starts i) some) h)
+
 pub fewest : {S : Type 0} {R : Rules S} {i : S → AnyState} {w : List ℕ → List ℕ} → Injects R any_rules i w → (starts : List S) (ps : List AnyState) (dims : List ℕ) (before after : ℕ)
     → ps ≡ map i starts → 0 < length ps → ((n : ℕ) → HasRounds any_rules ps n → before + 2 * n * ranks dims ≤ after) → BeyondTurns R starts dims before after
-fewest {R = R} {i = i} {w = w} case starts ps dims before after put some f n h =
-    f n (subst (λ a. HasRounds any_rules a n) (sym put) ((same_runs R any_rules i w case).has_rounds starts n (subst (λ k. 0 < k) (ap length put ∙ length-map starts i) some) h))
+fewest case starts ps dims before after put some f n h = f n (rounds_as_any case starts ps n put some h)
 
 -- the fewest turns of a task's run
 pub fewest_of_task : (t : Task) (s : Subject) (dims : List ℕ) (before after : ℕ) (ps : List AnyState)
     → ps ≡ starts_of t (ranks dims) s → 0 < length ps → ((n : ℕ) → HasRounds any_rules ps n → before + 2 * n * ranks dims ≤ after) → FewestOfTask t s dims before after
 unfolding starts_of
 fewest_of_task t s dims before after ps put some f = fewest (way_of t s).is_case ((plan_of t s).starts (ranks dims)) ps dims before after put some f
+
+-- what the gate was told of the turns
+pub told_turns : {S : Type 0} {R : Rules S} {i : S → AnyState} {w : List ℕ → List ℕ} → Injects R any_rules i w → (starts : List S) (ps : List AnyState) (dims : List ℕ) (told : ℕ → ℕ → Bool)
+    → ps ≡ map i starts → 0 < length ps → ToldOfTurns any_rules ps dims told → ToldOfTurns R starts dims told
+told_turns case starts ps dims told put some f n r m h low few = f n r m (rounds_as_any case starts ps n put some h) low few
+
+pub told_of_task : (t : Task) (s : Subject) (dims : List ℕ) (told : ℕ → ℕ → Bool) (ps : List AnyState)
+    → ps ≡ starts_of t (ranks dims) s → 0 < length ps → ToldOfTurns any_rules ps dims told → ToldOfTurns (plan_of t s).rules ((plan_of t s).starts (ranks dims)) dims told
+unfolding starts_of
+told_of_task t s dims told ps put some f = told_turns (way_of t s).is_case ((plan_of t s).starts (ranks dims)) ps dims told put some f
+
+-- the sweeps of a drive that was given the order 0, 1, .., P-1
+pub swept_in_order : (starts ps : List AnyState) (made : Made) (manner manner' : Manner) (order : List ℕ) (before after : ℕ) (run : Finished AnyState)
+    → ps ≡ starts → order ≡ range_with_len 0 (ranks made.dims) → manner ≡ manner' → HasSwept any_rules ps made manner order before after run
+    → SweptInOrder starts made manner' before after run.rounds
+swept_in_order starts ps made manner manner' order before after run put o m h =
+    record {
+      run = run;
+      left = refl;
+      swept = subst (λ v. HasSwept any_rules starts made v (range_with_len 0 (ranks made.dims)) before after run) m
+          (subst (λ l. HasSwept any_rules starts made manner l before after run) o (subst (λ qs. HasSwept any_rules qs made manner order before after run) put h));
+    }
+
+-- what follows of a result that is there
+pub on_ok : {T E : Type 0} (r : Result T E) (P Q : Type 0) → (P → Q) → OnOk r P → OnOk r Q
+on_ok (Ok x) P Q f p = f p
+on_ok (Err e) P Q f p = tt
 
 -- what holds in any case
 pub always : {T E : Type 0} (r : Result T E) (P : Type 0) → P → IfOk r (λ x. P)

@@ -45,5 +45,9 @@ below_all n order v =
 in_order : (n : ℕ) → IsOrder n (range_with_len 0 n)
 in_order n = below_all n (range_with_len 0 n) (below_range n)
 
+-- the order that a list of all ranks is
+pub by_number : (n p : ℕ) (order : List ℕ) → order ≡ range_with_len 0 n → n ≡ p → order ≡ range_with_len 0 p
+by_number n p order e same = e ∙ ap (range_with_len 0) same
+
 pub ordered : (n p : ℕ) (order : List ℕ) → order ≡ range_with_len 0 n → n ≡ p → IsOrder p order
 ordered n p order e same = subst (λ m. IsOrder m order) same (subst (λ (ranks : List ℕ). IsOrder n ranks) (sym e) (in_order n))

@@ -1,6 +1,6 @@
 -- What a command exchanges, and how many turns that takes on one thread: by queries and replies for
 -- ig over biconvey, else in the rounds of its programs.
-use Rattle.std.specs.Prelude.{◌≡◌, ◌≤◌, ◌+◌, ◌*◌, ℕ, Bool, true, false, List, [], ◌∷◌, map, length}
+use Rattle.std.specs.Prelude.{◌≡◌, ◌<◌, ◌≤◌, ◌+◌, ◌*◌, ◌++◌, ℕ, Bool, true, false, List, [], ◌∷◌, map, length}
 use Rattle.route_tensor.specs.Grid.{ranks}
 use Rattle.mtx_text.specs.Sparse.{Sparse}
 use Rattle.rank_node.specs.Movers.{manner_of}
@@ -9,6 +9,7 @@ use Rattle.rank_group.specs.declared.closed_round.ClosedRound.{ClosedRound}
 use Rattle.rank_group.specs.declared.drive.Finished.{Finished}
 use Rattle.rank_group.specs.Rounds.{round_of}
 use Rattle.rank_group.specs.Told.{Made, turns_within}
+use Rattle.rank_group.specs.Driven.{ToldOfTurns}
 use Rattle.round_program.specs.Canonical.{HaveEnded}
 use Rattle.app_cases.specs.Any.{AnyState, any_rules, sums_way}
 use Rattle.app_histo_ig.specs.Sums.{sums_rules}
@@ -22,7 +23,8 @@ use Rattle.bale_words.specs.declared.command.Command.{Command}
 use Rattle.bale_subjects.specs.declared.subject.Subject.{Subject}
 use Rattle.bale_subjects.specs.declared.subject.Subject.TheVariants as subject
 use Rattle.bale_runs.specs.Jobs.{by_asking, manner_for}
-use Rattle.bale_runs.specs.Runs.{made_for, Tells, TellsTask, TurnsOfTask, FewestOfTask}
+use Rattle.bale_answers.specs.Tasks.{plan_of, starts_of}
+use Rattle.bale_runs.specs.Runs.{made_for, SweptInOrder, Tells, TellsTask, TurnsOfTask, FewestOfTask}
 
 -- Two closed rounds tell the queries, of each entry's rank for its column, and the replies, over two banks of one make.
 pub record TellsReplies (m : Sparse) (made : Made) (steady : Bool) (rounds : List ClosedRound) : Type 0 where
@@ -93,3 +95,33 @@ FewestBy false c s before after = FewestOfTask c.task s c.grid before after
 -- The fewest turns of a command on its subject, all ranks on one thread.
 abbrev pub FewestOfCommand : Command → Subject → ℕ → ℕ → Type 0
 FewestOfCommand c s before after = FewestBy (by_asking c) c s before after
+
+-- By queries and replies the first turns are those of the round of sums, made in sweeps in the order 0, 1, .., P-1.
+pub record SumsSwept (m : Sparse) (made : Made) (steady : Bool) (before after : ℕ) (rounds : List ClosedRound) : Type 0 where
+  pub between : ℕ
+  pub low : between ≤ after
+  pub sums : List ClosedRound
+  pub rest : List ClosedRound
+  pub parts : rounds ≡ sums ++ rest
+  pub swept : SweptInOrder (map sums_way.case (sums_starts (ranks made.dims) m)) made
+      (manner_of via.Convey steady) before between sums
+
+abbrev pub SweptBy : Bool → Command → Subject → ℕ → ℕ → List ClosedRound → Type 0
+SweptBy true c (subject.Matrix m) before after rounds =
+    SumsSwept m (made_for true c) c.travel.steady before after rounds
+SweptBy true c (subject.Lines lines) before after rounds = ⊥
+SweptBy false c s before after rounds =
+    SweptInOrder (starts_of c.task (ranks c.grid) s) (made_for true c) (manner_for c) before after rounds
+
+-- The sweeps of a command on its subject, all ranks on one thread.
+abbrev pub SweptOfCommand : Command → Subject → ℕ → ℕ → List ClosedRound → Type 0
+SweptOfCommand c s before after rounds = SweptBy (by_asking c) c s before after rounds
+
+-- `told` holds of the turns of each rank, by the rank's number and its own, counted from 0: by
+-- queries and replies of the two that the round of sums takes at least, else of two in each round.
+abbrev pub ToldBy : Bool → Command → Subject → (ℕ → ℕ → Bool) → Type 0
+ToldBy true c s told = (r m : ℕ) → r < ranks c.grid → m < 2 → told r m ≡ true
+ToldBy false c s told = ToldOfTurns (plan_of c.task s).rules ((plan_of c.task s).starts (ranks c.grid)) c.grid told
+
+abbrev pub ToldOfCommand : Command → Subject → (ℕ → ℕ → Bool) → Type 0
+ToldOfCommand c s told = ToldBy (by_asking c) c s told

@@ -1,5 +1,6 @@
 -- Which programs a command runs for its answer, what the rounds tell of them, and how many turns they take.
-use Rattle.std.specs.Prelude.{◌≡◌, ◌<◌, ◌≤◌, ◌+◌, ◌*◌, ℕ, Bool, not, List, [], ◌∷◌, length}
+use Rattle.std.specs.Prelude.{◌≡◌, ◌<◌, ◌≤◌, ◌+◌, ◌*◌, ℕ, Bool, true, not, List, [], ◌∷◌, length}
+use Rattle.std.specs.List.{range_with_len}
 use Rattle.route_tensor.specs.Grid.{ranks}
 use Rattle.round_program.specs.Rules.{Rules}
 use Rattle.round_program.specs.Canonical.{HasRounds, HaveEnded}
@@ -8,7 +9,7 @@ use Rattle.rank_group.specs.Rounds.{round_of}
 use Rattle.rank_node.specs.Movers.{Manner}
 use Rattle.rank_group.specs.declared.drive.Finished.{Finished}
 use Rattle.rank_group.specs.Told.{Made, TellsRun}
-use Rattle.rank_group.specs.Driven.{WithinTurns}
+use Rattle.rank_group.specs.Driven.{HasSwept, WithinTurns}
 use Rattle.bale_words.specs.declared.command.Command.{Command}
 use Rattle.bale_words.specs.declared.task.Task.{Task}
 use Rattle.app_cases.specs.Any.{AnyState, any_rules}
@@ -62,3 +63,11 @@ BeyondTurns R starts dims before after = (n : ℕ) → HasRounds R starts n → 
 abbrev pub FewestOfTask : Task → Subject → List ℕ → ℕ → ℕ → Type 0
 FewestOfTask t s dims before after =
     BeyondTurns (plan_of t s).rules ((plan_of t s).starts (ranks dims)) dims before after
+
+-- On one thread the ranks of these programs made their turns in sweeps, each in the order 0, 1, ..,
+-- P-1, and no other turn; the rounds tell what these turns left.
+pub record SweptInOrder (starts : List AnyState) (made : Made) (manner : Manner) (before after : ℕ)
+    (rounds : List ClosedRound) : Type 0 where
+  pub run : Finished AnyState
+  pub left : run.rounds ≡ rounds
+  pub swept : HasSwept any_rules starts made manner (range_with_len 0 (ranks made.dims)) before after run

@@ -12,10 +12,10 @@ ghost use Rattle.app_histo_ig.specs.SumsRuns.{sums_starts};
 ghost use Rattle.app_histo_ig.specs.AskingRuns.{AreAskersOf};
 ghost use Rattle.app_histo_ig.specs.ColumnAnswers.{IgHeard};
 ghost use Rattle.bale_words.specs.Ranges.{InRanges};
-ghost use Rattle.bale_runs.specs.Asking.{HasSummed, HasAsked, TellsBy, TurnsBy, TurnsOfAsking, FewestBy};
+ghost use Rattle.bale_runs.specs.Asking.{HasSummed, HasAsked, SumsSwept, SweptBy, TellsBy, ToldBy, TurnsBy, TurnsOfAsking, FewestBy};
 ghost use Rattle.bale_runs.specs.RunEnds.{Fits, IsRunEnd};
 ghost use Rattle.bale_runs.specs.Jobs.{by_asking};
-ghost use Rattle.bale_runs.specs.Runs.{made_for};
+ghost use Rattle.bale_runs.specs.Runs.{made_for, SweptInOrder};
 
 use crate::exchange::RunEnd;
 use app_cases::{AnyProgram, put_all, take_all};
@@ -49,6 +49,7 @@ pub(crate) fn ask_serially<K: Sink, L: Ledger>(
         (made_for true command.now)) K.taken K.faults out.old out.new result }
     ensures steps { TurnsBy true command.now subject.now steps.old steps.new }
     ensures fewest { IfOk result (λ f. FewestBy true command.now subject.now steps.old steps.new) }
+    ensures swept { IfOk result (λ f. SweptBy true command.now subject.now steps.old steps.new f.rounds) }
 {
     match subject {
         Subject::Matrix(m) => ask_matrix_serially(alloc, command, m, out, steps),
@@ -69,6 +70,7 @@ pub(crate) fn ask_on_threads<R: Threads + Wait + Sync, K: Sink, G: Gate + Sync>(
     requires fit { Fits command.now subject.now false }
     ensures finish { IsRunEnd command.now subject.now (TellsBy true command.now subject.now
         (made_for false command.now)) K.taken K.faults out.old out.new result }
+    ensures told { OnOk result (ToldBy true command.now subject.now (G.told gate.now)) }
 {
     match subject {
         Subject::Matrix(m) => ask_matrix_on_threads(rt, alloc, command, m, out, gate),
@@ -91,6 +93,8 @@ fn ask_matrix_serially<K: Sink, L: Ledger>(
     ensures steps { TurnsOfAsking m.now command.now.travel.steady command.now.grid
         steps.old steps.new }
     ensures fewest { IfOk result (λ f. steps.old + 3 * ranks command.now.grid ≤ steps.new) }
+    ensures swept { IfOk result (λ f. SumsSwept m.now (made_for true command.now) command.now.travel.steady
+        steps.old steps.new f.rounds) }
 {
     let summed = sum_serially(alloc, command, m, steps)?;
     let Finished {
@@ -114,6 +118,7 @@ fn ask_matrix_on_threads<R: Threads + Wait + Sync, K: Sink, G: Gate + Sync>(
     requires ranges { InRanges command.now }
     ensures finish { IsRunEnd command.now (Subject.Matrix m.now) (TellsBy true command.now (Subject.Matrix m.now)
         (made_for false command.now)) K.taken K.faults out.old out.new result }
+    ensures told { OnOk result (ToldBy true command.now (Subject.Matrix m.now) (G.told gate.now)) }
 {
     let summed = sum_on_threads(rt, alloc, command, m, gate)?;
     let Finished {
@@ -137,6 +142,9 @@ fn sum_serially<L: Ledger>(
         (manner_of Via.Convey command.now.travel.steady) command.now.grid
         (sums_starts (ranks command.now.grid) m.now) 1 }
     ensures fewest { OnOk result (steps.old + 2 * ranks command.now.grid ≤ steps.new) }
+    ensures swept { IfOk result (λ run. SweptInOrder (map sums_way.case (sums_starts (ranks command.now.grid) m.now))
+        (made_for true command.now) (manner_of Via.Convey command.now.travel.steady)
+        steps.old steps.new run.rounds) }
 {
     let grid = &command.grid;
     let Travel {
@@ -169,7 +177,8 @@ fn sum_on_threads<R: Threads + Wait + Sync, G: Gate + Sync>(
     gate: &G,
 ) -> Result<Finished<AnyProgram>, NoMemory>
     requires ranges { InRanges command.now }
-    ensures { IfOk result (HasSummed m.now (made_for false command.now) command.now.travel.steady) }
+    ensures summed { IfOk result (HasSummed m.now (made_for false command.now) command.now.travel.steady) }
+    ensures told { OnOk result (ToldBy true command.now (Subject.Matrix m.now) (G.told gate.now)) }
 {
     let grid = &command.grid;
     let Travel {

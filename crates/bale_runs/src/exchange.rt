@@ -1,9 +1,11 @@
 //! The run of a command for its subject: the programs, driven, and then the answer, written.
-ghost use Rattle.std.specs.Prelude.{◌≡◌, ◌<◌, Bool, true, false, IfOk};
-ghost use Rattle.bale_runs.specs.Asking.{TellsCommand, TurnsOfCommand, FewestOfCommand};
+ghost use Rattle.std.specs.Prelude.{◌≡◌, ◌<◌, Bool, true, false, IfOk, OnOk};
+ghost use Rattle.bale_runs.specs.Asking.{FewestOfCommand, SweptOfCommand, TellsCommand, ToldBy, ToldOfCommand, TurnsOfCommand};
 ghost use Rattle.bale_runs.specs.RunEnds.{Fits, IsRunEnd};
 ghost use Rattle.bale_runs.specs.Jobs.{as_asked, by_asking, via_of, manner_for};
-ghost use Rattle.bale_runs.specs.Runs.{made_for, HaveRun, TellsTask, IsTaskRun, TurnsOfTask, FewestOfTask};
+ghost use Rattle.bale_runs.specs.Runs.{made_for, HaveRun, SweptInOrder, TellsTask, IsTaskRun, TurnsOfTask, FewestOfTask};
+ghost use Rattle.route_tensor.specs.Grid.{ranks};
+ghost use Rattle.bale_answers.specs.Tasks.{starts_of};
 ghost use Rattle.bale_items.specs.Ledgers.{IsBlankOf};
 
 use crate::asking::{ask_on_threads, ask_serially};
@@ -44,8 +46,11 @@ pub fn run_command<R: Threads + Wait + Sync, K: Sink, G: Gate + Sync>(
     gate: &G,
 ) -> Result<RunEnd, Refusal>
     requires fit { Fits command.now subject.now (as_asked command.now) }
-    ensures { IsRunEnd command.now subject.now (TellsCommand (as_asked command.now) command.now subject.now)
+    ensures finish { IsRunEnd command.now subject.now (TellsCommand (as_asked command.now) command.now subject.now)
         K.taken K.faults out.old out.new result }
+
+    // On threads the gate was told of the turns of each rank.
+    ensures told { as_asked command.now ≡ false → OnOk result (ToldOfCommand command.now subject.now (G.told gate.now)) }
 {
     if drives_serially(command) {
         run_uncounted::<Brand, K>(alloc, command, subject, out, Blank::new(1))
@@ -95,6 +100,7 @@ pub fn run_serially<K: Sink, L: Ledger>(
         K.taken K.faults out.old out.new result }
     ensures steps { TurnsOfCommand command.now subject.now steps.old steps.new }
     ensures fewest { IfOk result (λ f. FewestOfCommand command.now subject.now steps.old steps.new) }
+    ensures swept { IfOk result (λ f. SweptOfCommand command.now subject.now steps.old steps.new f.rounds) }
 {
     if by_asking(command) {
         ask_serially(alloc, command, subject, out, steps)
@@ -113,8 +119,9 @@ fn run_on_threads<R: Threads + Wait + Sync, K: Sink, G: Gate + Sync>(
     gate: &G,
 ) -> Result<RunEnd, Refusal>
     requires { Fits command.now subject.now false }
-    ensures { IsRunEnd command.now subject.now (TellsCommand false command.now subject.now)
+    ensures finish { IsRunEnd command.now subject.now (TellsCommand false command.now subject.now)
         K.taken K.faults out.old out.new result }
+    ensures told { OnOk result (ToldOfCommand command.now subject.now (G.told gate.now)) }
 {
     if by_asking(command) {
         ask_on_threads(rt, alloc, command, subject, out, gate)
@@ -145,6 +152,8 @@ fn exchange_serially<K: Sink, L: Ledger>(
         (manner_for command.now) command.now.grid steps.old steps.new }
     ensures fewest { IfOk result (λ f. FewestOfTask command.now.task subject.now
         command.now.grid steps.old steps.new) }
+    ensures swept { IfOk result (λ f. SweptInOrder (starts_of command.now.task (ranks command.now.grid) subject.now)
+        (made_for true command.now) (manner_for command.now) steps.old steps.new f.rounds) }
 {
     let run = drive_serially(alloc, command, subject, steps)?;
     finish_run(alloc, command, subject, run, out)
@@ -160,8 +169,9 @@ fn exchange_on_threads<R: Threads + Wait + Sync, K: Sink, G: Gate + Sync>(
     gate: &G,
 ) -> Result<RunEnd, Refusal>
     requires { Fits command.now subject.now false }
-    ensures { IsRunEnd command.now subject.now (TellsTask command.now.task subject.now
+    ensures finish { IsRunEnd command.now subject.now (TellsTask command.now.task subject.now
         (made_for false command.now) (manner_for command.now)) K.taken K.faults out.old out.new result }
+    ensures told { OnOk result (ToldBy false command.now subject.now (G.told gate.now)) }
 {
     let run = drive_on_threads(rt, alloc, command, subject, gate)?;
     finish_run(alloc, command, subject, run, out)
@@ -181,6 +191,8 @@ fn drive_serially<L: Ledger>(
         (manner_for command.now) command.now.grid steps.old steps.new }
     ensures fewest { IfOk result (λ f. FewestOfTask command.now.task subject.now
         command.now.grid steps.old steps.new) }
+    ensures swept { IfOk result (λ f. SweptInOrder (starts_of command.now.task (ranks command.now.grid) subject.now)
+        (made_for true command.now) (manner_for command.now) steps.old steps.new f.rounds) }
 {
     let grid = &command.grid;
     let Travel {
@@ -214,8 +226,9 @@ fn drive_on_threads<R: Threads + Wait + Sync, G: Gate + Sync>(
     gate: &G,
 ) -> Result<Finished<AnyProgram>, NoMemory>
     requires { Fits command.now subject.now false }
-    ensures { IfOk result (IsTaskRun command.now.task subject.now (made_for false command.now)
+    ensures run { IfOk result (IsTaskRun command.now.task subject.now (made_for false command.now)
         (manner_for command.now)) }
+    ensures told { OnOk result (ToldBy false command.now subject.now (G.told gate.now)) }
 {
     let grid = &command.grid;
     let Travel {

@@ -1,15 +1,17 @@
-use Rattle.std.proofs.Common.{◌<◌, ◌≤◌, ◌≡◌, ◌∙◌, ℕ, List, length, map, ap, subst, sym, false}
+use Rattle.std.proofs.Common.{◌<◌, ◌≤◌, ◌≡◌, ◌∙◌, ℕ, List, length, map, ap, subst, sym, true, false}
 use Rattle.route_tensor.proofs.Coordinates.{ranks_some}
 use Rattle.route_tensor.specs.Grid.{ranks}
 use Rattle.rank_node.specs.Movers.{manner_of}
-use Rattle.rank_group.specs.Driven.{HasFinished}
+use Rattle.rank_group.specs.Driven.{HasFinished, ToldOfTurns}
 use Rattle.rank_node.specs.declared.via.Via.TheVariants as via
 use Rattle.round_program.specs.Canonical.{InRound, EndsWithin}
 use Rattle.app_cases.specs.Any.{any_rules, sums_way}
 use Rattle.app_histo_ig.specs.SumsRuns.{sums_starts}
-use Rattle.bale_runs.specs.Asking.{HasSummed}
+use Rattle.bale_runs.specs.Asking.{HasSummed, ToldBy}
+use Rattle.bale_subjects.specs.declared.subject.Subject.TheVariants as subject
+use Rattle.app_histo_ig.proofs.SumsStarts.{one_round}
 use Rattle.bale_runs.specs.Runs.{made_for}
-use Rattle.bale_runs.proofs.Cases.{tells}
+use Rattle.bale_runs.proofs.Cases.{tells, on_ok, told_turns}
 use Rattle.bale_runs.proofs.Exchanges.{is_slots}
 use Rattle.bale_runs.proofs.Heard.{if_ok, sums_at}
 use Rattle.bale_runs.proofs.asking.sum_on_threads.Given.{Over}
@@ -39,9 +41,9 @@ case_threads-requires-clause-run g c κs within = record {
       c.in_ok-progs.ensures.begins;
 }
 
-pub returns : goal.returns
-returns g c =
-    let x = (goal.at.returns g c).In_ok-progs in
+pub returns-clause-summed : goal.returns-clause-summed
+returns-clause-summed g c =
+    let x = (goal.at.returns-clause-summed g c).In_ok-progs in
     let p = ranks c.args.command.now.grid in
     if_ok c.case_threads.result (HasFinished any_rules c.in_ok-progs.progs (made_for false c.args.command.now) (manner_of via.Convey c.args.command.now.travel.steady)) (HasSummed c.args.m.now (made_for false c.args.command.now) c.args.command.now.travel.steady)
     (λ run h. record {
@@ -55,3 +57,13 @@ case_threads-requires-clause-capacity g c κs within = c.requires.ranges.travel.
 
 pub case_threads-requires-clause-slots : goal.case_threads-requires-clause-slots
 case_threads-requires-clause-slots g c κs within = is_slots c.args.command.now.travel.slots c.requires.ranges.travel.slots
+
+pub returns-clause-told : goal.returns-clause-told
+returns-clause-told g c =
+    let x = (goal.at.returns-clause-told g c).In_ok-progs in
+    let dims = c.args.command.now.grid in
+    let starts = sums_starts (ranks dims) c.args.m.now in
+    on_ok c.case_threads.result (ToldOfTurns any_rules c.in_ok-progs.progs dims (g.G.Gate.told c.args.gate.now))
+    (ToldBy true c.args.command.now (subject.Matrix c.args.m.now) (g.G.Gate.told c.args.gate.now))
+    (λ f r m low few. told_turns sums_way.is_case starts c.in_ok-progs.progs dims (g.G.Gate.told c.args.gate.now) (are g x) (some g x) f 1 r m (one_round starts) low few)
+    c.case_threads.ensures.told

@@ -1,4 +1,4 @@
-use Rattle.std.proofs.Common.{◌<◌, ◌≤◌, ◌≡◌, ◌∙◌, ℕ, List, length, map, ap, subst, sym, true, ◌+◌, ◌*◌}
+use Rattle.std.proofs.Common.{◌<◌, ◌≤◌, ◌≡◌, ◌∙◌, ℕ, List, length, map, ap, refl, subst, sym, true, ◌+◌, ◌*◌}
 use Rattle.route_tensor.proofs.Coordinates.{ranks_some}
 use Rattle.route_tensor.specs.Grid.{ranks}
 use Rattle.rank_node.specs.Movers.{manner_of}
@@ -9,11 +9,11 @@ use Rattle.app_cases.specs.Any.{any_rules, sums_way}
 use Rattle.app_histo_ig.specs.SumsRuns.{sums_starts}
 use Rattle.app_histo_ig.proofs.SumsStarts.{one_round}
 use Rattle.bale_runs.specs.Asking.{HasSummed}
-use Rattle.bale_runs.specs.Runs.{made_for}
-use Rattle.bale_runs.proofs.Cases.{tells, fewest}
+use Rattle.bale_runs.specs.Runs.{made_for, SweptInOrder}
+use Rattle.bale_runs.proofs.Cases.{tells, fewest, swept_in_order}
 use Rattle.bale_runs.proofs.Exchanges.{is_slots}
 use Rattle.bale_runs.proofs.Heard.{if_ok, sums_at, sums_turns}
-use Rattle.bale_runs.proofs.Orders.{ordered}
+use Rattle.bale_runs.proofs.Orders.{by_number, ordered}
 use Rattle.bale_runs.proofs.asking.sum_serially.Given.{Over}
 use Rattle.bale_runs.proofs.asking.sum_serially.Goals.{In_ok-progs}
 use Rattle.bale_runs.proofs.asking.sum_serially.Goals as goal
@@ -75,4 +75,16 @@ returns-clause-fewest g c =
     if_ok c.case_serial.result (HasSwept any_rules c.in_ok-progs.progs (made_for true c.args.command.now) (manner_of via.Convey c.args.command.now.travel.steady) c.deref.result.now c.args.steps.now c.case_serial.new.steps)
     (λ run. c.args.steps.now + 2 * ranks dims ≤ c.case_serial.new.steps)
     (λ run h. fewest sums_way.is_case starts c.in_ok-progs.progs dims c.args.steps.now c.case_serial.new.steps (are g x) (some g x) h.fewest 1 (one_round starts))
+    c.case_serial.ensures.swept
+
+pub returns-clause-swept : goal.returns-clause-swept
+returns-clause-swept g c =
+    let x = (goal.at.returns-clause-swept g c).In_ok-progs in
+    let dims = c.args.command.now.grid in
+    let starts = map sums_way.case (sums_starts (ranks dims) c.args.m.now) in
+    let manner = manner_of via.Convey c.args.command.now.travel.steady in
+    if_ok c.case_serial.result (HasSwept any_rules c.in_ok-progs.progs (made_for true c.args.command.now) manner c.deref.result.now c.args.steps.now c.case_serial.new.steps)
+    (λ run. SweptInOrder starts (made_for true c.args.command.now) manner c.args.steps.now c.case_serial.new.steps run.rounds)
+    (λ run h. swept_in_order starts c.in_ok-progs.progs (made_for true c.args.command.now) manner manner c.deref.result.now c.args.steps.now c.case_serial.new.steps run (are g x)
+    (by_number c.ranks-2.result (ranks dims) c.deref.result.now (c.deref.ensures.value ∙ c.in_ok-order.ensures) c.ranks-2.ensures.value) refl h)
     c.case_serial.ensures.swept

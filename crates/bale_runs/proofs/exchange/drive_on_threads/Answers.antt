@@ -9,7 +9,9 @@ use Rattle.bale_answers.specs.Tasks.{starts_of}
 use Rattle.bale_runs.specs.Runs.{made_for, IsTaskRun}
 use Rattle.rank_node.specs.Movers.{manner_of}
 use Rattle.rank_group.specs.Driven.{HasFinished}
-use Rattle.bale_runs.proofs.Cases.{task_run}
+use Rattle.rank_group.specs.Driven.{ToldOfTurns}
+use Rattle.bale_answers.specs.Tasks.{plan_of}
+use Rattle.bale_runs.proofs.Cases.{task_run, on_ok, told_of_task}
 use Rattle.bale_runs.proofs.Exchanges.{is_slots, fit_grid}
 use Rattle.bale_runs.proofs.Heard.{if_ok}
 use Rattle.bale_runs.proofs.exchange.drive_on_threads.Given.{Over}
@@ -43,12 +45,20 @@ case_threads-requires-clause-run g c κs within = record {
       c.in_ok-progs.ensures.begins;
 }
 
-pub returns : goal.returns
-returns g c =
-    let x = (goal.at.returns g c).In_ok-progs in
+pub returns-clause-run : goal.returns-clause-run
+returns-clause-run g c =
+    let x = (goal.at.returns-clause-run g c).In_ok-progs in
     if_ok c.case_threads.result (HasFinished any_rules c.in_ok-progs.progs (made_for false c.args.command.now) (manner_of c.via_of.result c.args.command.now.travel.steady))
     (IsTaskRun c.args.command.now.task c.args.subject.now (made_for false c.args.command.now) (manner_for c.args.command.now))
     (λ run h. task_run c.args.command.now.task c.args.subject.now (made_for false c.args.command.now) (manner_for c.args.command.now) c.in_ok-progs.progs run
     (ranks_some c.args.command.now.grid c.ranks.ensures.grid.positive) c.ranks.ensures.grid.small (are g x) (some g x)
     (subst (λ v. HasFinished any_rules c.in_ok-progs.progs (made_for false c.args.command.now) (manner_of v c.args.command.now.travel.steady) run) c.via_of.ensures h))
     c.case_threads.ensures.finished
+
+pub returns-clause-told : goal.returns-clause-told
+returns-clause-told g c =
+    let x = (goal.at.returns-clause-told g c).In_ok-progs in
+    let dims = c.args.command.now.grid in
+    let t = c.args.command.now.task in
+    on_ok c.case_threads.result (ToldOfTurns any_rules c.in_ok-progs.progs dims (g.G.Gate.told c.args.gate.now)) (ToldOfTurns (plan_of t c.args.subject.now).rules ((plan_of t c.args.subject.now).starts (ranks dims)) dims (g.G.Gate.told c.args.gate.now))
+    (told_of_task t c.args.subject.now dims (g.G.Gate.told c.args.gate.now) c.in_ok-progs.progs (are g x) (some g x)) c.case_threads.ensures.told

@@ -6,13 +6,13 @@ use Rattle.round_program.specs.Canonical.{InRound, EndsWithin}
 use Rattle.app_cases.specs.Any.{any_rules}
 use Rattle.bale_runs.specs.Jobs.{manner_for}
 use Rattle.bale_answers.specs.Tasks.{starts_of}
-use Rattle.bale_runs.specs.Runs.{made_for, IsTaskRun, FewestOfTask}
+use Rattle.bale_runs.specs.Runs.{made_for, IsTaskRun, FewestOfTask, SweptInOrder}
 use Rattle.rank_node.specs.Movers.{manner_of}
 use Rattle.rank_group.specs.Driven.{HasFinished, HasSwept, WithinTurns}
-use Rattle.bale_runs.proofs.Cases.{task_run, turns_of_task, fewest_of_task}
+use Rattle.bale_runs.proofs.Cases.{task_run, turns_of_task, fewest_of_task, swept_in_order}
 use Rattle.bale_runs.proofs.Exchanges.{is_slots, fit_grid}
 use Rattle.bale_runs.proofs.Heard.{if_ok}
-use Rattle.bale_runs.proofs.Orders.{ordered}
+use Rattle.bale_runs.proofs.Orders.{by_number, ordered}
 use Rattle.bale_runs.proofs.exchange.drive_serially.Given.{Over}
 use Rattle.bale_runs.proofs.exchange.drive_serially.Goals.{In_ok-progs}
 use Rattle.bale_runs.proofs.exchange.drive_serially.Goals as goal
@@ -73,4 +73,17 @@ returns-clause-fewest g c =
     if_ok c.case_serial.result (HasSwept any_rules c.in_ok-progs.progs (made_for true c.args.command.now) (manner_of c.via_of.result c.args.command.now.travel.steady) c.deref.result.now c.args.steps.now c.case_serial.new.steps)
     (λ run. FewestOfTask c.args.command.now.task c.args.subject.now dims c.args.steps.now c.case_serial.new.steps)
     (λ run h. fewest_of_task c.args.command.now.task c.args.subject.now dims c.args.steps.now c.case_serial.new.steps c.in_ok-progs.progs (are g x) (some g x) h.fewest)
+    c.case_serial.ensures.swept
+
+pub returns-clause-swept : goal.returns-clause-swept
+returns-clause-swept g c =
+    let x = (goal.at.returns-clause-swept g c).In_ok-progs in
+    let dims = c.args.command.now.grid in
+    let steady = c.args.command.now.travel.steady in
+    if_ok c.case_serial.result (HasSwept any_rules c.in_ok-progs.progs (made_for true c.args.command.now) (manner_of c.via_of.result steady) c.deref.result.now c.args.steps.now c.case_serial.new.steps)
+    (λ run. SweptInOrder (starts_of c.args.command.now.task (ranks dims) c.args.subject.now) (made_for true c.args.command.now) (manner_for c.args.command.now) c.args.steps.now c.case_serial.new.steps run.rounds)
+    (λ run h. swept_in_order (starts_of c.args.command.now.task (ranks dims) c.args.subject.now) c.in_ok-progs.progs (made_for true c.args.command.now) (manner_of c.via_of.result steady)
+    (manner_for c.args.command.now) c.deref.result.now c.args.steps.now c.case_serial.new.steps run (are g x)
+    (by_number c.ranks-2.result (ranks dims) c.deref.result.now (c.deref.ensures.value ∙ c.in_ok-order.ensures) c.ranks-2.ensures.value)
+    (ap (λ v. manner_of v steady) c.via_of.ensures) h)
     c.case_serial.ensures.swept

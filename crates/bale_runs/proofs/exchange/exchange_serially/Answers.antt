@@ -1,8 +1,10 @@
 use Rattle.std.proofs.Common.{List, true}
 use Rattle.rank_group.specs.declared.closed_round.ClosedRound.{ClosedRound}
 use Rattle.bale_runs.specs.Jobs.{manner_for}
-use Rattle.bale_runs.specs.Runs.{made_for, TellsTask, FewestOfTask}
-use Rattle.bale_runs.proofs.Cases.{finish, always}
+use Rattle.route_tensor.specs.Grid.{ranks}
+use Rattle.bale_answers.specs.Tasks.{starts_of}
+use Rattle.bale_runs.specs.Runs.{made_for, TellsTask, FewestOfTask, SweptInOrder}
+use Rattle.bale_runs.proofs.Cases.{finish, always, rounds_as}
 use Rattle.bale_runs.proofs.exchange.exchange_serially.Goals as goal
 
 pub returns-clause-finish : goal.returns-clause-finish
@@ -14,3 +16,10 @@ returns-clause-finish g c =
 pub returns-clause-fewest : goal.returns-clause-fewest
 returns-clause-fewest g c =
     always c.finish_run.result (FewestOfTask c.args.command.now.task c.args.subject.now c.args.command.now.grid c.args.steps.now c.drive_serially.new.steps) c.in_ok-run.ensures.fewest
+
+pub returns-clause-swept : goal.returns-clause-swept
+returns-clause-swept g c =
+    rounds_as
+    (λ (rs : List ClosedRound). SweptInOrder (starts_of c.args.command.now.task (ranks c.args.command.now.grid) c.args.subject.now) (made_for true c.args.command.now) (manner_for c.args.command.now)
+    c.args.steps.now c.drive_serially.new.steps rs)
+    c.finish_run.result c.finish_run.ensures.rounds c.in_ok-run.ensures.swept

@@ -2,6 +2,7 @@
 use Rattle.std.proofs.Common.{◌≡◌, ◌≤◌, ℕ, Bool, List, Option, None, Some, ◌⊎◌, inl, inr, refl, sym, ap, ◌∙◌, subst, arith}
 use Rattle.bale_words.specs.declared.command.Command.{Command}
 use Rattle.bale_answers.specs.Tasks.{task_status}
+use Rattle.bale_subjects.specs.declared.subject.Subject.{Subject}
 use Rattle.bale_subjects.specs.declared.unfit.Unfit.{Unfit as Unfitness}
 use Rattle.bale_subjects.specs.declared.refusal.BadText.{BadText as Bad}
 use Rattle.bale_subjects.specs.declared.refusal.Refusal.{Refusal}
@@ -158,8 +159,8 @@ told_for : (job : Option Command) (c : Command) (left : Option (List ℕ)) (text
 told_for job c left text e t = subst (λ j. Told j left text) e t
 
 -- a run's own status is the serial answer's, where the text is told
-pub run_status : {serial : Command → Bool} {job : Option Command} {left : Option (List ℕ)} {P : ℕ → List ℕ → Type 0} {rounds : List ClosedRound} (text : List ℕ)
-    (r : HasRun serial job left P rounds) → Told job left text → task_status r.command.task r.subject ≡ (answer_to serial job text).status
+pub run_status : {serial : Command → Bool} {turns : Command → Subject → List ClosedRound → Type 0} {job : Option Command} {left : Option (List ℕ)} {P : ℕ → List ℕ → Type 0} {rounds : List ClosedRound} (text : List ℕ)
+    (r : HasRun serial turns job left P rounds) → Told job left text → task_status r.command.task r.subject ≡ (answer_to serial job text).status
 run_status {serial = serial} {job = job} {left = left} text r t =
     sym (ap (λ (a : Answer). a.status)
     (ap (λ j. answer_to serial j text) r.asked

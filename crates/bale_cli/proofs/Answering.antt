@@ -1,5 +1,5 @@
 -- What is known of an answer, by the way that it took: refused by the words, by the subject, or run.
-use Rattle.std.proofs.Common.{ℕ, ◌≡◌, ◌≢◌, ◌⊎◌, Bool, true, false, not, is_some, List, Option, None, Some, Result, Ok, Err, OnOk, OnErr, IfOk, IfErr, drop, refl, sym, ap, subst, ◌∙◌, inl, inr, IsOk}
+use Rattle.std.proofs.Common.{ℕ, ◌≡◌, ◌≢◌, ◌⊎◌, Bool, true, false, not, is_some, List, Option, None, Some, Result, Ok, Err, OnOk, OnErr, IfOk, IfErr, drop, refl, sym, ap, subst, ◌∙◌, inl, inr}
 use Rattle.std.proofs.lemmas.Bool.{false≢true}
 use Rattle.std.proofs.lemmas.Option.{none-some, same_Some}
 use Rattle.bale_types.specs.Stream.{after, IsFront}
@@ -7,6 +7,7 @@ use Rattle.bale_items.specs.Counters.{RoseOrFull}
 use Rattle.bale_types.proofs.Moves.{front_same}
 use Rattle.bale_words.specs.declared.command.Command.{Command}
 use Rattle.bale_words.specs.declared.command.Generated.{Generated}
+use Rattle.rank_group.specs.declared.closed_round.ClosedRound.{ClosedRound}
 use Rattle.bale_runs.specs.declared.exchange.RunEnd.{RunEnd}
 use Rattle.bale_subjects.specs.declared.refusal.BadText.{BadText}
 use Rattle.bale_subjects.specs.declared.refusal.Refusal.{Refusal}
@@ -26,9 +27,13 @@ use Rattle.bale_meaning.proofs.Serial.{means_of}
 use Rattle.bale_cli.proofs.AnswerEnds.{before_text}
 
 -- what holds of a result that is there
-pub when_ok : {T E : Type 0} (r : Result T E) (P : Type 0) → IfOk r (λ x. P) → IsOk r → P
-when_ok (Ok x) P p ok = p
-when_ok (Err e) P p ok = absurd cc
+pub both_ok : {T E : Type 0} (r : Result T E) (P Q : T → Type 0) → IfOk r P → IfOk r Q → IfOk r (λ x. P x × Q x)
+both_ok (Ok x) P Q p q = (p, q)
+both_ok (Err e) P Q p q = tt
+
+pub ok_where : {T E : Type 0} (r : Result T E) (P Q : Type 0) → (P → OnOk r Q) → IfOk r (λ x. P → Q)
+ok_where (Ok x) P Q f = f
+ok_where (Err e) P Q f = tt
 
 abbrev pub err : {T : Type 0} → Refusal → Result T Refusal
 err r = Err r
@@ -87,11 +92,11 @@ same_asked {left = left} c s text c' s' subject a =
 pub asked_at : {serial : Command → Bool} {left : Option (List ℕ)} {job job' : Option Command} {text : List ℕ} {c : Command} {s : Subject} → job ≡ job' → Asked serial left job text c s → Asked serial left job' text c s
 asked_at {serial = serial} {left = left} {text = text} {c = c} {s = s} e a = subst (λ (j : Option Command). Asked serial left j text c s) e a
 
-module _ {S K : Type 0} {serial : Command → Bool} {left : S → Option (List ℕ)} {read_faults : S → ℕ} {source source' : S}
+module _ {S K : Type 0} {serial : Command → Bool} {turns : Command → Subject → List ClosedRound → Type 0} {left : S → Option (List ℕ)} {read_faults : S → ℕ} {source source' : S}
     {taken : K → Option (List ℕ)} {write_faults : K → ℕ} {out out' : K} where
   -- refused by the words, before anything was read
   pub early : (job : Option Command) (r : Refusal) → (r ≡ refusal.Usage → job ≡ None) → (r ≡ refusal.Usage) ⊎ (r ≡ refusal.NoMemory) → source' ≡ source → out' ≡ out
-      → Answered serial job left read_faults source source' taken write_faults out out' (Err r)
+      → Answered serial turns job left read_faults source source' taken write_faults out out' (Err r)
   early job r u kinds same_source same_out =
       record {
         usage = λ e. u (same_Err r refusal.Usage e);
@@ -114,9 +119,9 @@ module _ {S K : Type 0} {serial : Command → Bool} {left : S → Option (List �
       }
 
   -- the same of another spelling of the job
-  pub at_job : {answered : Result RunEnd Refusal} (job job' : Option Command) → job ≡ job' → Answered serial job' left read_faults source source' taken write_faults out out' answered
-      → Answered serial job left read_faults source source' taken write_faults out out' answered
-  at_job {answered = answered} job job' e a = subst (λ (j : Option Command). Answered serial j left read_faults source source' taken write_faults out out' answered) (sym e) a
+  pub at_job : {answered : Result RunEnd Refusal} (job job' : Option Command) → job ≡ job' → Answered serial turns job' left read_faults source source' taken write_faults out out' answered
+      → Answered serial turns job left read_faults source source' taken write_faults out out' answered
+  at_job {answered = answered} job job' e a = subst (λ (j : Option Command). Answered serial turns j left read_faults source source' taken write_faults out out' answered) (sym e) a
 
   -- refused by the subject, or by the reading of it
   pub subject_refused : (c : Command) (r : Refusal) → (r ≡ refusal.ReadFault → RoseOrFull (read_faults source) (read_faults source'))
@@ -126,7 +131,7 @@ module _ {S K : Type 0} {serial : Command → Bool} {left : S → Option (List �
       → ((u : Unfit) → r ≡ refusal.Unfit u → (s : Subject) × IsSubjectOf c (left source) s × (unfitness c s (serial c) ≡ Some u))
       → (r ≢ refusal.WriteFault) × (r ≢ refusal.Usage) → (reads (Some c) ≡ false → source' ≡ source)
       → ((text : List ℕ) → left source ≡ Some text → reads (Some c) ≡ true → IsOfText r → left source' ≡ Some (drop 16777217 text)) → out' ≡ out
-      → Answered serial (Some c) left read_faults source source' taken write_faults out out' (Err r)
+      → Answered serial turns (Some c) left read_faults source source' taken write_faults out out' (Err r)
   subject_refused c r fault no_fault bad bad_read unfit kinds unread read_bad same_out =
       record {
         usage = λ e. absurd (kinds.1 (same_Err r refusal.Usage e));
@@ -155,9 +160,9 @@ module _ {S K : Type 0} {serial : Command → Bool} {left : S → Option (List �
       → IsSubjectOf c (left source) s → unfitness c s (serial c) ≡ None
       → read_faults source' ≡ read_faults source → (reads (Some c) ≡ false → source' ≡ source)
       → ((text : List ℕ) → left source ≡ Some text → reads (Some c) ≡ true → left source' ≡ Some (drop 16777217 text))
-      → IsRunEnd c s (TellsCommand (serial c) c s) taken write_faults out out' answered
-      → Answered serial (Some c) left read_faults source source' taken write_faults out out' answered
-  ran_answered (Ok f) c s ranges subject fits calm unread whole finish =
+      → IsRunEnd c s (TellsCommand (serial c) c s) taken write_faults out out' answered → IfOk answered (λ f. turns c s f.rounds)
+      → Answered serial turns (Some c) left read_faults source source' taken write_faults out out' answered
+  ran_answered (Ok f) c s ranges subject fits calm unread whole finish turned =
       let wrote = finish.ending.answer in
       record {
         usage = λ e. absurd cc;
@@ -179,6 +184,7 @@ module _ {S K : Type 0} {serial : Command → Bool} {left : S → Option (List �
           means = λ text told. means_of c text s (serial c) wrote.bytes ranges (subject.of_text text told) fits wrote.answers;
           wrote = (finish.ending.status, wrote.whole, wrote.front);
           rounds_tell = finish.rounds;
+          turned = turned;
         };
         low = finish.ending.low;
         write_fault = finish.ending.cause;
@@ -189,7 +195,7 @@ module _ {S K : Type 0} {serial : Command → Bool} {left : S → Option (List �
         read_bad = λ text told r. tt;
         no_answer = tt;
       }
-  ran_answered (Err r) c s ranges subject fits calm unread whole finish =
+  ran_answered (Err r) c s ranges subject fits calm unread whole finish turned =
       let memory = finish.memory in
       let kinds : (r ≡ refusal.Usage) ⊎ (r ≡ refusal.NoMemory) = inr memory in
       record {

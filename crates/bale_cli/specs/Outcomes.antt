@@ -10,6 +10,7 @@ use Rattle.bale_runs.specs.declared.exchange.RunEnd.{RunEnd}
 use Rattle.bale_subjects.specs.declared.refusal.BadText.{BadText}
 use Rattle.bale_subjects.specs.declared.refusal.Refusal.{Refusal}
 use Rattle.bale_subjects.specs.declared.refusal.Refusal.TheVariants as refusal
+use Rattle.bale_subjects.specs.declared.subject.Subject.{Subject}
 use Rattle.bale_subjects.specs.declared.unfit.Unfit.{Unfit}
 use Rattle.bale_answers.specs.Answer.{IsBad}
 use Rattle.bale_subjects.specs.Refusals.{refusal_text, status_of, IsOfText}
@@ -19,7 +20,9 @@ use Rattle.bale_cli.specs.Run.{HasNotFit, HasRun}
 -- An answer, or why there is none: what the words ask for (`job`), of a source before and after, on
 -- a sink before and after. `left` is what a source tells of what it has left, `taken` what a sink
 -- tells of what it has taken, and each counts its own faults.
-pub record Answered {S K : Type 0} (serial : Command → Bool) (job : Option Command) (left : S → Option (List ℕ))
+pub record Answered {S K : Type 0} (serial : Command → Bool)
+    (turns : Command → Subject → List ClosedRound → Type 0) (job : Option Command)
+    (left : S → Option (List ℕ))
     (read_faults : S → ℕ) (source source' : S)
     (taken : K → Option (List ℕ)) (write_faults : K → ℕ) (out out' : K)
     (answered : Result RunEnd Refusal) : Type 0 where
@@ -32,7 +35,7 @@ pub record Answered {S K : Type 0} (serial : Command → Bool) (job : Option Com
   pub bad_read : (b : BadText) → answered ≡ Err (refusal.BadText b) → reads job ≡ true
   pub unfit : (u : Unfit) → answered ≡ Err (refusal.Unfit u) → HasNotFit serial job (left source) (λ why. why ≡ u)
   pub kinds : IfErr answered (λ r. r ≢ refusal.WriteFault)
-  pub ran : IfOk answered (λ f. HasRun serial job (left source) (λ own bytes. (f.ending.status ≡ own)
+  pub ran : IfOk answered (λ f. HasRun serial turns job (left source) (λ own bytes. (f.ending.status ≡ own)
       × OnOk f.ending.written (taken out' ≡ after (taken out) bytes)
       × OnErr f.ending.written (IsFront (taken out') (after (taken out) bytes))) f.rounds)
   pub low : IfOk answered (λ f. f.ending.status ≤ 1)

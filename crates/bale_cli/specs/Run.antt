@@ -15,16 +15,17 @@ use Rattle.bale_subjects.specs.Reading.{reads, Told, TellsText, IsSubjectOf}
 use Rattle.bale_subjects.specs.Refusals.{refusal_text}
 use Rattle.bale_answers.specs.Answer.{serial_answer, said, shown, Asked}
 use Rattle.bale_answers.specs.Tasks.{IsAnswer, Means, task_status}
-use Rattle.bale_runs.specs.Asking.{TellsCommand, TurnsOfCommand, FewestOfCommand}
-use Rattle.bale_runs.specs.Jobs.{on_one_thread}
+use Rattle.bale_runs.specs.Asking.{FewestOfCommand, SweptOfCommand, TellsCommand, ToldOfCommand, TurnsOfCommand}
+use Rattle.bale_runs.specs.Jobs.{as_asked, on_one_thread}
 
 -- What a run with an answer ran: a command of the words on a subject that it fits, the text's if the
 -- source tells it. `bytes` are that command's answer, `P` says of its status and of the bytes shown
--- what out took, and the rounds tell what was exchanged.
+-- what out took, the rounds tell what was exchanged, and `turns` says how its ranks were turned.
 -- This holds of standard input too, which tells no text: status 0 on the words `histo` then says
 -- that some matrix was read, that the answer for it was written, and that its items travelled.
-pub record HasRun (serial : Command → Bool) (job : Option Command) (left : Option (List ℕ))
-    (P : ℕ → List ℕ → Type 0) (rounds : List ClosedRound) : Type 0 where
+pub record HasRun (serial : Command → Bool) (turns : Command → Subject → List ClosedRound → Type 0)
+    (job : Option Command) (left : Option (List ℕ)) (P : ℕ → List ℕ → Type 0)
+    (rounds : List ClosedRound) : Type 0 where
   pub command : Command
   pub asked : job ≡ Some command
   pub subject : Subject
@@ -38,6 +39,7 @@ pub record HasRun (serial : Command → Bool) (job : Option Command) (left : Opt
   pub wrote : P (task_status command.task subject)
       (shown command.travel.generated (task_status command.task subject) bytes)
   pub rounds_tell : TellsCommand (serial command) command subject rounds
+  pub turned : turns command subject rounds
 
 -- Why a run ended at 6: a command of the words doesn't fit its subject, which is the text's if the
 -- source tells it; `P` says of the first test that fails what is said of it.
@@ -55,14 +57,16 @@ abbrev pub Says : {E : Type 0} → (E → Option (List ℕ)) → (E → ℕ) →
 Says told faults err err' r = ¬ RoseOrFull (faults err) (faults err') → told err' ≡ after (told err) (refusal_text r)
 
 -- A run of the command that the words name, which ends with a status and tells its rounds. `serial`
--- says of each command whether one thread turns all its ranks; `left` is what a source tells of
+-- says of each command whether one thread turns all its ranks, and `turns` how they were turned
+-- where the run came to its end; `left` is what a source tells of
 -- what it has left, `taken` and `told` what out and err tell of what they have taken, and each
 -- counts its own faults.
 -- Example: on the words `histo`, `--grid`, `4`, `--buffer`, `2` and a matrix whose columns have 1,
 -- 0 and 3 entries the status is 0, out has taken the lines `1 1`, `2 0` and `3 3`, and the rounds
 -- tell one exchange of four items.
-pub record IsRun {S K E : Type 0} (serial : Command → Bool) (words : List (List ℕ)) (left : S → Option (List ℕ))
-    (read_faults : S → ℕ) (source source' : S)
+pub record IsRun {S K E : Type 0} (serial : Command → Bool)
+    (turns : Command → Subject → List ClosedRound → Type 0) (words : List (List ℕ))
+    (left : S → Option (List ℕ)) (read_faults : S → ℕ) (source source' : S)
     (taken : K → Option (List ℕ)) (write_faults : K → ℕ) (out out' : K) (told : E → Option (List ℕ))
     (err_faults : E → ℕ) (err err' : E)
     (status : ℕ) (rounds : List ClosedRound) : Type 0 where
@@ -89,7 +93,8 @@ pub record IsRun {S K E : Type 0} (serial : Command → Bool) (words : List (Lis
   -- the capacity and the slots that the words name: plain ones for one thread, else ones of slots.
   -- Over conveyors that aren't steady each epoch's entries travel in few parcels, by port_bank's
   -- few_parcels_law. At the other statuses out is as it was, and there are no rounds.
-  pub has_run : (status ≡ 0) ⊎ (status ≡ 1) ⊎ (status ≡ 4) → HasRun serial (command_of words) (left source)
+  pub has_run : (status ≡ 0) ⊎ (status ≡ 1) ⊎ (status ≡ 4) → HasRun serial turns
+      (command_of words) (left source)
       (λ own bytes. (status ≢ 4 → (status ≡ own) × (taken out' ≡ after (taken out) bytes))
       × IsFront (taken out') (after (taken out) bytes)) rounds
   pub no_rounds : status ≢ 0 → status ≢ 1 → status ≢ 4 → rounds ≡ []
@@ -119,7 +124,11 @@ pub record AreTurns (left : Option (List ℕ)) (job : Option Command) (before af
   pub idle : (text : List ℕ) → Told job left text
       → ((c : Command) (s : Subject) → ¬ Asked on_one_thread left job text c s) → after ≡ before
 
--- Where it holds that the run came to its end, each rank made a turn in each epoch at least.
-abbrev pub AreFewest : Option (List ℕ) → Option Command → Type 0 → ℕ → ℕ → Type 0
-AreFewest left job ended before after = (text : List ℕ) (c : Command) (s : Subject)
-    → Asked on_one_thread left job text c s → ended → FewestOfCommand c s before after
+-- On one thread: all turns were made in sweeps of the ranks in the order 0, 1, .., P-1, and each rank
+-- made one in each epoch at least.
+abbrev pub TurnedInOrder : ℕ → ℕ → Command → Subject → List ClosedRound → Type 0
+TurnedInOrder before after c s rounds = SweptOfCommand c s before after rounds × FewestOfCommand c s before after
+
+-- On threads: the gate, of which `told` holds, was told of the turns of each rank.
+abbrev pub GateTold : (ℕ → ℕ → Bool) → Command → Subject → List ClosedRound → Type 0
+GateTold told c s rounds = as_asked c ≡ false → ToldOfCommand c s told

@@ -1,10 +1,10 @@
 //! The top calls: from the words and the bytes that come in to the bytes that go out.
-ghost use Rattle.std.specs.Prelude.{◌≡◌, ◌≢◌, ◌≤◌, ◌⊎◌, Some, map, string_bytes, IsOk, IfOk, IfErr};
+ghost use Rattle.std.specs.Prelude.{◌≡◌, ◌≢◌, ◌≤◌, Some, map, string_bytes, IfOk, IfErr};
 ghost use Rattle.bale_words.specs.Ranges.{InRanges};
 ghost use Rattle.bale_words.specs.Words.{command_of};
 ghost use Rattle.bale_runs.specs.Jobs.{as_asked, on_one_thread};
 ghost use Rattle.bale_cli.specs.Outcomes.{Answered, IsOutcome};
-ghost use Rattle.bale_cli.specs.Run.{AreFewest, AreTurns, IsRun};
+ghost use Rattle.bale_cli.specs.Run.{AreTurns, GateTold, IsRun, TurnedInOrder};
 
 use bale_runs::{RunEnd, drives_serially, run_command, run_serially};
 use bale_subjects::{Refusal, Subject, read_words, report, subject_for};
@@ -41,8 +41,8 @@ pub fn run<R: Threads + Wait + Sync, S: Source, K: Sink, E: Sink, G: Gate + Sync
     err: &mut E,
     gate: &G,
 ) -> Outcome
-    ensures run { IsRun as_asked (map string_bytes words.now) S.left S.faults source.old source.new
-        K.taken K.faults out.old out.new E.taken E.faults err.old err.new result.status result.rounds }
+    ensures run { IsRun as_asked (GateTold (G.told gate.now)) (map string_bytes words.now)
+        S.left S.faults source.old source.new K.taken K.faults out.old out.new E.taken E.faults err.old err.new result.status result.rounds }
 {
     let answered = answer(rt, alloc, words, source, out, gate);
     outcome_of(alloc, answered, err)
@@ -62,17 +62,13 @@ pub fn run_serial<S: Source, K: Sink, E: Sink, L: Ledger>(
     err: &mut E,
     steps: &mut Steps<L>,
 ) -> Outcome
-    ensures run { IsRun on_one_thread (map string_bytes words.now) S.left S.faults source.old source.new
-        K.taken K.faults out.old out.new E.taken E.faults err.old err.new result.status result.rounds }
+    ensures run { IsRun on_one_thread (TurnedInOrder steps.old steps.new) (map string_bytes words.now)
+        S.left S.faults source.old source.new K.taken K.faults out.old out.new E.taken E.faults err.old err.new result.status result.rounds }
 
     // The turns are bounded, and where the words and the text ask for no run, or they are refused, there are none.
     ensures turns { AreTurns (S.left source.old) (command_of (map string_bytes words.now)) steps.old steps.new }
     ensures no_turns { result.status ≢ 0 → result.status ≢ 1 → result.status ≢ 4 → result.status ≢ 7
         → steps.new ≡ steps.old }
-
-    // Each rank made a turn in each epoch at least.
-    ensures fewest { AreFewest (S.left source.old) (command_of (map string_bytes words.now))
-        ((result.status ≡ 0) ⊎ (result.status ≡ 1) ⊎ (result.status ≡ 4)) steps.old steps.new }
 {
     let answered = answer_serially(alloc, words, source, out, steps);
     outcome_of(alloc, answered, err)
@@ -113,7 +109,7 @@ fn answer<R: Threads + Wait + Sync, S: Source, K: Sink, G: Gate + Sync>(
     out: &mut K,
     gate: &G,
 ) -> Result<RunEnd, Refusal>
-    ensures { Answered as_asked (command_of (map string_bytes words.now))
+    ensures { Answered as_asked (GateTold (G.told gate.now)) (command_of (map string_bytes words.now))
         S.left S.faults source.old source.new K.taken K.faults out.old out.new result }
 {
     match read_words(alloc, words) {
@@ -132,8 +128,8 @@ fn answer_of<R: Threads + Wait + Sync, S: Source, K: Sink, G: Gate + Sync>(
     gate: &G,
 ) -> Result<RunEnd, Refusal>
     requires ranges { InRanges command.now }
-    ensures { Answered as_asked (Some command.now) S.left S.faults source.old source.new
-        K.taken K.faults out.old out.new result }
+    ensures { Answered as_asked (GateTold (G.told gate.now)) (Some command.now)
+        S.left S.faults source.old source.new K.taken K.faults out.old out.new result }
 {
     let serial = drives_serially(command);
     match subject_for(alloc, command, source, serial) {
@@ -150,12 +146,11 @@ fn answer_serially<S: Source, K: Sink, L: Ledger>(
     out: &mut K,
     steps: &mut Steps<L>,
 ) -> Result<RunEnd, Refusal>
-    ensures answered { Answered on_one_thread (command_of (map string_bytes words.now))
+    ensures answered { Answered on_one_thread (TurnedInOrder steps.old steps.new)
+        (command_of (map string_bytes words.now))
         S.left S.faults source.old source.new K.taken K.faults out.old out.new result }
     ensures turns { AreTurns (S.left source.old) (command_of (map string_bytes words.now)) steps.old steps.new }
     ensures no_turns { IfErr result (λ r. r ≢ Refusal.NoMemory → steps.new ≡ steps.old) }
-    ensures fewest { AreFewest (S.left source.old) (command_of (map string_bytes words.now)) (IsOk result)
-        steps.old steps.new }
 {
     match read_words(alloc, words) {
         Ok(command) => answer_of_serially(alloc, &command, source, out, steps),
@@ -171,11 +166,10 @@ fn answer_of_serially<S: Source, K: Sink, L: Ledger>(
     steps: &mut Steps<L>,
 ) -> Result<RunEnd, Refusal>
     requires ranges { InRanges command.now }
-    ensures answered { Answered on_one_thread (Some command.now) S.left S.faults source.old source.new
-        K.taken K.faults out.old out.new result }
+    ensures answered { Answered on_one_thread (TurnedInOrder steps.old steps.new) (Some command.now)
+        S.left S.faults source.old source.new K.taken K.faults out.old out.new result }
     ensures turns { AreTurns (S.left source.old) (Some command.now) steps.old steps.new }
     ensures no_turns { IfErr result (λ r. r ≢ Refusal.NoMemory → steps.new ≡ steps.old) }
-    ensures fewest { AreFewest (S.left source.old) (Some command.now) (IsOk result) steps.old steps.new }
 {
     match subject_for(alloc, command, source, true) {
         Ok(subject) => run_serially(alloc, command, &subject, out, steps),

@@ -3,8 +3,8 @@ use Rattle.bale_subjects.specs.declared.subject.Subject.{Subject}
 use Rattle.bale_words.specs.declared.command.Command.{Command}
 use Rattle.bale_subjects.specs.declared.refusal.Refusal.{Refusal}
 use Rattle.bale_subjects.specs.declared.refusal.Refusal.TheVariants as refusal
-use Rattle.bale_runs.specs.Asking.{FewestOfCommand, TurnsOfCommand}
-use Rattle.bale_cli.proofs.Answering.{subject_refused, memory_only, ran_answered, same_asked, same_Err, when_ok}
+use Rattle.bale_runs.specs.Asking.{FewestOfCommand, SweptOfCommand, TurnsOfCommand}
+use Rattle.bale_cli.proofs.Answering.{both_ok, subject_refused, memory_only, ran_answered, same_asked, same_Err}
 use Rattle.bale_runs.proofs.Heard.{no_turns}
 use Rattle.bale_cli.proofs.calls.answer_of_serially.Goals as goal
 
@@ -12,6 +12,8 @@ pub returns-in-Ok-clause-answered : goal.returns-in-Ok-clause-answered
 returns-in-Ok-clause-answered g c =
     ran_answered c.run_serially.result c.args.command.now c.in-Ok.subject c.requires.ranges c.in-Ok.ensures.subject c.in-Ok.ensures.fits (c.in-Ok.ensures.faults.no_fault (λ e. cc)) c.subject_for.ensures.unread c.in-Ok.ensures.read_whole
     c.run_serially.ensures.finish
+    (both_ok c.run_serially.result (λ f. SweptOfCommand c.args.command.now c.in-Ok.subject c.args.steps.now c.run_serially.new.steps f.rounds)
+    (λ f. FewestOfCommand c.args.command.now c.in-Ok.subject c.args.steps.now c.run_serially.new.steps) c.run_serially.ensures.swept c.run_serially.ensures.fewest)
 
 pub returns-in-Ok-clause-turns : goal.returns-in-Ok-clause-turns
 returns-in-Ok-clause-turns g c =
@@ -37,13 +39,3 @@ returns-in-Err-clause-answered g c =
 
 pub returns-in-Err-clause-turns : goal.returns-in-Err-clause-turns
 returns-in-Err-clause-turns g c = record { bounded = λ text command m asked. no_turns command m _ _ refl; idle = λ text told none. refl }
-
-pub returns-in-Ok-clause-fewest : goal.returns-in-Ok-clause-fewest
-returns-in-Ok-clause-fewest g c = λ text command m asked ok.
-    let e = same_asked c.args.command.now c.in-Ok.subject text command m c.in-Ok.ensures.subject.of_text asked in
-    subst (λ (y : Subject). FewestOfCommand command y c.args.steps.now c.run_serially.new.steps) e.1
-    (subst (λ (x : Command). FewestOfCommand x c.in-Ok.subject c.args.steps.now c.run_serially.new.steps) e.0
-    (when_ok c.run_serially.result (FewestOfCommand c.args.command.now c.in-Ok.subject c.args.steps.now c.run_serially.new.steps) c.run_serially.ensures.fewest ok))
-
-pub returns-in-Err-clause-fewest : goal.returns-in-Err-clause-fewest
-returns-in-Err-clause-fewest g c = λ text command m asked ok. absurd cc

@@ -1,8 +1,8 @@
-use Rattle.std.proofs.Common.{Option, Err, Some, map, string_bytes, refl, sym, ap, subst, IsOk}
+use Rattle.std.proofs.Common.{Option, Err, Some, map, string_bytes, refl, sym, ap, subst}
 use Rattle.bale_words.specs.declared.command.Command.{Command}
 use Rattle.bale_subjects.specs.declared.refusal.Refusal.{Refusal}
 use Rattle.bale_words.specs.Words.{command_of}
-use Rattle.bale_cli.specs.Run.{AreFewest, AreTurns}
+use Rattle.bale_cli.specs.Run.{AreTurns}
 use Rattle.bale_cli.proofs.Answering.{at_job, early}
 use Rattle.bale_runs.proofs.Heard.{no_turns}
 use Rattle.bale_cli.proofs.calls.answer_serially.Goals as goal
@@ -21,11 +21,3 @@ returns-in-Err-clause-answered g c =
 
 pub returns-in-Err-clause-turns : goal.returns-in-Err-clause-turns
 returns-in-Err-clause-turns g c = record { bounded = λ text command m asked. no_turns command m _ _ refl; idle = λ text told none. refl }
-
-pub returns-in-Ok-clause-fewest : goal.returns-in-Ok-clause-fewest
-returns-in-Ok-clause-fewest g c =
-    subst (λ (j : Option Command). AreFewest (g.S.Source.left c.args.source.now) j (IsOk c.answer_of_serially.result) c.args.steps.now c.answer_of_serially.new.steps) (sym c.in-Ok.ensures.command)
-    c.answer_of_serially.ensures.fewest
-
-pub returns-in-Err-clause-fewest : goal.returns-in-Err-clause-fewest
-returns-in-Err-clause-fewest g c = λ text command m asked ok. absurd cc

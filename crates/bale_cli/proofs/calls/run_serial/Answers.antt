@@ -1,12 +1,8 @@
-use Rattle.bale_cli.proofs.Outcomes.{is_ended, is_run, refusal_only}
+use Rattle.bale_cli.proofs.Outcomes.{is_run, refusal_only}
 use Rattle.bale_cli.proofs.calls.run_serial.Goals as goal
 
 pub returns-clause-run : goal.returns-clause-run
-returns-clause-run g c = is_run _ _ _ _ _ _ _ _ _ _ _ _ _ _ _ _ c.answer_serially-answered.result c.answer_serially-answered.ensures.answered c.outcome_of.ensures
+returns-clause-run g c = is_run _ _ _ _ _ _ _ _ _ _ _ _ _ _ _ _ _ c.answer_serially-answered.result c.answer_serially-answered.ensures.answered c.outcome_of.ensures
 
 pub returns-clause-no_turns : goal.returns-clause-no_turns
 returns-clause-no_turns g c = refusal_only _ c.answer_serially-answered.result c.answer_serially-answered.ensures.answered c.outcome_of.ensures c.answer_serially-answered.ensures.no_turns
-
-pub returns-clause-fewest : goal.returns-clause-fewest
-returns-clause-fewest g c = λ text command s asked ended.
-    c.answer_serially-answered.ensures.fewest text command s asked (is_ended c.answer_serially-answered.result c.answer_serially-answered.ensures.answered c.outcome_of.ensures ended)

@@ -26,7 +26,11 @@ use std::alloc::Global;
 /// # Errors
 ///
 /// `NoMemory` where there was none for the programs.
-pub fn tally_start(alloc: Global, lines: &Lines, ranks: u32) -> Result<Progs<Mailer<Tally>>, NoMemory>
+pub fn tally_start(
+    alloc: Global,
+    lines: &Lines,
+    ranks: u32,
+) -> Result<Progs<Mailer<Tally>>, NoMemory>
     requires { AreRanks ranks }
     ensures starts { IfOk result (λ ps. ps ≡ tally_starts ranks lines.now) }
     ensures begins { IfOk result (λ ps. InRound (mail_rules tally_rules) ranks 0 [] 1 ps) }

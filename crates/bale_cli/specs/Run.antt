@@ -43,7 +43,8 @@ pub record HasRun (serial : Command → Bool) (turns : Command → Subject → L
 
 -- Why a run ended at 6: a command of the words doesn't fit its subject, which is the text's if the
 -- source tells it; `P` says of the first test that fails what is said of it.
-pub record HasNotFit (serial : Command → Bool) (job : Option Command) (left : Option (List ℕ)) (P : Unfit → Type 0) : Type 0 where
+pub record HasNotFit (serial : Command → Bool) (job : Option Command) (left : Option (List ℕ))
+    (P : Unfit → Type 0) : Type 0 where
   pub command : Command
   pub asked : job ≡ Some command
   pub subject : Subject
@@ -54,7 +55,8 @@ pub record HasNotFit (serial : Command → Bool) (job : Option Command) (left : 
 
 -- err has taken a refusal's text, unless its own faults rose.
 abbrev pub Says : {E : Type 0} → (E → Option (List ℕ)) → (E → ℕ) → E → E → Refusal → Type 0
-Says told faults err err' r = ¬ RoseOrFull (faults err) (faults err') → told err' ≡ after (told err) (refusal_text r)
+Says told faults err err' r =
+    ¬ RoseOrFull (faults err) (faults err') → told err' ≡ after (told err) (refusal_text r)
 
 -- A run of the command that the words name, which ends with a status and tells its rounds. `serial`
 -- says of each command whether one thread turns all its ranks, and `turns` how they were turned
@@ -127,7 +129,8 @@ pub record AreTurns (left : Option (List ℕ)) (job : Option Command) (before af
 -- On one thread: all turns were made in sweeps of the ranks in the order 0, 1, .., P-1, and each rank
 -- made one in each epoch at least.
 abbrev pub TurnedInOrder : ℕ → ℕ → Command → Subject → List ClosedRound → Type 0
-TurnedInOrder before after c s rounds = SweptOfCommand c s before after rounds × FewestOfCommand c s before after
+TurnedInOrder before after c s rounds =
+    SweptOfCommand c s before after rounds × FewestOfCommand c s before after
 
 -- On threads: the gate, of which `told` holds, was told of the turns of each rank.
 abbrev pub GateTold : (ℕ → ℕ → Bool) → Command → Subject → List ClosedRound → Type 0

@@ -42,7 +42,8 @@ pub fn run<R: Threads + Wait + Sync, S: Source, K: Sink, E: Sink, G: Gate + Sync
     gate: &G,
 ) -> Outcome
     ensures run { IsRun as_asked (GateTold (G.told gate.now)) (map string_bytes words.now)
-        S.left S.faults source.old source.new K.taken K.faults out.old out.new E.taken E.faults err.old err.new result.status result.rounds }
+        S.left S.faults source.old source.new K.taken K.faults out.old out.new
+        E.taken E.faults err.old err.new result.status result.rounds }
 {
     let answered = answer(rt, alloc, words, source, out, gate);
     outcome_of(alloc, answered, err)
@@ -63,7 +64,8 @@ pub fn run_serial<S: Source, K: Sink, E: Sink, L: Ledger>(
     steps: &mut Steps<L>,
 ) -> Outcome
     ensures run { IsRun on_one_thread (TurnedInOrder steps.old steps.new) (map string_bytes words.now)
-        S.left S.faults source.old source.new K.taken K.faults out.old out.new E.taken E.faults err.old err.new result.status result.rounds }
+        S.left S.faults source.old source.new K.taken K.faults out.old out.new
+        E.taken E.faults err.old err.new result.status result.rounds }
 
     // The turns are bounded, and where the words and the text ask for no run, or they are refused, there are none.
     ensures turns { AreTurns (S.left source.old) (command_of (map string_bytes words.now)) steps.old steps.new }

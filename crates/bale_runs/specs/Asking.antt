@@ -96,8 +96,10 @@ FewestBy false c s before after = FewestOfTask c.task s c.grid before after
 abbrev pub FewestOfCommand : Command → Subject → ℕ → ℕ → Type 0
 FewestOfCommand c s before after = FewestBy (by_asking c) c s before after
 
--- By queries and replies the first turns are those of the round of sums, made in sweeps in the order 0, 1, .., P-1.
-pub record SumsSwept (m : Sparse) (made : Made) (steady : Bool) (before after : ℕ) (rounds : List ClosedRound) : Type 0 where
+-- By queries and replies the first turns are those of the round of sums, made in sweeps in the
+-- order 0, 1, .., P-1.
+pub record SumsSwept (m : Sparse) (made : Made) (steady : Bool) (before after : ℕ)
+    (rounds : List ClosedRound) : Type 0 where
   pub between : ℕ
   pub low : between ≤ after
   pub sums : List ClosedRound
@@ -121,7 +123,8 @@ SweptOfCommand c s before after rounds = SweptBy (by_asking c) c s before after 
 -- queries and replies of the two that the round of sums takes at least, else of two in each round.
 abbrev pub ToldBy : Bool → Command → Subject → (ℕ → ℕ → Bool) → Type 0
 ToldBy true c s told = (r m : ℕ) → r < ranks c.grid → m < 2 → told r m ≡ true
-ToldBy false c s told = ToldOfTurns (plan_of c.task s).rules ((plan_of c.task s).starts (ranks c.grid)) c.grid told
+ToldBy false c s told =
+    ToldOfTurns (plan_of c.task s).rules ((plan_of c.task s).starts (ranks c.grid)) c.grid told
 
 abbrev pub ToldOfCommand : Command → Subject → (ℕ → ℕ → Bool) → Type 0
 ToldOfCommand c s told = ToldBy (by_asking c) c s told

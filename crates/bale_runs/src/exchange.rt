@@ -50,7 +50,8 @@ pub fn run_command<R: Threads + Wait + Sync, K: Sink, G: Gate + Sync>(
         K.taken K.faults out.old out.new result }
 
     // On threads the gate was told of the turns of each rank.
-    ensures told { as_asked command.now ≡ false → OnOk result (ToldOfCommand command.now subject.now (G.told gate.now)) }
+    ensures told { as_asked command.now ≡ false
+        → OnOk result (ToldOfCommand command.now subject.now (G.told gate.now)) }
 {
     if drives_serially(command) {
         run_uncounted::<Brand, K>(alloc, command, subject, out, Blank::new(1))

@@ -9,8 +9,8 @@ use Rattle.bale_runs.proofs.asking.ask_matrix_on_threads.Goals as goal
 
 pub returns-clause-finish : goal.returns-clause-finish
 returns-clause-finish g c =
-      finish c.args.command.now (subject.Matrix c.args.m.now)
-          (λ (rs : List ClosedRound). TellsAsking c.args.m.now (made_for false c.args.command.now) c.args.command.now.travel.steady rs)
-          g.K.Sink.taken g.K.Sink.faults c.args.out.now c.finish_asking.new.out c.finish_asking.result c.finish_asking.ensures
-          (tells_asking c.args.m.now (made_for false c.args.command.now) c.args.command.now.travel.steady _ c.in_ok-summed.summed.rounds
-          c.in_ok-replied.replied.rounds c.in_ok-summed.ensures.summed.rounds c.in_ok-replied.ensures.rounds refl)
+    finish c.args.command.now (subject.Matrix c.args.m.now)
+    (λ (rs : List ClosedRound). TellsAsking c.args.m.now (made_for false c.args.command.now) c.args.command.now.travel.steady rs)
+    g.K.Sink.taken g.K.Sink.faults c.args.out.now c.finish_asking.new.out c.finish_asking.result c.finish_asking.ensures
+    (tells_asking c.args.m.now (made_for false c.args.command.now) c.args.command.now.travel.steady _ c.in_ok-summed.summed.rounds
+    c.in_ok-replied.replied.rounds c.in_ok-summed.ensures.summed.rounds c.in_ok-replied.ensures.rounds refl)

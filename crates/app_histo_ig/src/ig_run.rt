@@ -49,7 +49,7 @@ fn part_of(alloc: Global, m: &Matrix, parts: &Parts, ranks: u32, rank: u32) -> R
     let begins = Begins {
         own: own_of(alloc, parts, rank)?,
         sums: zeros(alloc, (m.cols() / ranks + 1) as usize)?,
-        queries: no_queries(alloc, ranks)?,
+        queries: no_queries(alloc, ranks, parts.len(rank))?,
         answers: zeros(alloc, parts.len(rank))?,
     };
     Ok(Ig::new(rank, ranks, m.cols(), begins))
@@ -90,15 +90,18 @@ pub(crate) fn zeros(alloc: Global, n: usize) -> Result<Vec<u64>, NoMemory>
     Ok(vec![in alloc; 0u64; n]?)
 }
 
-/// An empty list for each sender.
-fn no_queries(alloc: Global, ranks: u32) -> Result<Vec<Vec<Item>>, NoMemory>
+/// An empty list for each sender, with room for an even part of so many queries and an eighth more.
+fn no_queries(alloc: Global, ranks: u32, queries: usize) -> Result<Vec<Vec<Item>>, NoMemory>
+    requires { 0 < ranks }
     ensures { IfOk result (λ v. map (λ l. l.items) v.items ≡ replicate ranks []) }
 {
-    let mut queries = Vec::new(alloc);
+    let even = queries / ranks as usize;
+    let room = even.saturating_add(even / 8 + 16);
+    let mut lists = Vec::new(alloc);
     for _sender in 0..ranks {
-        queries.push(Vec::new(alloc))?;
+        lists.push(Vec::with_capacity(alloc, room)?)?;
     }
-    Ok(queries)
+    Ok(lists)
 }
 
 /// Writes a line for each entry of the matrix, in order: its row and column from 1, and the sum of its column. The

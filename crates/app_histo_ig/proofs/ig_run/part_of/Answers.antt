@@ -13,6 +13,9 @@ own_of-requires c = part_below c.args.ranks c.args.rank c.args.m.now.entries c.a
 pub len-requires : goal.len-requires
 len-requires c = part_below c.args.ranks c.args.rank c.args.m.now.entries c.args.parts.now c.requires.below c.requires.dealt
 
+pub len-2-requires : goal.len-2-requires
+len-2-requires c = part_below c.args.ranks c.args.rank c.args.m.now.entries c.args.parts.now c.requires.below c.requires.dealt
+
 pub new-requires : goal.new-requires
 new-requires c =
     let own = own_part c.args.ranks c.args.rank c.args.m.now.entries c.args.parts.now c.requires.below c.requires.dealt in
@@ -21,7 +24,7 @@ new-requires c =
     (c.in_ok-zeros.ensures ∙ ap (λ n. replicate (n / c.args.ranks + 1) 0) c.cols.ensures)
     c.in_ok-no_queries.ensures
     (ap (map (to_add c.args.ranks)) (c.in_ok-own_of.ensures ∙ ap (map own_entry) own) ∙ own_values c.args.ranks (own_entries c.args.ranks c.args.rank c.args.m.now.entries))
-    (c.in_ok-zeros-2.ensures ∙ ap (λ n. replicate n 0) (c.len.ensures ∙ ap length own))))
+    (c.in_ok-zeros-2.ensures ∙ ap (λ n. replicate n 0) (c.len-2.ensures ∙ ap length own))))
     (begins_valid c.args.ranks c.args.m.now c.args.rank c.requires.below c.known.ensures)
 
 pub returns : goal.returns
@@ -33,4 +36,4 @@ returns c =
     (c.in_ok-zeros.ensures ∙ ap (λ n. replicate (n / c.args.ranks + 1) 0) c.cols.ensures)
     c.in_ok-no_queries.ensures
     (ap (map (to_add c.args.ranks)) (c.in_ok-own_of.ensures ∙ ap (map own_entry) own) ∙ own_values c.args.ranks (own_entries c.args.ranks c.args.rank c.args.m.now.entries))
-    (c.in_ok-zeros-2.ensures ∙ ap (λ n. replicate n 0) (c.len.ensures ∙ ap length own))
+    (c.in_ok-zeros-2.ensures ∙ ap (λ n. replicate n 0) (c.len-2.ensures ∙ ap length own))

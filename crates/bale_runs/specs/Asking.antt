@@ -1,6 +1,7 @@
 -- What a command exchanges, and how many turns that takes on one thread: by queries and replies for
 -- ig over biconvey, else in the rounds of its programs.
 use Rattle.std.specs.Prelude.{◌≡◌, ◌<◌, ◌≤◌, ◌+◌, ◌*◌, ◌++◌, ℕ, Bool, true, false, List, [], ◌∷◌, map, length}
+use Rattle.std.specs.List.{range_with_len}
 use Rattle.route_tensor.specs.Grid.{ranks}
 use Rattle.mtx_text.specs.Sparse.{Sparse}
 use Rattle.rank_node.specs.Movers.{manner_of}
@@ -18,6 +19,7 @@ use Rattle.app_histo_ig.specs.Asking.{AskingState, ig_talk}
 use Rattle.app_histo_ig.specs.AskingRuns.{AreAskersOf}
 use Rattle.app_histo_ig.specs.ColumnAnswers.{IgHeard}
 use Rattle.biconvey.specs.Drives.{TellsExchange}
+use Rattle.biconvey.specs.Driven.{HasSweptBoth}
 use Rattle.biconvey.specs.Worlds.{turns_of}
 use Rattle.bale_words.specs.declared.command.Command.{Command}
 use Rattle.bale_subjects.specs.declared.subject.Subject.{Subject}
@@ -96,21 +98,31 @@ FewestBy false c s before after = FewestOfTask c.task s c.grid before after
 abbrev pub FewestOfCommand : Command → Subject → ℕ → ℕ → Type 0
 FewestOfCommand c s before after = FewestBy (by_asking c) c s before after
 
--- By queries and replies the first turns are those of the round of sums, made in sweeps in the
--- order 0, 1, .., P-1.
-pub record SumsSwept (m : Sparse) (made : Made) (steady : Bool) (before after : ℕ)
+-- On one thread the ranks made the turns of the queries and the replies in sweeps, each in the order
+-- 0, 1, .., P-1, and no other turn; the rounds tell what these turns left.
+pub record AskedInOrder (m : Sparse) (made : Made) (steady : Bool) (before after : ℕ)
+    (rounds : List ClosedRound) : Type 0 where
+  pub askers : List AskingState
+  pub are : AreAskersOf m (ranks made.dims) askers
+  pub run : Finished AskingState
+  pub left : run.rounds ≡ rounds
+  pub swept : HasSweptBoth ig_talk askers made steady (range_with_len 0 (ranks made.dims)) before after run
+
+-- By queries and replies the first turns are those of the round of sums, and the rest those of the
+-- exchange.
+pub record SweptByAsking (m : Sparse) (made : Made) (steady : Bool) (before after : ℕ)
     (rounds : List ClosedRound) : Type 0 where
   pub between : ℕ
-  pub low : between ≤ after
   pub sums : List ClosedRound
   pub rest : List ClosedRound
   pub parts : rounds ≡ sums ++ rest
-  pub swept : SweptInOrder (map sums_way.case (sums_starts (ranks made.dims) m)) made
+  pub summed : SweptInOrder (map sums_way.case (sums_starts (ranks made.dims) m)) made
       (manner_of via.Convey steady) before between sums
+  pub asked : AskedInOrder m made steady between after rest
 
 abbrev pub SweptBy : Bool → Command → Subject → ℕ → ℕ → List ClosedRound → Type 0
 SweptBy true c (subject.Matrix m) before after rounds =
-    SumsSwept m (made_for true c) c.travel.steady before after rounds
+    SweptByAsking m (made_for true c) c.travel.steady before after rounds
 SweptBy true c (subject.Lines lines) before after rounds = ⊥
 SweptBy false c s before after rounds =
     SweptInOrder (starts_of c.task (ranks c.grid) s) (made_for true c) (manner_for c) before after rounds

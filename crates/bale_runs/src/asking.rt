@@ -12,7 +12,7 @@ ghost use Rattle.app_histo_ig.specs.SumsRuns.{sums_starts};
 ghost use Rattle.app_histo_ig.specs.AskingRuns.{AreAskersOf};
 ghost use Rattle.app_histo_ig.specs.ColumnAnswers.{IgHeard};
 ghost use Rattle.bale_words.specs.Ranges.{InRanges};
-ghost use Rattle.bale_runs.specs.Asking.{HasSummed, HasAsked, SumsSwept, SweptBy, TellsBy, ToldBy, TurnsBy, TurnsOfAsking, FewestBy};
+ghost use Rattle.bale_runs.specs.Asking.{AskedInOrder, HasSummed, HasAsked, SweptBy, SweptByAsking, TellsBy, ToldBy, TurnsBy, TurnsOfAsking, FewestBy};
 ghost use Rattle.bale_runs.specs.RunEnds.{Fits, IsRunEnd};
 ghost use Rattle.bale_runs.specs.Jobs.{by_asking};
 ghost use Rattle.bale_runs.specs.Runs.{made_for, SweptInOrder};
@@ -93,7 +93,7 @@ fn ask_matrix_serially<K: Sink, L: Ledger>(
     ensures steps { TurnsOfAsking m.now command.now.travel.steady command.now.grid
         steps.old steps.new }
     ensures fewest { IfOk result (λ f. steps.old + 3 * ranks command.now.grid ≤ steps.new) }
-    ensures swept { IfOk result (λ f. SumsSwept m.now (made_for true command.now) command.now.travel.steady
+    ensures swept { IfOk result (λ f. SweptByAsking m.now (made_for true command.now) command.now.travel.steady
         steps.old steps.new f.rounds) }
 {
     let summed = sum_serially(alloc, command, m, steps)?;
@@ -214,6 +214,8 @@ fn hear_serially<L: Ledger>(
     ensures asked { IfOk result (HasAsked m.now (made_for true command.now) command.now.travel.steady) }
     ensures steps { steps.new ≤ steps.old + turns_of command.now.grid (length m.now.entries) }
     ensures fewest { OnOk result (steps.old + ranks command.now.grid ≤ steps.new) }
+    ensures swept { IfOk result (λ run. AskedInOrder m.now (made_for true command.now) command.now.travel.steady
+        steps.old steps.new run.rounds) }
 {
     m.known();
     let grid = &command.grid;

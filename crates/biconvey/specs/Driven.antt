@@ -10,6 +10,7 @@ use Rattle.rank_group.specs.Told.{Made}
 use Rattle.round_program.specs.Talks.{Talk}
 use Rattle.round_program.specs.Replies.{HaveHeard}
 use Rattle.biconvey.specs.Drives.{TellsExchange}
+use Rattle.biconvey.specs.Turns.{AskedInSweeps}
 
 -- What it leaves of the askers `starts`, over two banks that were made as said.
 pub record HasExchanged {S : Type 0} (T : Talk S) (starts : List S) (made : Made) (steady : Bool)
@@ -21,10 +22,18 @@ pub record HasExchanged {S : Type 0} (T : Talk S) (starts : List S) (made : Made
       × TellsExchange T starts made steady (round_of q) (round_of r)
 
 -- What it further leaves on one thread, which counts its turns from `before` to `after`.
-pub record HasSweptBoth {S : Type 0} (dims : List ℕ) (before after : ℕ) (run : Finished S) : Type 0 where
+pub record HasSweptBoth {S : Type 0} (T : Talk S) (starts : List S) (made : Made) (steady : Bool) (turned : List ℕ)
+    (before after : ℕ) (run : Finished S) : Type 0 where
+  -- It made sweeps in the order given, and no other turn.
+  pub order : AskedInSweeps T made.dims made.cap made.slots steady starts turned before after run.progs
+  -- The closed rounds tell the logs that these turns left.
+  pub exchanged : (q r : ClosedRound) → run.rounds ≡ q ∷ r ∷ [] → (l : ℕ)
+      → (logs_of (round_of q).sent l ≡ order.last.sides.asking l) × (logs_of (round_of q).got l ≡ order.last.sides.asked l)
+      × (logs_of (round_of r).sent l ≡ order.last.sides.replying l)
+      × (logs_of (round_of r).got l ≡ order.last.sides.replied l)
   -- Each rank made a turn at least.
-  pub fewest : before + ranks dims ≤ after
+  pub fewest : before + ranks made.dims ≤ after
   -- No link of either way has more parcels than the run had turns.
-  pub posted : (q r : ClosedRound) → run.rounds ≡ q ∷ r ∷ [] → (l : ℕ) → l < links dims
+  pub posted : (q r : ClosedRound) → run.rounds ≡ q ∷ r ∷ [] → (l : ℕ) → l < links made.dims
       → (length (logs_of (round_of q).sent l) + before ≤ after)
       × (length (logs_of (round_of r).sent l) + before ≤ after)

@@ -49,7 +49,9 @@ pub fn drive_both<const CAP: usize, const HOPS: usize, A: Asker, L: Ledger>(
     requires askers { AreAskers A.talk (ranks grid.now) askers }
     ensures exchanged { IfOk result (HasExchanged A.talk askers
         (record { dims = grid.now; cap = CAP; slots = slots; by_slots = false }) steady) }
-    ensures swept { IfOk result (HasSweptBoth grid.now steps.old steps.new) }
+    ensures swept { IfOk result (HasSweptBoth A.talk askers
+        (record { dims = grid.now; cap = CAP; slots = slots; by_slots = false }) steady
+        order.now steps.old steps.new) }
 
     // The turns are bounded before the exchange, also where it ends in `NoMemory`.
     ensures steps { steps.new ≤ steps.old + turns_of grid.now (sum_by (λ s. length (A.talk.queries s)) askers) }

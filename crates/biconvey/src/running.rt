@@ -4,7 +4,9 @@ ghost use Rattle.std.specs.Prelude.{◌≡◌, ℕ, ◌+◌, ◌≤◌, Bool, tr
 ghost use Rattle.std.specs.List.{list_all};
 ghost use Rattle.route_tensor.specs.Grid.{ranks};
 ghost use Rattle.rank_group.specs.Ranks.{IsOrder};
+ghost use Rattle.rank_group.specs.Turns.{InSweeps};
 ghost use Rattle.query_node.specs.States.{BiState};
+ghost use Rattle.biconvey.specs.Turns.{IsAskingTurn};
 ghost use Rattle.biconvey.specs.Worlds.{AreBanks, PostedWithin, World, is_over, queries_in, sides_of, turns_of};
 
 use crate::sweeping::{Banks, sweep};
@@ -28,6 +30,11 @@ pub(crate) fn run_all<const CAP: usize, const HOPS: usize, A: Asker, L: Ledger>(
         (sides_of banks.queries banks.replies) }
     ensures banks { IfOk result (λ b. AreBanks CAP banks.entry.queries.dims banks.entry.queries.slots b.queries
         b.replies) }
+    // It made sweeps in this order, and no other turn.
+    ensures order { IfOk result (λ b. (k : ℕ)
+        × InSweeps (IsAskingTurn A.talk banks.entry.queries.dims CAP banks.entry.queries.slots) order.now k
+        (record { ranks = all.old.items; sides = sides_of banks.entry.queries banks.entry.replies; turns = steps.old })
+        (record { ranks = all.new.items; sides = sides_of b.queries b.replies; turns = steps.new })) }
     ensures over { OnOk result ((r : ℕ) (n : BiState A) → slice_get all.new.items r ≡ Some n → is_over n ≡ true) }
     ensures world { (steady : Bool) (starts : ℕ → A)
         → World A.talk banks.entry.queries.dims CAP banks.entry.queries.slots steady starts all.old.items

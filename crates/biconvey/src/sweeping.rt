@@ -8,6 +8,8 @@ ghost use Rattle.route_tensor.specs.Grid.{ranks};
 ghost use Rattle.rank_group.specs.Ranks.{IsOrder};
 ghost use Rattle.query_node.specs.States.{BiState};
 ghost use Rattle.query_node.specs.Ranks.{HasRank};
+ghost use Rattle.rank_group.specs.Turns.{InTurn};
+ghost use Rattle.biconvey.specs.Turns.{IsAskingTurn};
 ghost use Rattle.biconvey.specs.Worlds.{AreBanks, AfterRank, PostedWithin, World, SweptTo, sides_of};
 
 use bale_items::{NoMemory, Steps};
@@ -94,6 +96,10 @@ pub(crate) fn sweep<const CAP: usize, const HOPS: usize, A: Asker, L: Ledger>(
     // A turn posts at most one parcel on a link of either way.
     ensures posted { IfOk result (λ b. PostedWithin banks.entry.queries.dims
         (sides_of banks.entry.queries banks.entry.replies) steps.old (sides_of b.queries b.replies) steps.new) }
+    ensures order { IfOk result (λ b. InTurn (IsAskingTurn A.talk banks.entry.queries.dims CAP banks.entry.queries.slots)
+        order.now
+        (record { ranks = all.old.items; sides = sides_of banks.entry.queries banks.entry.replies; turns = steps.old })
+        (record { ranks = all.new.items; sides = sides_of b.queries b.replies; turns = steps.new })) }
     ensures swept { (steady : Bool) (starts : ℕ → A)
         → World A.talk banks.entry.queries.dims CAP banks.entry.queries.slots steady starts all.old.items
         (sides_of banks.entry.queries banks.entry.replies)

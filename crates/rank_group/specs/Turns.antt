@@ -26,18 +26,25 @@ pub record IsTurnOf {S : Type 0} (R : Rules S) (dims : List ℕ) (cap slots r : 
       → AfterRank R dims cap slots r n n' a.sent a.got b.sent b.got
   pub counted : (n : RankState S) → slice_get a.ranks r ≡ Some n → b.turns ≡ a.turns + turn_count n
 
+-- Something happened to each of a list, one after the other, and nothing else: `step r a b` says
+-- what happens to r between two moments.
+-- For the list 2, 0 there is a moment between: before it comes 2, and after it 0.
+abbrev pub InTurn : {X : Type 0} → (ℕ → X → X → Type 0) → List ℕ → X → X → Type 0
+InTurn {X} step [] a b = b ≡ a
+InTurn {X} step (r ∷ rs) a b = (m : X) × step r a m × InTurn step rs m b
+
+-- The same, so many times for one list.
+abbrev pub InSweeps : {X : Type 0} → (ℕ → X → X → Type 0) → List ℕ → ℕ → X → X → Type 0
+InSweeps {X} step order zero a b = b ≡ a
+InSweeps {X} step order (suc k) a b = (m : X) × InTurn step order a m × InSweeps step order k m b
+
 -- Between two moments the ranks of a list were turned, one after the other, and no other.
--- For the list 2, 0 there is a moment between: before it rank 2 was turned, and after it rank 0.
 abbrev pub TurnsOf : {S : Type 0} → Rules S → List ℕ → ℕ → ℕ → List ℕ → Scene S → Scene S → Type 0
-TurnsOf {S} R dims cap slots [] a b = b ≡ a
-TurnsOf {S} R dims cap slots (r ∷ rs) a b = (m : Scene S) × IsTurnOf R dims cap slots r a m
-    × TurnsOf R dims cap slots rs m b
+TurnsOf R dims cap slots rs a b = InTurn (IsTurnOf R dims cap slots) rs a b
 
 -- Between two moments so many sweeps were made in one order.
 abbrev pub SweepsOf : {S : Type 0} → Rules S → List ℕ → ℕ → ℕ → List ℕ → ℕ → Scene S → Scene S → Type 0
-SweepsOf {S} R dims cap slots order zero a b = b ≡ a
-SweepsOf {S} R dims cap slots order (suc k) a b = (m : Scene S) × TurnsOf R dims cap slots order a m
-    × SweepsOf R dims cap slots order k m b
+SweepsOf R dims cap slots order k a b = InSweeps (IsTurnOf R dims cap slots) order k a b
 
 -- A run of the programs `starts`, over a plain bank with so many slots, made sweeps in one order
 -- and no other turn, from the turn with the number `before` to that with the number `after`, and

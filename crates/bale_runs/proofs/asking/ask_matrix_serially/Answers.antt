@@ -1,8 +1,8 @@
-use Rattle.std.proofs.Common.{ℕ, ◌+◌, ◌*◌, ◌≤◌, List, true, refl, arith}
+use Rattle.std.proofs.Common.{◌+◌, ◌*◌, ◌≤◌, List, true, refl}
 use Rattle.route_tensor.specs.Grid.{ranks}
 use Rattle.rank_group.specs.declared.closed_round.ClosedRound.{ClosedRound}
 use Rattle.bale_subjects.specs.declared.subject.Subject.TheVariants as subject
-use Rattle.bale_runs.specs.Asking.{SumsSwept, TellsAsking}
+use Rattle.bale_runs.specs.Asking.{SweptByAsking, TellsAsking}
 use Rattle.bale_runs.specs.Runs.{made_for}
 use Rattle.bale_runs.proofs.Cases.{finish, always, rounds_as}
 use Rattle.bale_runs.proofs.Heard.{tells_asking, three_each, turns_of_both, turns_of_sums}
@@ -36,19 +36,16 @@ returns-clause-fewest g c =
     always c.finish_asking.result (c.args.steps.now + 3 * n ≤ c.hear_serially.new.steps)
     (three_each c.args.steps.now c.sum_serially.new.steps c.hear_serially.new.steps n c.in_ok-summed.ensures.fewest c.in_ok-replied.ensures.fewest)
 
-later : (between after ranks : ℕ) → between + ranks ≤ after → between ≤ after
-later between after ranks h = omega (arith, h)
-
 pub returns-clause-swept : goal.returns-clause-swept
 returns-clause-swept g c =
     rounds_as
-    (λ (rs : List ClosedRound). SumsSwept c.args.m.now (made_for true c.args.command.now) c.args.command.now.travel.steady c.args.steps.now c.hear_serially.new.steps rs)
+    (λ (rs : List ClosedRound). SweptByAsking c.args.m.now (made_for true c.args.command.now) c.args.command.now.travel.steady c.args.steps.now c.hear_serially.new.steps rs)
     c.finish_asking.result c.finish_asking.ensures.rounds
     (record {
       between = c.sum_serially.new.steps;
-      low = later c.sum_serially.new.steps c.hear_serially.new.steps (ranks c.args.command.now.grid) c.in_ok-replied.ensures.fewest;
       sums = c.in_ok-summed.summed.rounds;
       rest = c.in_ok-replied.replied.rounds;
       parts = refl;
-      swept = c.in_ok-summed.ensures.swept;
+      summed = c.in_ok-summed.ensures.swept;
+      asked = c.in_ok-replied.ensures.swept;
     })

@@ -1,4 +1,4 @@
-use Rattle.std.proofs.Common.{◌≤◌, ◌≡◌, ◌+◌, ◌∙◌, [], ◌∷◌, subst, true}
+use Rattle.std.proofs.Common.{◌≤◌, ◌≡◌, ◌+◌, ◌∙◌, [], ◌∷◌, refl, subst, true}
 use Rattle.route_tensor.proofs.Coordinates.{ranks_some}
 use Rattle.route_tensor.specs.Grid.{ranks}
 use Rattle.app_histo_ig.specs.Asking.{ig_talk}
@@ -6,11 +6,12 @@ use Rattle.app_histo_ig.specs.AskingRuns.{AreAskersOf}
 use Rattle.bale_runs.proofs.Asked.{they_ask}
 use Rattle.biconvey.specs.Driven.{HasExchanged, HasSweptBoth}
 use Rattle.biconvey.specs.Worlds.{turns_of}
-use Rattle.bale_runs.specs.Asking.{HasAsked}
+use Rattle.std.specs.List.{range_with_len}
+use Rattle.bale_runs.specs.Asking.{AskedInOrder, HasAsked}
 use Rattle.bale_runs.proofs.Exchanges.{is_slots}
 use Rattle.bale_runs.specs.Runs.{made_for}
 use Rattle.bale_runs.proofs.Heard.{all_heard, if_ok, one_each, told_replies}
-use Rattle.bale_runs.proofs.Orders.{ordered}
+use Rattle.bale_runs.proofs.Orders.{by_number, ordered}
 use Rattle.bale_runs.proofs.asking.hear_serially.Given.{Over}
 use Rattle.bale_runs.proofs.asking.hear_serially.Goals.{In_ok-askers}
 use Rattle.bale_runs.proofs.asking.hear_serially.Goals as goal
@@ -56,5 +57,24 @@ bi_serial-requires-clause-slots g c = is_slots c.args.command.now.travel.slots c
 
 pub returns-clause-fewest : goal.returns-clause-fewest
 returns-clause-fewest g c =
-    if_ok c.bi_serial.result (HasSweptBoth c.args.command.now.grid c.args.steps.now c.bi_serial.new.steps) (λ run. c.args.steps.now + ranks c.args.command.now.grid ≤ c.bi_serial.new.steps)
+    if_ok c.bi_serial.result (HasSweptBoth ig_talk c.in_ok-askers.askers (made_for true c.args.command.now) c.args.command.now.travel.steady c.deref.result.now c.args.steps.now c.bi_serial.new.steps) (λ run. c.args.steps.now + ranks c.args.command.now.grid ≤ c.bi_serial.new.steps)
     (λ run h. h.fewest) c.bi_serial.ensures.swept
+
+pub returns-clause-swept : goal.returns-clause-swept
+returns-clause-swept g c =
+    let x = (goal.at.returns-clause-swept g c).In_ok-askers in
+    let p = ranks c.args.command.now.grid in
+    let made = made_for true c.args.command.now in
+    let steady = c.args.command.now.travel.steady in
+    let askers = c.in_ok-askers.askers in
+    if_ok c.bi_serial.result (HasSweptBoth ig_talk askers made steady c.deref.result.now c.args.steps.now c.bi_serial.new.steps)
+    (λ run. AskedInOrder c.args.m.now made steady c.args.steps.now c.bi_serial.new.steps run.rounds)
+    (λ run h. record {
+      askers = askers;
+      are = are g x;
+      run = run;
+      left = refl;
+      swept = subst (λ order. HasSweptBoth ig_talk askers made steady order c.args.steps.now c.bi_serial.new.steps run)
+          (by_number c.ranks.result p c.deref.result.now (c.deref.ensures.value ∙ c.in_ok-order.ensures) c.ranks.ensures.value) h;
+    })
+    c.bi_serial.ensures.swept

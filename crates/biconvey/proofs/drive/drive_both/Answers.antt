@@ -3,12 +3,15 @@ use Rattle.list_laws.proofs.Lists.{get_once}
 use Rattle.list_laws.proofs.Results.{if_ok_from, if_ok_is}
 use Rattle.route_tensor.specs.Grid.{ranks}
 use Rattle.route_tensor.specs.Link.{links}
-use Rattle.port_bank.specs.Plain.{Bank, closed, sent_of}
+use Rattle.port_bank.specs.Plain.{Bank, closed, empty_bank, sent_of}
 use Rattle.port_bank.specs.Round.{IsRound, logs_of}
-use Rattle.rank_group.proofs.Ended.{all_sent, none_first}
+use Rattle.rank_group.proofs.Ended.{all_got, all_sent, none_first}
 use Rattle.rank_group.specs.Ranks.{IsOrder}
 use Rattle.rank_group.specs.declared.closed_round.ClosedRound.{ClosedRound}
 use Rattle.rank_group.specs.Rounds.{round_of}
+use Rattle.rank_group.specs.Turns.{InSweeps}
+use Rattle.biconvey.specs.Turns.{AskingScene, IsAskingTurn}
+use Rattle.biconvey.specs.Worlds.{sides_of}
 use Rattle.biconvey.specs.Drives.{askers_of}
 use Rattle.biconvey.specs.Driven.{HasExchanged, HasSweptBoth}
 use Rattle.biconvey.proofs.Ended.{first, banks_first, world_first, begins, steps_at, fewest_at, world_last, banks_last, have_heard, told}
@@ -54,10 +57,33 @@ returns-clause-exchanged g c =
 pub returns-clause-swept : goal.returns-clause-swept
 returns-clause-swept g c =
     let b = c.in_ok-banks-2.banks in
-    if_ok_from (HasSweptBoth c.args.grid.now c.args.steps.now c.run_all.new.steps) c.finish.result
+    let step = IsAskingTurn g.A.Asker.talk c.args.grid.now g.row.CAP c.args.slots in
+    let swept = c.in_ok-banks-2.ensures.order in
+    let last : AskingScene g.row.A.Denot = record { ranks = c.run_all.new.all.items; sides = sides_of b.queries b.replies; turns = c.run_all.new.steps } in
+    let begun : Bank → Bank → AskingScene g.row.A.Denot = λ x y. record { ranks = c.in_ok-all.all.items; sides = sides_of x y; turns = c.args.steps.now } in
+    if_ok_from (HasSweptBoth g.A.Asker.talk c.args.askers (record { dims = c.args.grid.now; cap = g.row.CAP; slots = c.args.slots; by_slots = false }) c.args.steady c.args.order.now c.args.steps.now c.run_all.new.steps) c.finish.result
     (λ f e.
     let x = if_ok_is (λ f. (q : ClosedRound) × (r : ClosedRound) × (f.rounds ≡ q ∷ r ∷ []) × (round_of q ≡ closed g.row.CAP b.queries) × IsRound (round_of q) × (round_of r ≡ closed g.row.CAP b.replies) × IsRound (round_of r)) c.finish.result f e c.finish.ensures.rounds in
     record {
+      order = record {
+        sweeps = swept.0;
+        first = c.in_ok-all.all.items;
+        last = last;
+        fresh = c.in_ok-all.ensures;
+        ended = sym (if_ok_is (λ f. f.progs ≡ askers_of c.run_all.new.all.items) c.finish.result f e c.finish.ensures.progs);
+        counted = refl;
+        swept = subst (λ (y : Bank). InSweeps step c.args.order.now swept.0 (begun (empty_bank c.args.grid.now c.args.slots) y) last) c.in_ok-banks.ensures.replies
+            (subst (λ (y : Bank). InSweeps (IsAskingTurn g.A.Asker.talk y.dims g.row.CAP y.slots) c.args.order.now swept.0 (begun y c.in_ok-banks.banks.replies) last) c.in_ok-banks.ensures.queries swept.1);
+      };
+      exchanged = λ q r is l.
+          let same : x.0 ∷ x.1 ∷ [] ≡ q ∷ r ∷ [] = sym x.2 ∙ is in
+          let same_q : x.0 ≡ q = get_once (x.0 ∷ x.1 ∷ []) 0 x.0 q refl (ap (λ rs. slice_get rs 0) same) in
+          let same_r : x.1 ≡ r = get_once (x.0 ∷ x.1 ∷ []) 1 x.1 r refl (ap (λ rs. slice_get rs 1) same) in (
+            ap (λ y. logs_of (round_of y).sent l) (sym same_q) ∙ all_sent g.row.CAP b.queries (round_of x.0) l x.3,
+            ap (λ y. logs_of (round_of y).got l) (sym same_q) ∙ all_got g.row.CAP b.queries (round_of x.0) l x.3,
+            ap (λ y. logs_of (round_of y).sent l) (sym same_r) ∙ all_sent g.row.CAP b.replies (round_of x.1) l x.5,
+            ap (λ y. logs_of (round_of y).got l) (sym same_r) ∙ all_got g.row.CAP b.replies (round_of x.1) l x.5,
+          );
       fewest = fewest_at g.A.Asker.talk g.row.CAP c.args.grid.now c.args.slots c.args.steady c.args.askers c.in_ok-all.all.items c.in_ok-banks.banks.queries c.in_ok-banks.banks.replies c.in_ok-all.ensures c.requires.askers c.requires.fits.cap_is.some c.in_ok-banks.ensures.queries c.in_ok-banks.ensures.replies c.in_ok-banks.ensures.lawful
           c.args.steps.now c.run_all.new.steps c.in_ok-banks-2.ensures.fewest;
       posted = λ q r is l below.

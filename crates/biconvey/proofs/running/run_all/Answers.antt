@@ -1,8 +1,11 @@
-use Rattle.std.proofs.Common.{rules, ◌≡◌, ◌<◌, ℕ, List, Bool, true, true≢false, length, refl, sym, ap, subst, ◌∙◌, arith, inl, inr}
+use Rattle.std.proofs.Common.{rules, ◌≡◌, ◌<◌, ℕ, suc, List, Bool, true, true≢false, length, refl, sym, ap, subst, ◌∙◌, arith, inl, inr}
 use Rattle.std.specs.List.{list_all}
 use Rattle.route_tensor.specs.Grid.{ranks}
 use Rattle.route_tensor.specs.Link.{links}
 use Rattle.rank_group.specs.Ranks.{IsOrder}
+use Rattle.rank_group.specs.Turns.{InTurn}
+use Rattle.rank_group.proofs.Ordered.{sweeps_more}
+use Rattle.biconvey.specs.Turns.{AskingScene, IsAskingTurn}
 use Rattle.biconvey.specs.Worlds.{is_over, World, SweptTo, sides_of}
 use Rattle.biconvey.proofs.Driven.{each_over, driving_none, steps_low, steps_lower, driving_more, fewer_left}
 use Rattle.biconvey.proofs.Swept.{same_banks, same_world}
@@ -80,7 +83,14 @@ loop-banks-preserved g c =
     let size : length c.args.order.now ≡ ranks d = c.requires.order.size in
     let more = c.in_ok-banks.ensures.fewest_steps in
     let rose = c.loop-banks.invariant.rose in
+    let first : AskingScene g.row.A.Denot = record { ranks = c.args.all.now.items; sides = sides_of c.args.banks.queries c.args.banks.replies; turns = c.args.steps.now } in
+    let before : AskingScene g.row.A.Denot = record { ranks = c.loop-banks.all.items; sides = sides_of b.queries b.replies; turns = c.loop-banks.steps } in
+    let after : AskingScene g.row.A.Denot = record { ranks = c.sweep.new.all.items; sides = sides_of b'.queries b'.replies; turns = c.sweep.new.steps } in
+    let one = subst (λ ds. InTurn (IsAskingTurn T ds g.row.CAP k) c.args.order.now before after) v.banks.queries_dims
+    (subst (λ ks. InTurn (IsAskingTurn T b.queries.dims g.row.CAP ks) c.args.order.now before after) v.banks.queries_slots c.in_ok-banks.ensures.order) in
+    let so_far = c.loop-banks.invariant.swept in
     record {
+      swept = (suc so_far.0, sweeps_more (IsAskingTurn T d g.row.CAP k) c.args.order.now so_far.0 first before after so_far.1 one);
       rose = omega (arith, more, rose);
       turned = inr (omega (arith, more, rose, size));
       posted = λ l below.
@@ -98,7 +108,7 @@ loop-banks-preserved g c =
     }
 
 pub loop-banks-init : goal.loop-banks-init
-loop-banks-init g c = record { rose = omega arith; posted = λ l below. (omega arith, omega arith); turned = inl refl; driving = driving_none g.A.Asker.talk g.row.CAP c.args.banks.queries.dims c.args.banks.queries.slots c.args.all.now.items c.args.steps.now c.args.banks.queries c.args.banks.replies c.requires.banks }
+loop-banks-init g c = record { rose = omega arith; swept = (0, refl); posted = λ l below. (omega arith, omega arith); turned = inl refl; driving = driving_none g.A.Asker.talk g.row.CAP c.args.banks.queries.dims c.args.banks.queries.slots c.args.all.now.items c.args.steps.now c.args.banks.queries c.args.banks.replies c.requires.banks }
 
 pub returns-then-all_over-clause-fewest : goal.returns-then-all_over-clause-fewest
 returns-then-all_over-clause-fewest g c = λ on.

@@ -5,7 +5,7 @@ use Rattle.route_tensor.specs.Grid.{ranks}
 use Rattle.route_tensor.specs.Link.{links}
 use Rattle.rank_group.specs.Ranks.{RankState, IsOrder}
 use Rattle.rank_group.specs.Drives.{progs_of}
-use Rattle.rank_group.specs.Turns.{Scene, TurnsOf}
+use Rattle.rank_group.specs.Turns.{Scene, IsTurnOf, TurnsOf}
 use Rattle.rank_group.specs.Worlds.{all_progress}
 use Rattle.rank_group.proofs.Ordered.{sweeps_more}
 use Rattle.rank_group.proofs.Driven.{some_goes, each_over, steps_low, steps_lower, driving_none, driving_more, world_now, fewer_left}
@@ -81,5 +81,5 @@ loop-bank-preserved g c =
           let so = c.loop-bank.invariant.posted l below in
           omega (arith, one, so);
       driving = driving;
-      swept = (suc so_far.0, sweeps_more R c.args.bank.dims g.row.CAP c.args.bank.slots c.args.order.now so_far.0 first before after so_far.1 one);
+      swept = (suc so_far.0, sweeps_more (IsTurnOf R c.args.bank.dims g.row.CAP c.args.bank.slots) c.args.order.now so_far.0 first before after so_far.1 one);
     }

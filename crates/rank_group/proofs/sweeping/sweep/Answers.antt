@@ -72,7 +72,7 @@ loop-i-preserved g c =
     record {
       sweeping = sweeping;
       turns = subst (λ rs. TurnsOf R c.args.bank.dims g.row.CAP c.args.bank.slots rs first after) (sym (take_more c.args.order.now c.loop-i.i 0 low))
-          (turns_more R c.args.bank.dims g.row.CAP c.args.bank.slots (take c.loop-i.i c.args.order.now) r first before after c.loop-i.invariant.turns here);
+          (turns_more (IsTurnOf R c.args.bank.dims g.row.CAP c.args.bank.slots) (take c.loop-i.i c.args.order.now) r first before after c.loop-i.invariant.turns here);
     }
 
 pub returns-clause-swept : goal.returns-clause-swept

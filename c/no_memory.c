@@ -91,7 +91,7 @@ int main(void) {
     while (over < 4) {
         over = 0;
         for (uint32_t r = 0; r < 4; r++) {
-            if (bale_phase(&ranks[r]) == BALE_WORKING && pushed < 1000 && bale_push(&ranks[r], &item, pushed % 4) == BALE_OK)
+            if (bale_phase(&ranks[r]) == BALE_STATE_WORKING && pushed < 1000 && bale_push(&ranks[r], &item, pushed % 4) == BALE_OK)
                 pushed++;
             over += bale_advance(&ranks[r], pushed == 1000) == BALE_COMPLETE;
             while (bale_pull(&ranks[r], &item, &from) == BALE_OK)

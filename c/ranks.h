@@ -11,7 +11,7 @@
 #define RANKS 4
 
 /* Ends the program where an answer is another than the one that was wanted. */
-static void want(const char *what, int32_t answer, int32_t wanted) {
+static inline void want(const char *what, int32_t answer, int32_t wanted) {
     if (answer != wanted) {
         fprintf(stderr, "%s: %s\n", what, bale_text(answer));
         exit(1);
@@ -19,7 +19,7 @@ static void want(const char *what, int32_t answer, int32_t wanted) {
 }
 
 /* Runs work for each rank on a thread of its own, and waits for all of them. */
-static void on_threads(void *(*work)(void *), void *ranks, size_t size) {
+static inline void on_threads(void *(*work)(void *), void *ranks, size_t size) {
     pthread_t threads[RANKS];
     for (int r = 0; r < RANKS; r++)
         if (pthread_create(&threads[r], NULL, work, (char *)ranks + (size_t)r * size) != 0)

@@ -58,8 +58,8 @@
                printf("rank %d was named %llu times\n", r, (unsigned long long)counts[r]);
        }
 
-   Build it with: cc program.c heap.c libbale_c.a -pthread (or, once installed, with pkg-config
-   --cflags --libs bale_c).
+   Build it with: cc program.c libbale_c.a -pthread (or, once installed, with pkg-config --cflags
+   --libs bale_c). bale_run.h has helpers that make this program shorter.
 
    The states of a rank, the calls that are no misuse in each, and the states that they lead to:
 
@@ -112,7 +112,9 @@
      array is as long as the number after it; what one call writes overlaps nothing else that it was
      given. A bool is 0 or 1.
    - No call comes from a signal handler, or from the forked child of a process with threads.
-   - malloc, realloc and free are one allocator, which aligns as C's does (heap.c hands them on).
+   - malloc, realloc and free are one allocator, which aligns as C's does. (The library takes memory
+     through three weak functions over them, rattle_alloc, rattle_realloc and rattle_dealloc of
+     heap.c. A program may define all three itself, and then they are to do what heap.c's do.)
    Ranks that have nothing to do should give their processor away (sched_yield), above all where
    there are more ranks than processors. */
 #ifndef BALE_H
@@ -125,6 +127,9 @@
 #ifdef __cplusplus
 extern "C" {
 #endif
+
+/* The version of this header; bale_version() is that of the library. */
+#define BALE_VERSION "1"
 
 /* What a call answers. From 0 up it is no misuse. */
 enum {
@@ -253,7 +258,8 @@ int32_t bale_phase(bale_rank *rank);
 int32_t bale_rank_free(bale_rank *rank);
 int32_t bale_group_free(bale_group *group);
 
-/* The version, "1"; "1 (unproved)" of a library that c/build --unproved made. heap.c defines it. */
+/* The version of the library, as BALE_VERSION has it; " (unproved)" follows if c/build --unproved
+   made the library. */
 const char *bale_version(void);
 
 /* An answer's name. */

@@ -1,6 +1,6 @@
 /* A rank resets and begins its next epoch, and pushes in it, while another is still in the epoch before: what it pushes is
    pulled in the other's next epoch. On one thread, so each order of the calls is the one that is written here. */
-#include "ranks.h"
+#include "examples/ranks.h"
 
 static bale_rank first, second;
 

@@ -6,7 +6,7 @@
    and epoch by epoch, since the archive is not instrumented and ThreadSanitizer sees nothing of its atomics: so it shows
    that the program needs no more than the rule, not that the archive keeps it. BREAKS makes programs that
    ThreadSanitizer must refuse: 1 is not told the rule, 2 writes a block after its push, 3 writes the array after done. */
-#include "ranks.h"
+#include "examples/ranks.h"
 
 enum { BLOCKS = 500, EPOCHS = 40, WORDS = 8 };
 

@@ -1,7 +1,7 @@
 /* Index gather, as bale's ig makes it: each rank reads 250,000 random places of a table that is
    dealt out over all ranks. Queries go over one group of ranks and replies over another, at once; a
    reply that finds no room waits in the query, which is put back. */
-#include "bale_run.h"
+#include <bale_run.h>
 #include "ranks.h"
 
 enum { READS = 250000, TABLE = 100000 };

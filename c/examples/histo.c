@@ -1,7 +1,7 @@
 /* A histogram, as bale's histo makes it: each of four ranks has 1,000,000 random indices into a
    table that is dealt out over all ranks, and sends each one to the rank that has its place, which
    counts it. */
-#include "bale_run.h"
+#include <bale_run.h>
 #include "ranks.h"
 
 enum { UPDATES = 1000000, TABLE = 100000 };

@@ -1,8 +1,8 @@
-/* What the examples share: ranks on threads, and an end that says what was wrong. */
+/* What some examples and tests share: ranks on threads by hand, an end that says what was wrong, and random numbers. */
 #ifndef RANKS_H
 #define RANKS_H
 
-#include "bale.h"
+#include <bale.h>
 #include <pthread.h>
 #include <sched.h>
 #include <stdio.h>

@@ -1,7 +1,7 @@
 /* The transpose of a sparse matrix in compressed rows (CSR) that is dealt out by rows over the
    ranks: each rank sends its entries to the ranks that will have their columns as rows, many a
    call. Twice transposed is the matrix itself, with the columns of each row in order. */
-#include "bale_run.h"
+#include <bale_run.h>
 #include "ranks.h"
 #include <string.h>
 

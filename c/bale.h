@@ -265,6 +265,7 @@ const char *bale_version(void);
 /* An answer's name. */
 static inline const char *bale_text(int32_t answer) {
     switch (answer) {
+    /* answers: checks/answers writes these lines */
     case BALE_OK: return "ok";
     case BALE_FULL: return "the buffer is full";
     case BALE_NONE: return "there is none";
@@ -282,6 +283,7 @@ static inline const char *bale_text(int32_t answer) {
     case BALE_IN_USE: return "the handle is in use";
     case BALE_TAKEN: return "the rank was made before";
     case BALE_LAST_EPOCH: return "no number is left for another epoch";
+    /* end of answers */
     default: return "no answer";
     }
 }

@@ -100,6 +100,8 @@
      needed. What it pushes in the new epoch is pulled in the receiver's new epoch.
    The reason: ranks share memory only through words on which every step is a sequentially
    consistent atomic, and each buffer belongs to the rank that such a step gave it to.
+   ThreadSanitizer does not see these steps, since the library is not instrumented. It reports
+   races that are none until it is told of pushes and pulls, as memory_order.c does.
 
    What you owe. C is not checked, so the contracts hold where the program keeps to this:
    - A handle begins as zeros: bale_rank rank = {0}. Its bytes are this library's: they are not

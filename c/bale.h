@@ -100,8 +100,9 @@
      needed. What it pushes in the new epoch is pulled in the receiver's new epoch.
    The reason: ranks share memory only through words on which every step is a sequentially
    consistent atomic, and each buffer belongs to the rank that such a step gave it to.
-   ThreadSanitizer does not see these steps, since the library is not instrumented. It reports
-   races that are none until it is told of pushes and pulls, as memory_order.c does.
+   ThreadSanitizer does not see these steps, since the library is not instrumented, and reports
+   races that are none. Tell it of them: __tsan_release(p) before the push of a pointer p, and
+   __tsan_acquire(p) after its pull.
 
    What you owe. C is not checked, so the contracts hold where the program keeps to this:
    - A handle begins as zeros: bale_rank rank = {0}. Its bytes are this library's: they are not

@@ -33,7 +33,8 @@ int main(void) {
     if (bale_group_new(dims, 1, 1, 1, true, &group) != BALE_OK || bale_rank_new(&group, 0, &rank) != BALE_OK)
         return 2;
     for (int32_t a = BALE_LAST_EPOCH; a <= BALE_COMPLETE; a++)
-        if (a == BALE_STATE_DORMANT || a == BALE_STATE_WORKING || a == BALE_STATE_ENDGAME || a == BALE_STATE_CLEANUP || a == BALE_STATE_COMPLETE)
+        if (a == BALE_STATE_DORMANT || a == BALE_STATE_WORKING || a == BALE_STATE_ENDGAME || a == BALE_STATE_CLEANUP ||
+            a == BALE_STATE_COMPLETE)
             return 8;
     if (!is_in(&rank, BALE_STATE_DORMANT) || bale_begin(&rank) != BALE_OK || !is_in(&rank, BALE_STATE_WORKING))
         return 3;
@@ -53,7 +54,8 @@ int main(void) {
     }
     if (answer != BALE_COMPLETE || bale_reset(&rank) != BALE_OK || !is_in(&rank, BALE_STATE_DORMANT))
         return 6;
-    if (bale_rank_free(&rank) != BALE_OK || bale_group_free(&group) != BALE_OK || bale_rank_free(&rank) != BALE_GONE || !is_in(&rank, BALE_GONE))
+    if (bale_rank_free(&rank) != BALE_OK || bale_group_free(&group) != BALE_OK || bale_rank_free(&rank) != BALE_GONE ||
+        !is_in(&rank, BALE_GONE))
         return 7;
     puts("header: as it should be");
     return 0;

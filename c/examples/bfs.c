@@ -149,7 +149,8 @@ int main(int argc, char **argv) {
     by_ranks(&g, root, o.ranks, parents);
     took(o, "bale", began);
     wrong += wrong_parents(&g, root, parents, level);
-    printf("bfs: %u vertices, %llu edges, %u reached, %u wrong\n", g.vertices, (unsigned long long)g.starts[g.vertices] / 2, reached, wrong);
+    unsigned long long edges = g.starts[g.vertices] / 2;
+    printf("bfs: %u vertices, %llu edges, %u reached, %u wrong\n", g.vertices, edges, reached, wrong);
     free(parents);
     free(level);
     free_graph(g);

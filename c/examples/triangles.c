@@ -121,8 +121,8 @@ int main(int argc, char **argv) {
     uint64_t found = by_ranks(&d, o.ranks);
     took(o, "bale", began);
     wrong |= found != wanted;
-    printf("triangles: %u vertices, %llu edges, %llu triangles%s\n", g.vertices, (unsigned long long)d.starts[d.vertices], (unsigned long long)found,
-           wrong ? ", which is wrong" : "");
+    unsigned long long edges = d.starts[d.vertices], all = found;
+    printf("triangles: %u vertices, %llu edges, %llu triangles%s\n", g.vertices, edges, all, wrong ? ", which is wrong" : "");
     free_graph(g);
     free_graph(d);
     return wrong;

@@ -32,7 +32,7 @@
 
    A call that fails reports it by BALE_FAILED(call, answer), which writes both on standard error
    and aborts, so none of the answers below has to be looked at. A program that would rather go on
-   defines BALE_FAILED before it includes this header; where that returns, so does the helper, with
+   defines BALE_FAILED before it includes this header. If that returns, so does the helper, with
    the answer, which is below 0. */
 #ifndef BALE_RUN_H
 #define BALE_RUN_H
@@ -48,7 +48,8 @@
 #define BALE_FAILED(call, answer) (fprintf(stderr, "%s: %s\n", call, bale_text(answer)), abort())
 #endif
 
-/* The size of a type or of an expression's type; no program compiles if it is more than 24 bytes. */
+/* The size of a type or of an expression. A program in which it is more than 24 bytes does not
+   compile. */
 #define BALE_ITEM_SIZE(of) (sizeof(of) * sizeof(char[sizeof(of) <= sizeof(bale_item) ? 1 : -1]))
 
 /* What a helper calls with each item that it pulls: the context that the helper was given, the
@@ -228,7 +229,8 @@ static inline void *bale_thread_main_(void *arg) {
     return NULL;
 }
 
-/* Starts a thread for each rank and waits for all: whether all could be started. If not, none works. */
+/* Starts a thread for each rank and waits for all: whether all could be started. If not, none
+   works. */
 static inline bool bale_threads_(bale_thread_ *threads, uint32_t count) {
     pthread_mutex_t gate = PTHREAD_MUTEX_INITIALIZER;
     pthread_t started[64];

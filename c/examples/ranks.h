@@ -10,7 +10,7 @@
 
 #define RANKS 4
 
-/* Ends the program where an answer is another than the one that was wanted. */
+/* Ends the program if an answer is not the one that was wanted. */
 static inline void want(const char *what, int32_t answer, int32_t wanted) {
     if (answer != wanted) {
         fprintf(stderr, "%s: %s\n", what, bale_text(answer));

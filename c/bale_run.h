@@ -43,14 +43,13 @@
 #include <stdio.h>
 #include <stdlib.h>
 #include <string.h>
+#ifdef __cplusplus
+#include <type_traits>
+#endif
 
 #ifndef BALE_FAILED
 #define BALE_FAILED(call, answer) (fprintf(stderr, "%s: %s\n", call, bale_text(answer)), abort())
 #endif
-
-/* The size of a type or of an expression. A program in which it is more than 24 bytes does not
-   compile. */
-#define BALE_ITEM_SIZE(of) (sizeof(of) * sizeof(char[sizeof(of) <= sizeof(bale_item) ? 1 : -1]))
 
 /* What a helper calls with each item that it pulls: the context that the helper was given, the
    item, which bale_value reads, and its sender. It makes no call on the rank that it is called for:
@@ -88,9 +87,9 @@ static inline int32_t bale_drain_or_yield_(bale_rank *rank, bale_take *take, voi
     return count < 0 ? (int32_t)count : BALE_OK;
 }
 
-/* What bale_send is, with the item's size in bytes, 1 to 24, in place of its type. */
-static inline int32_t bale_send_bytes(bale_rank *rank, const void *bytes, size_t size, uint32_t to,
-                                      bale_take *take, void *context) {
+/* bale_send with the item's size, up to 24 bytes. */
+static inline int32_t bale_send_(bale_rank *rank, const void *bytes, size_t size, uint32_t to,
+                                 bale_take *take, void *context) {
     bale_item item = {0, 0, 0};
     int32_t answer;
     memcpy(&item, bytes, size);
@@ -105,22 +104,39 @@ static inline int32_t bale_send_bytes(bale_rank *rank, const void *bytes, size_t
     return answer;
 }
 
-/* bale_send(rank, pointer, to, take, context) sends *pointer, of any type of 1 to 24 bytes, to a
-   rank. While there is no room for it, it advances and drains. It copies the bytes as they are.
-   BALE_OK, or what is wrong: as bale_push. */
-#define bale_send(rank, pointer, to, take, context) \
-    bale_send_bytes(rank, pointer, BALE_ITEM_SIZE(*(pointer)), to, take, context)
+/* bale_send(rank, pointer, to, take, context) sends *pointer to a rank. While there is no room for
+   it, it advances and drains. The item has any type of 1 to 24 bytes, which are copied as they are;
+   a larger one, or a void pointer, does not compile. A compound literal goes into parentheses:
+   bale_send(rank, (&(edge){a, b}), to, take, context).
+   BALE_OK, or what is wrong: as bale_push.
 
-/* bale_value(type, item) is the value of an item that was sent as that type. */
+   bale_value(type, item) is the value of an item that was sent as that type. */
 #ifdef __cplusplus
+template <typename Type>
+inline int32_t bale_send(bale_rank *rank, const Type *pointer, uint32_t to, bale_take *take,
+                         void *context) {
+    static_assert(std::is_trivially_copyable<Type>::value, "the bytes of an item are its value");
+    static_assert(sizeof(Type) <= sizeof(bale_item), "an item has at most 24 bytes");
+    return bale_send_(rank, pointer, sizeof(Type), to, take, context);
+}
 template <typename Type> inline Type bale_value_(const void *item) {
+    static_assert(std::is_trivially_copyable<Type>::value, "the bytes of an item are its value");
+    static_assert(sizeof(Type) <= sizeof(bale_item), "an item has at most 24 bytes");
     Type value;
-    memcpy(&value, item, BALE_ITEM_SIZE(Type));
+    memcpy(&value, item, sizeof value);
     return value;
 }
 #define bale_value(type, item) bale_value_<type>(item)
 #else
-#define bale_value(type, item) (*(type *)memcpy(&(type){0}, (item), BALE_ITEM_SIZE(type)))
+#define BALE_IF_(fact) sizeof(char[(fact) ? 1 : -1])
+#define BALE_FITS_(type) BALE_IF_(sizeof(type) <= sizeof(bale_item))
+#define BALE_NO_VOID_(pointer) BALE_IF_(_Generic((pointer), void *: 0, const void *: 0, default: 1))
+#define bale_send(rank, pointer, to, take, context)                                        \
+    bale_send_(rank, pointer,                                                              \
+               sizeof(*(pointer)) * BALE_FITS_(*(pointer)) * BALE_NO_VOID_(pointer), to, take, \
+               context)
+#define bale_value(type, item) \
+    (*(type *)memcpy(&(type){0}, (item), sizeof(type) * BALE_FITS_(type)))
 #endif
 
 /* Ends the epoch: says that this rank sends nothing more, drains until every rank has said so and

@@ -21,17 +21,21 @@
            uint32_t me = (uint32_t)(size_t)arg, next = me, left = 1000, from;
            bale_rank *rank = &ranks[me];
            bale_item item = {0};
-           int32_t state = BALE_MORE;
-           bale_begin(rank);
-           while (state != BALE_COMPLETE) {
-               while (left > 0 && bale_push(rank, &item, next % 4) == BALE_OK) {
+           int32_t answer = bale_begin(rank);
+           while (answer >= 0 && answer != BALE_COMPLETE) {
+               while (left > 0 && (answer = bale_push(rank, &item, next % 4)) == BALE_OK) {
                    next = next * 5 + 1;
                    left--;
                }
-               state = bale_advance(rank, left == 0);
+               if (answer >= 0)
+                   answer = bale_advance(rank, left == 0);
                while (bale_pull(rank, &item, &from) == BALE_OK)
                    counts[me]++;
                sched_yield();
+           }
+           if (answer < 0) {
+               fprintf(stderr, "rank %u: %s\n", me, bale_text(answer));
+               exit(1);
            }
            bale_rank_free(rank);
            return NULL;
@@ -54,8 +58,8 @@
                printf("rank %d was named %llu times\n", r, (unsigned long long)counts[r]);
        }
 
-   Build it with: cc program.c heap.c libbale_c.a -pthread (or, once installed, with pkg-config
-   --cflags --libs bale_c).
+   Build it with: cc program.c libbale_c.a -pthread (or, once installed, with pkg-config --cflags
+   --libs bale_c). bale_run.h has helpers that make this program shorter.
 
    The states of a rank, the calls that are no misuse in each, and the states that they lead to:
 
@@ -72,6 +76,8 @@
                   pushed toward this rank was pulled            pull finds nothing, and
                                                                 advance(true) stays
 
+   bale_phase reports them as BALE_STATE_DORMANT to BALE_STATE_COMPLETE.
+
    unpull, ranks and phase are no misuse in any state. Every call tests what it needs: misuse is
    answered by a code below 0, and changes nothing.
 
@@ -83,17 +89,35 @@
    knows no buffers and no routes: one page, crates/port_bank/specs/Machine.antt. docs/PROVED.md
    says what follows for all ranks together.
 
+   Memory order. You may send pointers.
+   - A push synchronizes with the pull that takes its item: what the sender did before the push
+     happens before what the receiver does after the pull, in C11's sense, whatever the route.
+   - What any rank did before its first advance(true) of an epoch happens before what every rank
+     does after its BALE_COMPLETE of that epoch. What a rank does after its first advance(true) is
+     not ordered by that epoch: if others read your array after their BALE_COMPLETE, change it only
+     after one more epoch.
+   - A rank may reset and begin while other ranks are still in the epoch before; no barrier is
+     needed. What it pushes in the new epoch is pulled in the receiver's new epoch.
+   The reason: ranks share memory only through words on which every step is a sequentially
+   consistent atomic, and each buffer belongs to the rank that such a step gave it to.
+   ThreadSanitizer does not see these steps, since the library is not instrumented, and reports
+   races that are none. Tell it of them: __tsan_release(p) before the push of a pointer p, and
+   __tsan_acquire(p) after its pull.
+
    What you owe. C is not checked, so the contracts hold where the program keeps to this:
    - A handle begins as zeros: bale_rank rank = {0}. Its bytes are this library's: they are not
      copied while it is live, changed or compared.
-   - A handle is used by one call at a time. It may go to another thread by the thread's start, its
-     join, a lock, or a sequentially consistent atomic. Different handles may be used at once, also
-     of one group; group and ranks may be freed in any order.
+   - A handle is used by one call at a time. It may move to another thread by anything that makes
+     the last call on the old thread happen before the first call on the new one, in C11's sense: a
+     thread's start or join, a lock, a release store and the acquire load that reads it. Different
+     handles may be used at once, also of one group; group and ranks may be freed in any order.
    - Pointers are valid for what the call reads and writes, and not NULL (also for 0 items); an
      array is as long as the number after it; what one call writes overlaps nothing else that it was
      given. A bool is 0 or 1.
    - No call comes from a signal handler, or from the forked child of a process with threads.
-   - malloc, realloc and free are one allocator, which aligns as C's does (heap.c hands them on).
+   - malloc, realloc and free are one allocator, which aligns as C's does. (The library takes memory
+     through three weak functions over them, rattle_alloc, rattle_realloc and rattle_dealloc of
+     heap.c. A program may define all three itself, and then they are to do what heap.c's do.)
    Ranks that have nothing to do should give their processor away (sched_yield), above all where
    there are more ranks than processors. */
 #ifndef BALE_H
@@ -106,6 +130,9 @@
 #ifdef __cplusplus
 extern "C" {
 #endif
+
+/* The version of this header; bale_version() is that of the library. */
+#define BALE_VERSION "1"
 
 /* What a call answers. From 0 up it is no misuse. */
 enum {
@@ -120,7 +147,7 @@ enum {
 
     BALE_NOT_BEGUN = -2,    /* the epoch has not begun */
     BALE_BEGUN = -3,        /* begin: the epoch has begun already */
-    BALE_DONE = -4,         /* push, advance(false): the rank said that it is done */
+    BALE_SAID_DONE = -4,    /* push, advance(false): the rank said that it is done */
     BALE_NO_RANK = -5,      /* no rank has this number */
     BALE_NOT_COMPLETE = -6, /* reset: the epoch isn't over for this rank */
     BALE_GONE = -7,         /* the handle is empty, or was freed */
@@ -130,13 +157,13 @@ enum {
     BALE_LAST_EPOCH = -11   /* reset: 2^63 epochs are over, and no number is left for another */
 };
 
-/* The states of a rank, as bale_phase tells them. */
+/* The states of a rank, as bale_phase reports them. No state has the number of an answer. */
 enum {
-    BALE_DORMANT = 0,
-    BALE_WORKING = 1,
-    BALE_ENDGAME = 2,
-    BALE_CLEANUP = 3,
-    BALE_COMPLETED = 4
+    BALE_STATE_DORMANT = 100,
+    BALE_STATE_WORKING = 101,
+    BALE_STATE_ENDGAME = 102,
+    BALE_STATE_CLEANUP = 103,
+    BALE_STATE_COMPLETE = 104
 };
 
 /* An item: three words, whose meaning is the program's own. */
@@ -183,7 +210,7 @@ int32_t bale_begin(bale_rank *rank);
 
 /* Pushes an item toward a rank; WORKING stays.
    BALE_OK; BALE_FULL where the open buffer toward it is full, and nothing is pushed; BALE_GONE;
-   BALE_NOT_BEGUN; BALE_DONE; BALE_NO_RANK. */
+   BALE_NOT_BEGUN; BALE_SAID_DONE; BALE_NO_RANK. */
 int32_t bale_push(bale_rank *rank, const bale_item *item, uint32_t to);
 
 /* Pulls the next item that came, with its sender; of one sender they come in the order in which it
@@ -199,7 +226,7 @@ int32_t bale_unpull(bale_rank *rank);
 /* Sends and collects what can be sent and collected now, and tells how far the rank is. done says
    that this rank pushes nothing more in this epoch; once said it stays.
    BALE_MORE in WORKING and ENDGAME, BALE_NEAR in CLEANUP, BALE_COMPLETE in COMPLETE, by the state
-   after it; BALE_GONE; BALE_NOT_BEGUN; BALE_DONE. */
+   after it; BALE_GONE; BALE_NOT_BEGUN; BALE_SAID_DONE. */
 int32_t bale_advance(bale_rank *rank, bool done);
 
 /* Ends an epoch: COMPLETE -> DORMANT.
@@ -209,8 +236,8 @@ int32_t bale_reset(bale_rank *rank);
 /* Pushes items[0] toward to[0], items[1] toward to[1], and so on, as so many calls of bale_push,
    until one finds no room: how many were pushed. The numbers of both arrays are the same; if they
    differ, the lesser counts. Below 0 it is misuse, and nothing is pushed: BALE_GONE,
-   BALE_NOT_BEGUN, BALE_DONE, or BALE_NO_RANK where any of the destinations is none. Each call looks
-   at all destinations first, so give it no more at once than the open buffers hold. */
+   BALE_NOT_BEGUN, BALE_SAID_DONE, or BALE_NO_RANK where any of the destinations is none. Each call
+   looks at all destinations first, so give it no more at once than the open buffers hold. */
 int64_t bale_push_many(bale_rank *rank, const bale_item *items, size_t nitems, const uint32_t *to,
                        size_t nto);
 
@@ -225,7 +252,7 @@ int64_t bale_pull_many(bale_rank *rank, bale_item *items, size_t nitems, uint32_
 /* How many ranks there are; 0 where the handle is empty. */
 uint32_t bale_ranks(bale_rank *rank);
 
-/* The state, as above; BALE_GONE where the handle is empty. */
+/* The state, BALE_STATE_DORMANT to BALE_STATE_COMPLETE; BALE_GONE if the handle is empty. */
 int32_t bale_phase(bale_rank *rank);
 
 /* Frees a rank, or a group; the handle is empty after it, and may be used for another. The other
@@ -234,12 +261,14 @@ int32_t bale_phase(bale_rank *rank);
 int32_t bale_rank_free(bale_rank *rank);
 int32_t bale_group_free(bale_group *group);
 
-/* The version, "1"; "1 (unproved)" of a library that c/build --unproved made. heap.c defines it. */
+/* The version of the library, as BALE_VERSION has it; " (unproved)" follows if c/build --unproved
+   made the library. */
 const char *bale_version(void);
 
 /* An answer's name. */
 static inline const char *bale_text(int32_t answer) {
     switch (answer) {
+    /* answers: checks/answers writes these lines */
     case BALE_OK: return "ok";
     case BALE_FULL: return "the buffer is full";
     case BALE_NONE: return "there is none";
@@ -249,7 +278,7 @@ static inline const char *bale_text(int32_t answer) {
     case BALE_NO_MEMORY: return "no memory";
     case BALE_NOT_BEGUN: return "the epoch has not begun";
     case BALE_BEGUN: return "the epoch has begun already";
-    case BALE_DONE: return "the rank said that it is done";
+    case BALE_SAID_DONE: return "the rank said that it is done";
     case BALE_NO_RANK: return "no rank has this number";
     case BALE_NOT_COMPLETE: return "the epoch isn't over";
     case BALE_GONE: return "the handle is empty";
@@ -257,6 +286,7 @@ static inline const char *bale_text(int32_t answer) {
     case BALE_IN_USE: return "the handle is in use";
     case BALE_TAKEN: return "the rank was made before";
     case BALE_LAST_EPOCH: return "no number is left for another epoch";
+    /* end of answers */
     default: return "no answer";
     }
 }

@@ -11,6 +11,14 @@ _Static_assert(sizeof(bale_item) == 24, "an item is three words");
 _Static_assert(sizeof(bale_rank) == 16 && offsetof(bale_rank, live) == 8, "a handle is a pointer and a byte");
 #endif
 
+/* Whether the rank is in this state, and says so if not. */
+static bool is_in(bale_rank *rank, int32_t state) {
+    if (bale_phase(rank) == state)
+        return true;
+    fprintf(stderr, "header: bale_phase answers %d in state %d\n", (int)bale_phase(rank), (int)state);
+    return false;
+}
+
 int main(void) {
     bale_group group;
     bale_rank rank;
@@ -24,7 +32,11 @@ int main(void) {
             return 1;
     if (bale_group_new(dims, 1, 1, 1, true, &group) != BALE_OK || bale_rank_new(&group, 0, &rank) != BALE_OK)
         return 2;
-    if (bale_begin(&rank) != BALE_OK)
+    for (int32_t a = BALE_LAST_EPOCH; a <= BALE_COMPLETE; a++)
+        if (a == BALE_STATE_DORMANT || a == BALE_STATE_WORKING || a == BALE_STATE_ENDGAME || a == BALE_STATE_CLEANUP ||
+            a == BALE_STATE_COMPLETE)
+            return 8;
+    if (!is_in(&rank, BALE_STATE_DORMANT) || bale_begin(&rank) != BALE_OK || !is_in(&rank, BALE_STATE_WORKING))
         return 3;
     for (uint64_t n = 0; n < 3; n++) {
         item.a = n, item.b = n + 1, item.c = n + 2;
@@ -34,12 +46,16 @@ int main(void) {
         if (bale_pull(&rank, &item, &from) != BALE_OK || item.a != n || item.b != n + 1 || item.c != n + 2 || from != 0)
             return 5;
     }
-    int32_t state = BALE_MORE;
-    for (int turn = 0; turn < 9 && state != BALE_COMPLETE; turn++)
-        state = bale_advance(&rank, true);
-    if (state != BALE_COMPLETE || bale_reset(&rank) != BALE_OK || bale_phase(&rank) != BALE_DORMANT)
+    int32_t answer = BALE_MORE;
+    for (int turn = 0; turn < 9 && answer != BALE_COMPLETE; turn++) {
+        answer = bale_advance(&rank, true);
+        if (!is_in(&rank, answer == BALE_COMPLETE ? BALE_STATE_COMPLETE : answer == BALE_NEAR ? BALE_STATE_CLEANUP : BALE_STATE_ENDGAME))
+            return 9;
+    }
+    if (answer != BALE_COMPLETE || bale_reset(&rank) != BALE_OK || !is_in(&rank, BALE_STATE_DORMANT))
         return 6;
-    if (bale_rank_free(&rank) != BALE_OK || bale_group_free(&group) != BALE_OK || bale_rank_free(&rank) != BALE_GONE)
+    if (bale_rank_free(&rank) != BALE_OK || bale_group_free(&group) != BALE_OK || bale_rank_free(&rank) != BALE_GONE ||
+        !is_in(&rank, BALE_GONE))
         return 7;
     puts("header: as it should be");
     return 0;

@@ -1,14 +1,19 @@
-/* The allocator of the archive: three calls over malloc, realloc and free. A size of 0 takes a
-   block of the alignment's size, and a failed call answers a pointer that is not null, which
-   nothing reads. And what the archive is: one that c/build --unproved made has a mark. */
-#include <stdbool.h>
-#include <stddef.h>
+/* The allocator of the archive, three calls over malloc, realloc and free, and its version. The three are weak: a
+   program that defines all of them has its own. A size of 0 takes a block of the alignment's size, and a failed call
+   answers a pointer that is not null, which nothing reads. */
+#include "bale.h"
 #include <stdlib.h>
+
+#define WEAK __attribute__((weak))
 
 typedef struct {
     bool ok;
     void *p;
 } tried;
+
+WEAK tried rattle_alloc(size_t size, size_t align);
+WEAK tried rattle_realloc(void *p, size_t kept, size_t size, size_t align);
+WEAK void rattle_dealloc(void *p);
 
 static char none;
 
@@ -26,6 +31,8 @@ tried rattle_realloc(void *p, size_t kept, size_t size, size_t align) {
 
 void rattle_dealloc(void *p) { free(p); }
 
-extern const char bale_is_unproved __attribute__((weak));
-
-const char *bale_version(void) { return &bale_is_unproved != NULL ? "1 (unproved)" : "1"; }
+#ifdef BALE_UNPROVED
+const char *bale_version(void) { return BALE_VERSION " (unproved)"; }
+#else
+const char *bale_version(void) { return BALE_VERSION; }
+#endif

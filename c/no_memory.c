@@ -84,6 +84,9 @@ int main(void) {
             left = first + 1;
         }
     }
+    /* The archive's own allocator comes along with its version, and is not used. */
+    if (strncmp(bale_version(), BALE_VERSION, strlen(BALE_VERSION)) != 0)
+        want("bale_version", -99, BALE_OK);
     left = 0; /* from here no allocation succeeds, and none is needed */
     uint32_t pulled = 0, pushed = 0, over = 0;
     for (uint32_t r = 0; r < 4; r++)
@@ -91,7 +94,7 @@ int main(void) {
     while (over < 4) {
         over = 0;
         for (uint32_t r = 0; r < 4; r++) {
-            if (bale_phase(&ranks[r]) == BALE_WORKING && pushed < 1000 && bale_push(&ranks[r], &item, pushed % 4) == BALE_OK)
+            if (bale_phase(&ranks[r]) == BALE_STATE_WORKING && pushed < 1000 && bale_push(&ranks[r], &item, pushed % 4) == BALE_OK)
                 pushed++;
             over += bale_advance(&ranks[r], pushed == 1000) == BALE_COMPLETE;
             while (bale_pull(&ranks[r], &item, &from) == BALE_OK)

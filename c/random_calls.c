@@ -109,6 +109,8 @@ static void one_call(void) {
     uint32_t to = g->many == 0 || below(20) == 0 ? below(MOST_RANKS + 1) : below(g->many);
     bale_rank *rank = &g->ranks[me];
     int32_t state = bale_phase(rank);
+    if (state != BALE_GONE && (state < BALE_STATE_DORMANT || state > BALE_STATE_COMPLETE))
+        fail("bale_phase", state);
     bale_item item = {5, 6, 7};
     switch (below(40)) {
     case 0:
@@ -135,7 +137,7 @@ static void one_call(void) {
     case 7: {
         int32_t answer = bale_begin(rank);
         ONLY("bale_begin", answer, BALE_OK, BALE_BEGUN, BALE_GONE);
-        if ((answer == BALE_OK) != (state == BALE_DORMANT))
+        if ((answer == BALE_OK) != (state == BALE_STATE_DORMANT))
             fail("bale_begin in another state", answer);
         break;
     }
@@ -143,7 +145,7 @@ static void one_call(void) {
     case 9: {
         int32_t answer = bale_reset(rank);
         ONLY("bale_reset", answer, BALE_OK, BALE_NOT_COMPLETE, BALE_GONE);
-        if ((answer == BALE_OK) != (state == BALE_COMPLETED))
+        if ((answer == BALE_OK) != (state == BALE_STATE_COMPLETE))
             fail("bale_reset in another state", answer);
         if (answer == BALE_OK) {
             g->epoch[me]++;
@@ -160,10 +162,10 @@ static void one_call(void) {
     case 13:
     case 14:
     case 15: {
-        bool done = below(state == BALE_WORKING ? 60 : 2) == 0 || (state > BALE_WORKING && below(20) != 0);
+        bool done = below(state == BALE_STATE_WORKING ? 60 : 2) == 0 || (state > BALE_STATE_WORKING && below(20) != 0);
         int32_t answer = bale_advance(rank, done);
-        ONLY("bale_advance", answer, BALE_MORE, BALE_NEAR, BALE_COMPLETE, BALE_NOT_BEGUN, BALE_DONE, BALE_GONE);
-        if ((answer == BALE_DONE) != (state >= BALE_ENDGAME && !done))
+        ONLY("bale_advance", answer, BALE_MORE, BALE_NEAR, BALE_COMPLETE, BALE_NOT_BEGUN, BALE_SAID_DONE, BALE_GONE);
+        if ((answer == BALE_SAID_DONE) != (state >= BALE_STATE_ENDGAME && !done))
             fail("bale_advance in another state", answer);
         if (answer == BALE_COMPLETE)
             whole(g, me);
@@ -183,8 +185,8 @@ static void one_call(void) {
         }
         int64_t pushed = bale_push_many(rank, items, many, ranks, many + below(3) * (many < MANY - 2));
         if (pushed < 0)
-            ONLY("bale_push_many", (int32_t)pushed, BALE_NOT_BEGUN, BALE_DONE, BALE_NO_RANK, BALE_GONE);
-        if ((pushed >= 0) != (state == BALE_WORKING && good) || pushed > many)
+            ONLY("bale_push_many", (int32_t)pushed, BALE_NOT_BEGUN, BALE_SAID_DONE, BALE_NO_RANK, BALE_GONE);
+        if ((pushed >= 0) != (state == BALE_STATE_WORKING && good) || pushed > many)
             fail("bale_push_many in another state", pushed);
         for (int64_t k = 0; k < pushed; k++)
             g->pushed[me][ranks[k]]++;
@@ -199,7 +201,7 @@ static void one_call(void) {
         int64_t pulled = bale_pull_many(rank, items, many, senders, many);
         if (pulled < 0)
             ONLY("bale_pull_many", (int32_t)pulled, BALE_NOT_BEGUN, BALE_GONE);
-        if ((pulled >= 0) != (state > BALE_DORMANT) || pulled > many)
+        if ((pulled >= 0) != (state > BALE_STATE_DORMANT) || pulled > many)
             fail("bale_pull_many in another state", pulled);
         for (int64_t k = 0; k < pulled; k++)
             came(g, me, items[k], senders[k]);
@@ -220,7 +222,7 @@ static void one_call(void) {
     case 26: {
         int32_t answer = bale_pull(rank, &item, &from);
         ONLY("bale_pull", answer, BALE_OK, BALE_NONE, BALE_NOT_BEGUN, BALE_GONE);
-        if ((answer == BALE_OK || answer == BALE_NONE) != (state > BALE_DORMANT))
+        if ((answer == BALE_OK || answer == BALE_NONE) != (state > BALE_STATE_DORMANT))
             fail("bale_pull in another state", answer);
         if (answer != BALE_OK) {
             if (item.a != 5 || item.b != 6 || item.c != 7 || from != 77)
@@ -240,8 +242,8 @@ static void one_call(void) {
     default: {
         item = item_of(g, me, to, to < MOST_RANKS ? g->pushed[me][to] : 0);
         int32_t answer = bale_push(rank, &item, to);
-        ONLY("bale_push", answer, BALE_OK, BALE_FULL, BALE_NOT_BEGUN, BALE_DONE, BALE_NO_RANK, BALE_GONE);
-        if ((answer == BALE_OK || answer == BALE_FULL) != (state == BALE_WORKING && to < g->many))
+        ONLY("bale_push", answer, BALE_OK, BALE_FULL, BALE_NOT_BEGUN, BALE_SAID_DONE, BALE_NO_RANK, BALE_GONE);
+        if ((answer == BALE_OK || answer == BALE_FULL) != (state == BALE_STATE_WORKING && to < g->many))
             fail("bale_push in another state", answer);
         if (answer == BALE_OK)
             g->pushed[me][to]++;

@@ -34,6 +34,12 @@ stands_on() { # crate
         END { reach(crate); for (name in reached) print name, size[name] + 0 }'
 }
 
+# The sum of what the library for C is made of: the sources of bale_c and of what it stands on.
+library_sources() {
+    # shellcheck disable=SC2046
+    (cd "$top" && sum_of crates.txt $(stands_on bale_c | sort | sed 's,\([^ ]*\) .*,crates/\1/src crates/\1/specs crates/\1/proofs,'))
+}
+
 # The toolchain's identity, or nothing where rt is not found.
 toolchain() {
     local rt

@@ -26,6 +26,7 @@ DORMANT, WORKING, ENDGAME, CLEANUP, COMPLETED = range(5)
 NO_RANK, BAD_NUMBERS = -5, -8
 
 _MISUSE = {
+    # answers: checks/answers writes these lines
     -1: "no memory",
     -2: "the epoch has not begun",
     -3: "the epoch has begun already",
@@ -37,6 +38,7 @@ _MISUSE = {
     -9: "the handle is in use",
     -10: "the rank was made before",
     -11: "no number is left for another epoch",
+    # end of answers
 }
 
 

@@ -34,6 +34,7 @@ pub enum Misuse {
 impl fmt::Display for Misuse {
     fn fmt(&self, f: &mut fmt::Formatter<'_>) -> fmt::Result {
         f.write_str(match self {
+            // answers: checks/answers writes these lines
             Misuse::NoMemory => "no memory",
             Misuse::NotBegun => "the epoch has not begun",
             Misuse::Begun => "the epoch has begun already",
@@ -43,6 +44,7 @@ impl fmt::Display for Misuse {
             Misuse::BadNumbers => "no grid, no capacity or no number of slots",
             Misuse::Taken => "the rank was made before",
             Misuse::LastEpoch => "no number is left for another epoch",
+            // end of answers
         })
     }
 }

@@ -1,6 +1,7 @@
 /* Index gather, as bale's ig makes it: each rank reads 250,000 random places of a table that is
    dealt out over all ranks. Queries go over one group of ranks and replies over another, at once; a
    reply that finds no room waits in the query, which is put back. */
+#include <bale_run.h>
 #include "ranks.h"
 
 enum { READS = 250000, TABLE = 100000 };
@@ -18,11 +19,11 @@ static void *gather(void *arg) {
     rank *me = arg;
     uint64_t seed = me->number + 1, index = random_of(&seed) % TABLE;
     uint32_t asked = 0, from;
-    int32_t asking = BALE_MORE, answering = BALE_MORE;
+    bool asking = true, answering = true;
     bale_item item;
     want("bale_begin", bale_begin(&me->asks), BALE_OK);
     want("bale_begin", bale_begin(&me->answers), BALE_OK);
-    while (asking != BALE_COMPLETE || answering != BALE_COMPLETE) {
+    while (asking || answering) {
         while (asked < READS) {
             bale_item query = {.a = index / RANKS, .b = asked};
             if (bale_push(&me->asks, &query, (uint32_t)(index % RANKS)) != BALE_OK)
@@ -30,7 +31,7 @@ static void *gather(void *arg) {
             index = random_of(&seed) % TABLE;
             asked++;
         }
-        asking = bale_advance(&me->asks, asked == READS);
+        asking = bale_going(&me->asks, asked == READS);
         while (bale_pull(&me->asks, &item, &from) == BALE_OK) {
             bale_item reply = {.a = value_at(item.a * RANKS + me->number), .b = item.b};
             if (bale_push(&me->answers, &reply, from) != BALE_OK) {
@@ -39,12 +40,11 @@ static void *gather(void *arg) {
             }
         }
         /* Once no query can come any more, this rank has given its last answer. */
-        if (asking != BALE_COMPLETE)
-            asking = bale_advance(&me->asks, asked == READS);
-        answering = bale_advance(&me->answers, asking == BALE_COMPLETE);
+        if (asking)
+            asking = bale_going(&me->asks, asked == READS);
+        answering = bale_going(&me->answers, !asking);
         while (bale_pull(&me->answers, &item, &from) == BALE_OK)
             me->read[item.b] = item.a;
-        sched_yield();
     }
     return NULL;
 }

@@ -1,8 +1,8 @@
-/* What the examples share: ranks on threads, and an end that says what was wrong. */
+/* What some examples and tests share: ranks on threads by hand, an end that says what was wrong, and random numbers. */
 #ifndef RANKS_H
 #define RANKS_H
 
-#include "bale.h"
+#include <bale.h>
 #include <pthread.h>
 #include <sched.h>
 #include <stdio.h>
@@ -10,8 +10,8 @@
 
 #define RANKS 4
 
-/* Ends the program where an answer is another than the one that was wanted. */
-static void want(const char *what, int32_t answer, int32_t wanted) {
+/* Ends the program if an answer is not the one that was wanted. */
+static inline void want(const char *what, int32_t answer, int32_t wanted) {
     if (answer != wanted) {
         fprintf(stderr, "%s: %s\n", what, bale_text(answer));
         exit(1);
@@ -19,7 +19,7 @@ static void want(const char *what, int32_t answer, int32_t wanted) {
 }
 
 /* Runs work for each rank on a thread of its own, and waits for all of them. */
-static void on_threads(void *(*work)(void *), void *ranks, size_t size) {
+static inline void on_threads(void *(*work)(void *), void *ranks, size_t size) {
     pthread_t threads[RANKS];
     for (int r = 0; r < RANKS; r++)
         if (pthread_create(&threads[r], NULL, work, (char *)ranks + (size_t)r * size) != 0)

@@ -1,6 +1,7 @@
 /* The transpose of a sparse matrix in compressed rows (CSR) that is dealt out by rows over the
    ranks: each rank sends its entries to the ranks that will have their columns as rows, many a
    call. Twice transposed is the matrix itself, with the columns of each row in order. */
+#include <bale_run.h>
 #include "ranks.h"
 #include <string.h>
 
@@ -45,9 +46,8 @@ static void *transpose(void *arg) {
     size_t next = 0, all = me->in.starts[me->in.rows], came = 0, most = 1024;
     uint32_t row = 0;
     entry *entries = room(most, sizeof(entry));
-    int32_t state = BALE_MORE;
     want("bale_begin", bale_begin(&me->handle), BALE_OK);
-    while (state != BALE_COMPLETE) {
+    while (bale_going(&me->handle, next == all)) {
         bale_item items[AT_ONCE];
         uint32_t to[AT_ONCE], from[AT_ONCE];
         size_t count = 0, at = next;
@@ -65,7 +65,6 @@ static void *transpose(void *arg) {
         }
         while (row < me->in.rows && me->in.starts[row + 1] <= next)
             row++;
-        state = bale_advance(&me->handle, next == all);
         int64_t pulled;
         while ((pulled = bale_pull_many(&me->handle, items, AT_ONCE, from, AT_ONCE)) > 0)
             for (int64_t k = 0; k < pulled; k++) {
@@ -78,7 +77,6 @@ static void *transpose(void *arg) {
                 }
                 entries[came++] = (entry){items[k].a, items[k].b, items[k].c};
             }
-        sched_yield();
     }
     want("bale_reset", bale_reset(&me->handle), BALE_OK);
     qsort(entries, came, sizeof(entry), by_place);

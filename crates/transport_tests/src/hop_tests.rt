@@ -48,6 +48,28 @@ fn begun<const HOPS: usize>(
     Ok(state)
 }
 
+/// The same, with an item pushed toward a rank.
+fn begun_and_pushed<const HOPS: usize>(
+    rt: &impl Abort,
+    alloc: Global,
+    grid: &Grid,
+    rank: u32,
+    to: u32,
+) -> Result<RankState<1, HOPS>, NoMemory>
+    requires cap { IsCap 1 }
+    requires hops { length grid.now ≡ HOPS }
+    requires rank { rank < ranks grid.now }
+    requires to { to < ranks grid.now }
+    ensures dims { IfOk result (λ st. st.dims ≡ grid.now) }
+    ensures rank { IfOk result (λ st. st.rank ≡ rank) }
+    ensures none_lent { IfOk result (λ st. st.lent ≡ Nothing) }
+    ensures epoch { IfOk result (λ st. st.epoch ≡ 0) }
+{
+    let mut state = begun(alloc, grid, rank)?;
+    assert_eq!(rt; state.push(ITEM, to), Pushed::Accepted);
+    Ok(state)
+}
+
 /// The parcel of a link goes from its sender to its reader, whose empty inbox comes back for it. Answers its first entry.
 fn carry<const HOPS: usize>(
     rt: &impl Abort,
@@ -109,11 +131,10 @@ fn three_hops_by_lending(rt: HostRuntime) -> Result<(), Fail> {
     let grid = Grid::new(&[2, 2, 2])?;
     assert_eq!(rt; grid.ranks(), 8);
     assert_eq!(rt; grid.links(), 48);
-    let mut one = begun::<3>(rt.alloc(), &grid, 1)?;
+    let mut one = begun_and_pushed::<3>(&rt, rt.alloc(), &grid, 1, 6)?;
     let mut zero = begun::<3>(rt.alloc(), &grid, 0)?;
     let mut two = begun::<3>(rt.alloc(), &grid, 2)?;
     let mut six = begun::<3>(rt.alloc(), &grid, 6)?;
-    assert_eq!(rt; one.push(ITEM, 6), Pushed::Accepted);
     let first = hop(&rt, &grid, (2, 1, 1, 0), &mut one, &mut zero);
     assert_eq!(rt; first, Some((entry(0, 1, 1), (1, 6))));
     assert_eq!(rt; zero.relay(1), 1);

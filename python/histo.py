@@ -1,5 +1,5 @@
-"""A histogram of random indices: its table is dealt out over four ranks, each on a thread of its own.
-It is compared with a plain loop."""
+"""A histogram of random indices: its table is dealt out over four ranks, each on a thread of its
+own. It is compared with a plain loop."""
 
 import random
 import time

@@ -2,9 +2,9 @@
 
     python3 transpose.py [ENTRIES [RANKS]]
 
-Each rank has some of the entries, in any order, and gets those of its columns, each with its row,
-column and value. Sorted by column and row they are its rows of the transpose. They are compared with
-a plain sort of Python's.
+Each rank has some of the entries (row, column, value) in any order, and gets those of its columns.
+Sorted by column and row, they are its rows of the transpose, which are compared with a plain sort
+of a list.
 """
 
 import sys
@@ -66,12 +66,15 @@ def main():
     parts = bale.run(ranks, transpose, buffer=BUFFER)
     took, began = time.perf_counter() - began, time.perf_counter()
     transposed(matrix)
-    print(f"python transpose: {ranks} ranks {took:.3f} s, numpy on one thread {time.perf_counter() - began:.3f} s")
-    wanted = numpy.array(sorted([column, row, value] for row, column, value in matrix.tolist()), dtype=numpy.uint64)
+    alone = time.perf_counter() - began
+    print(f"python transpose: {ranks} ranks {took:.3f} s, numpy on one thread {alone:.3f} s")
+    in_order = sorted([column, row, value] for row, column, value in matrix.tolist())
+    wanted = numpy.array(in_order, dtype=numpy.uint64)
     # Rank r has the rows of the transpose with row % ranks == r, and so in the same order.
-    wrong = sum(not numpy.array_equal(part, wanted[wanted[:, 0] % ranks == number]) for number, part in enumerate(parts))
+    owners = wanted[:, 0] % ranks
+    wrong = sum(not numpy.array_equal(part, wanted[owners == r]) for r, part in enumerate(parts))
     print(f"python transpose: {sum(map(len, parts))} of {entries} entries, {wrong} ranks wrong")
-    assert wrong == 0 and sum(map(len, parts)) == entries
+    assert wrong == 0 and len(parts) == ranks
 
 
 main()

@@ -23,12 +23,13 @@ def build_wheel(wheel_directory, config_settings=None, metadata_directory=None):
     version = VERSION + ("+unproved" if is_unproved(library) else "")
     platform = sysconfig.get_platform().replace("-", "_").replace(".", "_")
     info, tag = f"{NAME}-{version}.dist-info", f"py3-none-{platform}"
-    files = {f"bale/{path.name}": path.read_bytes() for path in sorted(PACKAGE.iterdir()) if path.suffix in (".py", ".typed")}
+    sources = sorted(path for path in PACKAGE.iterdir() if path.suffix in (".py", ".typed"))
+    files = {f"bale/{path.name}": path.read_bytes() for path in sources}
     files["bale/libbale_c.so"] = library.read_bytes()
     files[f"{info}/METADATA"] = metadata(version).encode()
-    files[f"{info}/WHEEL"] = f"Wheel-Version: 1.0\nGenerator: bale_wheel\nRoot-Is-Purelib: false\nTag: {tag}\n".encode()
-    record = f"{info}/RECORD"
-    files[record] = "".join([*(f"{name},{checksum(data)},{len(data)}\n" for name, data in files.items()), f"{record},,\n"]).encode()
+    files[f"{info}/WHEEL"] = wheel_file(tag).encode()
+    lines = [f"{name},{checksum(data)},{len(data)}\n" for name, data in files.items()]
+    files[f"{info}/RECORD"] = "".join([*lines, f"{info}/RECORD,,\n"]).encode()
     wheel = f"{NAME}-{version}-{tag}.whl"
     with zipfile.ZipFile(Path(wheel_directory) / wheel, "w", zipfile.ZIP_DEFLATED) as archive:
         for name, data in files.items():
@@ -41,7 +42,7 @@ def build_wheel(wheel_directory, config_settings=None, metadata_directory=None):
 
 def build_sdist(sdist_directory, config_settings=None):
     """There is none: the library comes from the repository."""
-    raise NotImplementedError("no source distribution: build a wheel in the repository, by pip wheel ./python")
+    raise NotImplementedError("there is no source distribution: pip wheel ./python makes a wheel")
 
 
 def is_unproved(library):
@@ -54,12 +55,17 @@ def checksum(data):
     return "sha256=" + base64.urlsafe_b64encode(hashlib.sha256(data).digest()).rstrip(b"=").decode()
 
 
+def wheel_file(tag):
+    lines = ["Wheel-Version: 1.0", "Generator: bale_wheel", "Root-Is-Purelib: false", f"Tag: {tag}"]
+    return "\n".join(lines) + "\n"
+
+
 def metadata(version):
     lines = [
         "Metadata-Version: 2.1",
         "Name: bale-conveyors",
         f"Version: {version}",
-        "Summary: Conveyors: many ranks exchange small items in aggregated buffers, over a proved library",
+        "Summary: Conveyors: many ranks exchange small items, over a proved library",
         "Requires-Python: >=3.8",
         "Provides-Extra: arrays",
         "Requires-Dist: numpy; extra == 'arrays'",

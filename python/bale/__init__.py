@@ -33,4 +33,15 @@ from ._exchange import Group, Rank, Stopped
 from ._library import Item, version
 from ._run import run
 
-__all__ = ["Answer", "Group", "Item", "Misuse", "Phase", "Progress", "Rank", "Stopped", "run", "version"]
+__all__ = [
+    "Answer",
+    "Group",
+    "Item",
+    "Misuse",
+    "Phase",
+    "Progress",
+    "Rank",
+    "Stopped",
+    "run",
+    "version",
+]

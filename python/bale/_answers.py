@@ -6,7 +6,8 @@ import enum
 
 
 class Answer(enum.IntEnum):
-    """An answer by its name in bale.h, with what it says as `text`. Those from 0 up are no misuse."""
+    """What a call of the library answers, by the names of bale.h without BALE_; `text` says it in
+    words. Answers from 0 up are no misuse."""
 
     text: str
 

@@ -20,11 +20,12 @@ if TYPE_CHECKING:
 
     Words = Iterable[SupportsIndex]
     Items = Union[Sequence[Words], NDArray[numpy.integer[Any]], ctypes.Array[Item]]
-    Ranks = Union[Sequence[SupportsIndex], NDArray[numpy.integer[Any]], ctypes.Array[ctypes.c_uint32]]
+    Numbers = Sequence[SupportsIndex]
+    Ranks = Union[Numbers, NDArray[numpy.integer[Any]], ctypes.Array[ctypes.c_uint32]]
 
 
 class Block(NamedTuple):
-    """Numbers in memory: their owner, which keeps them there, the address, and how many there are."""
+    """Items or ranks in memory: the object that keeps them there, their address and their count."""
 
     owner: object
     address: int
@@ -42,14 +43,16 @@ def whole(value: SupportsIndex, what: str) -> int:
 def truth(value: object, what: str) -> bool:
     """A bool of Python or of numpy."""
     numpy_module = sys.modules.get("numpy")
-    if isinstance(value, bool) or (numpy_module is not None and isinstance(value, numpy_module.bool_)):
+    if isinstance(value, bool):
+        return value
+    if numpy_module is not None and isinstance(value, numpy_module.bool_):
         return bool(value)
     raise TypeError(f"{what} is True or False, not {value!r}")
 
 
 def u32(value: SupportsIndex, what: str, answer: Answer) -> int:
-    """A number of 32 bits. Others, which the library can't be given, get the answer that it has for
-    numbers that are too large."""
+    """A number of 32 bits. A number out of their range is the Misuse that the library answers for
+    one that is too large."""
     index = whole(value, what)
     if not 0 <= index < 2**32:
         raise Misuse(answer)
@@ -96,7 +99,8 @@ def ranks_block(to: Ranks) -> Block:
 
 def _ctypes_block(given: ctypes.Array[Any], kind: type, what: str) -> Block:
     if given._type_ is not kind:
-        raise TypeError(f"{what} in a ctypes array are of {kind.__name__}, not {given._type_.__name__}")
+        names = f"{kind.__name__}, not {given._type_.__name__}"
+        raise TypeError(f"{what} in a ctypes array are of {names}")
     return Block(given, ctypes.addressof(given), len(given))
 
 
@@ -110,7 +114,8 @@ def _array_block(numbers: Any) -> Block:
 
 
 def _of_integers(given: Any, what: str) -> Any:
-    """The array, whose elements are whole numbers, without what a subclass makes of it."""
+    """The array as numpy's own type, so that no subclass (masks) hides numbers from the checks.
+    TypeError unless its elements are whole numbers."""
     import numpy
 
     if given.dtype.kind not in "iu":

@@ -29,7 +29,7 @@ class Stopped(Exception):
 
 
 class Owner:
-    """The owner of a handle: one call at a time, and freed once."""
+    """The owner of a handle. It lets one call in at a time, and frees the handle once."""
 
     _free: ClassVar[Any]
 
@@ -38,16 +38,17 @@ class Owner:
         self._in_call = threading.Lock()
 
     def _call(self, call: Any, *arguments: Any) -> int:
-        # The library does not bear two calls on one handle at once.
+        # The library is not made for two calls on one handle at once.
         if not self._in_call.acquire(blocking=False):
-            raise RuntimeError("another thread is in a call of this object: a rank is for one thread at a time")
+            raise RuntimeError("another thread is in a call of this group or rank")
         try:
             return checked(call(self._handle, *arguments))
         finally:
             self._in_call.release()
 
     def close(self) -> None:
-        """Frees it. Whatever else is in the group goes on. A second close does nothing."""
+        """Frees the memory. Other ranks, and the group, can still be used. A second close does
+        nothing."""
         try:
             self._call(type(self)._free)
         except Misuse as misuse:
@@ -57,7 +58,12 @@ class Owner:
     def __enter__(self: OwnerT) -> OwnerT:
         return self
 
-    def __exit__(self, kind: type[BaseException] | None, error: BaseException | None, trace: TracebackType | None) -> None:
+    def __exit__(
+        self,
+        kind: type[BaseException] | None,
+        error: BaseException | None,
+        trace: TracebackType | None,
+    ) -> None:
         self.close()
 
     def __del__(self) -> None:
@@ -81,21 +87,28 @@ class Group(Owner):
 
     _free = calls.group_free
 
-    def __init__(self, dims: Sequence[SupportsIndex], buffer: SupportsIndex = 64, slots: SupportsIndex = 2, steady: bool = False) -> None:
+    def __init__(
+        self,
+        dims: Sequence[SupportsIndex],
+        buffer: SupportsIndex = 64,
+        slots: SupportsIndex = 2,
+        steady: bool = False,
+    ) -> None:
         super().__init__()
-        numbers = [u32(one, "a number of the grid", Answer.BAD_NUMBERS) for one in dims]
+        bad = Answer.BAD_NUMBERS
+        numbers = [u32(one, "a number of the grid", bad) for one in dims]
         # One place more, since an array of none has no address that the library may be given.
         grid = (ctypes.c_uint32 * (len(numbers) + 1))(*numbers)
-        items = u32(buffer, "buffer", Answer.BAD_NUMBERS)
-        links = u32(slots, "slots", Answer.BAD_NUMBERS)
-        checked(calls.group_new(grid, len(numbers), items, links, truth(steady, "steady"), self._handle))
+        rest = u32(buffer, "buffer", bad), u32(slots, "slots", bad), truth(steady, "steady")
+        checked(calls.group_new(grid, len(numbers), *rest, self._handle))
         self._count = math.prod(numbers)
 
     def rank(self, number: SupportsIndex) -> Rank:
-        """Makes the rank with this number, counted from 0. Each can be made once. An epoch ends only
-        if all ranks are made and each says that it is done.
+        """Makes the rank with this number, counted from 0. Each can be made once. An epoch ends
+        only if all ranks are made and each says that it is done.
 
-        Misuse: NO_RANK, TAKEN, or GONE after close. TypeError; MemoryError."""
+        Misuse: NO_RANK, TAKEN, or GONE after close. TypeError if it is no whole number;
+        MemoryError."""
         return Rank(self, number)
 
     def ranks(self) -> list[Rank]:
@@ -106,9 +119,9 @@ class Group(Owner):
 class Rank(Owner):
     """One rank's side of an exchange, made by Group.rank.
 
-    One thread at a time: a call beside another thread's call of this rank is a RuntimeError. After
-    close every call is a Misuse (GONE). A rank that is closed before its epoch is over leaves the
-    others without an end. `with` closes it.
+    It is for one thread at a time: a call while another thread is in a call of the same rank is a
+    RuntimeError. After close every call is a Misuse (GONE). If a rank is closed before its epoch is
+    over, that epoch never ends for the others. `with` closes it.
     """
 
     _free = calls.rank_free
@@ -158,17 +171,18 @@ class Rank(Owner):
         Returns how many were pushed; the others are still to be pushed.
 
         items is a sequence of items, an array of numpy of the shape (n, 3) or a ctypes array of
-        bale.Item; to is a sequence of whole numbers, an array of the shape (n,) or a ctypes array of
-        c_uint32. Arrays of numpy have any dtype of whole numbers. Those of uint64 and of uint32 are
-        not copied; no other thread may change them during the call. Each call looks at all of `to`
-        first, so give it no more at once than the open buffers hold.
+        bale.Item. to is a sequence of whole numbers, an array of the shape (n,) or a ctypes array
+        of c_uint32. Arrays of numpy may have any dtype of whole numbers; contiguous ones of uint64
+        and of uint32 are not copied, and no other thread may change them during the call. Each call
+        looks at all of `to` first, so give it no more at once than the open buffers hold.
 
-        Misuse: NO_RANK if any of `to` is no rank's number, NOT_BEGUN or SAID_DONE; nothing is pushed.
-        TypeError for another dtype, OverflowError for an item's number out of range, ValueError for
-        another shape or if there are not as many ranks as items."""
+        Misuse: NO_RANK if any of `to` is no rank's number, NOT_BEGUN or SAID_DONE; nothing is
+        pushed. TypeError for another dtype, OverflowError for an item's number out of range,
+        ValueError for another shape, or unless there are as many ranks as items."""
         given, ranks = items_block(items), ranks_block(to)
         if given.length != ranks.length:
-            raise ValueError(f"push_many takes as many ranks as items, not {given.length} items and {ranks.length} ranks")
+            counts = f"{given.length} items and {ranks.length} ranks"
+            raise ValueError(f"push_many takes as many ranks as items, not {counts}")
         if given.length == 0:
             # An array of none may have no address.
             spare = Item()
@@ -185,14 +199,14 @@ class Rank(Owner):
         return sender.value, (item.a, item.b, item.c)
 
     def drain(self) -> Iterator[tuple[int, tuple[int, int, int]]]:
-        """Pulls, one at a time, the items that are there now, as pull gives them. What a loop that is
-        left early did not take stays to be pulled."""
+        """Pulls, one at a time, the items that are there now, as pull gives them. If the loop is
+        left early, the other items stay to be pulled."""
         while (pulled := self.pull()) is not None:
             yield pulled
 
     def unpull(self) -> bool:
-        """Puts back the item that the latest call pulled, so that the next pull gives it again. False
-        if the latest call wasn't a pull that gave an item."""
+        """Puts back the item that the latest call pulled, so that the next pull gives it again.
+        False if the latest call wasn't a pull that gave an item."""
         return self._call(calls.unpull) == Answer.OK
 
     def pull_many(self, most: SupportsIndex = 1024) -> tuple[list[int], list[tuple[int, int, int]]]:
@@ -200,32 +214,40 @@ class Rank(Owner):
         Misuse: NOT_BEGUN. ValueError if most is below 0."""
         places = _places(most)
         items, senders = (Item * max(1, places))(), (ctypes.c_uint32 * max(1, places))()
-        pulled = self._call(calls.pull_many, ctypes.addressof(items), places, ctypes.addressof(senders), places)
+        addresses = ctypes.addressof(items), ctypes.addressof(senders)
+        pulled = self._call(calls.pull_many, addresses[0], places, addresses[1], places)
         return senders[:pulled], [(item.a, item.b, item.c) for item in items[:pulled]]
 
-    def pull_arrays(self, most: SupportsIndex = 1024) -> tuple[NDArray[numpy.uint32], NDArray[numpy.uint64]]:
-        """As pull_many, but as arrays of numpy: the senders, of the shape (n,) and the dtype uint32,
-        and the items, of the shape (n, 3) and the dtype uint64. ImportError without numpy."""
+    def pull_arrays(
+        self, most: SupportsIndex = 1024
+    ) -> tuple[NDArray[numpy.uint32], NDArray[numpy.uint64]]:
+        """As pull_many, but gives arrays of numpy: the senders, of the shape (n,) and the dtype
+        uint32, and the items, of the shape (n, 3) and the dtype uint64. ImportError without
+        numpy."""
         import numpy
 
         places = _places(most)
-        items, senders = numpy.empty((max(1, places), 3), dtype=numpy.uint64), numpy.empty(max(1, places), dtype=numpy.uint32)
-        pulled = self._call(calls.pull_many, items.ctypes.data, places, senders.ctypes.data, places)
+        items = numpy.empty((max(1, places), 3), dtype=numpy.uint64)
+        senders = numpy.empty(max(1, places), dtype=numpy.uint32)
+        addresses = items.ctypes.data, senders.ctypes.data
+        pulled = self._call(calls.pull_many, addresses[0], places, addresses[1], places)
         return senders[:pulled], items[:pulled]
 
     def advance(self, done: bool = False) -> Progress:
-        """Sends and collects what can be sent and collected now, and reports how far the rank is. It
-        never waits. A rank that makes no progress should yield its processor (time.sleep(0)).
+        """Sends and collects what can be sent and collected now, and reports how far the rank is.
+        It never waits. A rank that makes no progress should yield its processor (time.sleep(0)).
 
-        done says that this rank pushes nothing more in this epoch; it can't be taken back. Misuse:
-        NOT_BEGUN, or SAID_DONE if done is False after it was True. TypeError if done is no bool."""
+        done says that this rank pushes nothing more in this epoch; it can't be taken back.
+
+        Misuse: NOT_BEGUN, or SAID_DONE if done is False after it was True. TypeError if done is no
+        bool. Stopped in bale.run if another rank raised an exception."""
         if self._stop is not None and self._stop.is_set():
             raise Stopped("another rank raised an exception")
         return Progress(self._call(calls.advance, truth(done, "done")))
 
     def reset(self) -> None:
-        """Ends an epoch: from Phase.COMPLETE to DORMANT. Misuse: NOT_COMPLETE in any other state, or
-        LAST_EPOCH after 2**63 epochs."""
+        """Ends an epoch: from Phase.COMPLETE to DORMANT. Misuse: NOT_COMPLETE in any other state,
+        or LAST_EPOCH after 2**63 epochs."""
         self._call(calls.reset)
 
 

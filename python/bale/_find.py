@@ -9,9 +9,9 @@ HERE = Path(__file__).resolve().parent
 
 
 def candidates() -> list[Path]:
-    """The files that may be the library, the first one first: the one that the environment variable
-    BALE_C_SO names, and no other if it is set; the one in the wheel; those that c/build makes in the
-    repository, the proved one before the unproved one."""
+    """The files that may be the library, in the order in which they are tried. If the environment
+    variable BALE_C_SO is set, it is the file that it names, and no other. Otherwise it is the one
+    in the wheel, then those that c/build makes in the repository, the proved one first."""
     named = os.environ.get("BALE_C_SO")
     if named:
         return [Path(named)]
@@ -28,6 +28,6 @@ def library() -> Path:
     raise ImportError(
         "bale: the library libbale_c.so is not found. Looked for: "
         + ", ".join(map(str, paths))
-        + ". Run c/build (or c/build --unproved) in the repository, install the wheel that `pip wheel ./python` makes there, "
-        "or set BALE_C_SO to the library's file."
+        + ". Run c/build (or c/build --unproved) in the repository, install the wheel that "
+        "`pip wheel ./python` makes there, or set BALE_C_SO to the library's file."
     )

@@ -9,19 +9,21 @@ from . import _find
 
 
 class Item(ctypes.Structure):
-    """An item as it travels: three words. An array of them, `(Item * n)()`, can be pushed as it is."""
+    """An item as it travels: three words. push_many takes an array of them, (Item * n)(), without
+    a copy."""
 
     _fields_ = [("a", ctypes.c_uint64), ("b", ctypes.c_uint64), ("c", ctypes.c_uint64)]
 
 
 class Handle(ctypes.Structure):
-    """A group's or a rank's handle. It begins as zeros, and stays where it is."""
+    """A group's or a rank's handle. It begins as zeros, and is never moved."""
 
     _fields_ = [("at", ctypes.c_void_p), ("live", ctypes.c_bool)]
 
 
-_i32, _i64, _u32, _bool, _size = ctypes.c_int32, ctypes.c_int64, ctypes.c_uint32, ctypes.c_bool, ctypes.c_size_t
-_handle, _u32s, _items, _address = ctypes.POINTER(Handle), ctypes.POINTER(_u32), ctypes.POINTER(Item), ctypes.c_void_p
+_i32, _i64, _u32 = ctypes.c_int32, ctypes.c_int64, ctypes.c_uint32
+_bool, _size, _address = ctypes.c_bool, ctypes.c_size_t, ctypes.c_void_p
+_handle, _u32s, _items = ctypes.POINTER(Handle), ctypes.POINTER(_u32), ctypes.POINTER(Item)
 
 _SIGNATURES: dict[str, tuple[Any, ...]] = {
     "group_new": (_i32, _u32s, _size, _u32, _u32, _bool, _handle),
@@ -54,7 +56,8 @@ class Calls:
                 call.restype, call.argtypes = result, arguments
                 setattr(self, name, call)
         except (OSError, AttributeError) as error:
-            raise ImportError(f"bale: {path} can't be loaded as libbale_c.so: {error}. c/build in the repository makes it anew.") from error
+            said = f"bale: {path} can't be loaded as libbale_c.so: {error}"
+            raise ImportError(f"{said}. Run c/build in the repository to make it anew.") from error
 
     def __getattr__(self, name: str) -> Any:
         raise AttributeError(f"the library has no call bale_{name}")

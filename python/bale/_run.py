@@ -24,16 +24,17 @@ def run(
     slots: SupportsIndex = 2,
     steady: bool = False,
 ) -> list[ResultT]:
-    """Runs function(rank) for each rank of a new group, each on a thread of its own, and returns what
-    they returned, in the order of the ranks.
+    """Runs function(rank) for each rank of a new group, each on a thread of its own, and returns
+    what they returned, in the order of the ranks.
 
     ranks is the number of ranks, or a grid; with buffer, slots and steady, see Group. The threads
     are joined and the ranks closed before run returns or raises.
 
-    If a rank raises an exception, run raises it, the first one if several do. The other ranks could
-    not end their epoch without that rank, so advance raises Stopped in them. A rank that
-    returns while its epoch goes on is a RuntimeError. Every rank takes part in every epoch: nothing
-    notices a rank that returns between two epochs while others go on, and they would wait for ever.
+    If ranks raise exceptions, run raises the first one. No other rank's epoch can end then, so
+    advance raises Stopped in the other ranks, as it does after an interrupt from the keyboard. If a
+    function returns before its rank's epoch is over, run raises a RuntimeError. Every rank has to
+    take part in every epoch: if one returns between two epochs and others begin another, they wait
+    for it for ever.
     """
     dims = ranks if isinstance(ranks, Iterable) else [operator.index(ranks)]
     with Group(dims, buffer, slots, steady) as group:

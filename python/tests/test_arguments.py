@@ -35,7 +35,9 @@ class Arguments(unittest.TestCase):
         return items
 
     def test_numbers_of_items(self):
-        for wrong, error in [(-1, OverflowError), (2**64, OverflowError), (1.5, TypeError), (1.0, TypeError), ("1", TypeError), (None, TypeError)]:
+        wrong_numbers = [(wrong, OverflowError) for wrong in (-1, 2**64)]
+        wrong_numbers += [(wrong, TypeError) for wrong in (1.5, 1.0, "1", None)]
+        for wrong, error in wrong_numbers:
             for item in [(wrong, 0, 0), (0, wrong, 0), (0, 0, wrong)]:
                 with self.subTest(item=item):
                     with self.assertRaisesRegex(error, "a number of an item is"):
@@ -46,7 +48,8 @@ class Arguments(unittest.TestCase):
         self.assertTrue(self.rank.push((LARGEST, 0, Index()), 0))
         self.assertTrue(self.rank.push([1, LARGEST, True], 0))
         self.assertEqual(self.rank.push_many([(1, 2, LARGEST), (0, 0, 0), (5, 5, 5)], [0, 0, 0]), 2)
-        self.assertEqual(self.came(), [(LARGEST, 0, 7), (1, LARGEST, 1), (1, 2, LARGEST), (0, 0, 0)])
+        wanted = [(LARGEST, 0, 7), (1, LARGEST, 1), (1, 2, LARGEST), (0, 0, 0)]
+        self.assertEqual(self.came(), wanted)
 
     def test_items_are_three_numbers(self):
         for item in [(), (1, 2), (1, 2, 3, 4)]:
@@ -61,17 +64,21 @@ class Arguments(unittest.TestCase):
             self.refused(bale.Answer.NO_RANK, self.rank.push_many, [(1, 2, 3)] * 2, [0, wrong])
             self.refused(bale.Answer.NO_RANK, bale.Group([1]).rank, wrong)
         for wrong in (0.0, "0", None):
-            for call in (lambda: self.rank.push((1, 2, 3), wrong), lambda: self.rank.push_many([(1, 2, 3)], [wrong]), lambda: bale.Group([1]).rank(wrong)):
-                with self.assertRaisesRegex(TypeError, "a rank is a whole number, not"):
-                    call()
+            with self.assertRaisesRegex(TypeError, "a rank is a whole number, not"):
+                self.rank.push((1, 2, 3), wrong)
+            with self.assertRaisesRegex(TypeError, "a rank is a whole number, not"):
+                self.rank.push_many([(1, 2, 3)], [wrong])
+            with self.assertRaisesRegex(TypeError, "a rank is a whole number, not"):
+                bale.Group([1]).rank(wrong)
         self.assertEqual(self.came(), [])
 
     def test_numbers_of_groups(self):
         good = {"buffer": 64, "slots": 2}
         for dims in ([], [0], [65], [2, 2, 2, 2], [-1], [2**32 + 1], [9, 8]):
             self.refused(bale.Answer.BAD_NUMBERS, bale.Group, dims, **good)
-        for name, wrong in [("buffer", 3), ("buffer", 2048), ("buffer", 2**32 + 64), ("buffer", -64), ("slots", 3), ("slots", 2**32 + 2)]:
-            self.refused(bale.Answer.BAD_NUMBERS, bale.Group, [2], **{**good, name: wrong})
+        for name, numbers in [("buffer", (3, 2048, 2**32 + 64, -64)), ("slots", (3, 2**32 + 2))]:
+            for wrong in numbers:
+                self.refused(bale.Answer.BAD_NUMBERS, bale.Group, [2], **{**good, name: wrong})
         for dims, named in [([2.0], {}), ("2", {}), ([2], {"buffer": 64.0}), ([2], {"slots": "2"})]:
             with self.assertRaisesRegex(TypeError, "is a whole number, not"):
                 bale.Group(dims, **named)
@@ -108,6 +115,7 @@ class Arguments(unittest.TestCase):
         self.assertEqual(self.came(), [(1, 2, 3), (LARGEST, 5, 6)])
 
     def test_other_sequences_are_read_number_by_number(self):
-        self.assertEqual(self.rank.push_many((bytes([1, 2, 3]), range(4, 7)), array.array("b", [0, 0])), 2)
+        items, to = (bytes([1, 2, 3]), range(4, 7)), array.array("b", [0, 0])
+        self.assertEqual(self.rank.push_many(items, to), 2)
         self.assertEqual(self.rank.push_many([array.array("Q", [7, 8, LARGEST])], bytes([0])), 1)
         self.assertEqual(self.came(), [(1, 2, 3), (4, 5, 6), (7, 8, LARGEST)])

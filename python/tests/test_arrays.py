@@ -1,4 +1,4 @@
-"""Arrays of numpy, where numpy is there."""
+"""Arrays of numpy, left out without numpy."""
 
 import unittest
 
@@ -16,7 +16,8 @@ LARGEST = 2**64 - 1
 def arrays(number):
     """The items of a rank, and the ranks that they are for."""
     items = [(k, LARGEST - number, k * k) for k in range(ITEMS)]
-    return numpy.array(items, dtype=numpy.uint64), numpy.array([(k * k + number) % RANKS for k in range(ITEMS)], dtype=numpy.uint32)
+    to = [(k * k + number) % RANKS for k in range(ITEMS)]
+    return numpy.array(items, dtype=numpy.uint64), numpy.array(to, dtype=numpy.uint32)
 
 
 def other_arrays(number):
@@ -60,7 +61,7 @@ class Arrays(unittest.TestCase):
             for me, part in enumerate(parts):
                 for sender, rows in enumerate(part):
                     items, to = arrays(sender)
-                    numpy.testing.assert_array_equal(numpy.array(rows, dtype=numpy.uint64).reshape(-1, 3), items[to == me])
+                    self.assertEqual([row.tolist() for row in rows], items[to == me].tolist())
 
     def test_shapes_and_dtypes_of_what_is_pulled(self):
         self.rank.push((1, 2, LARGEST), 0)
@@ -103,6 +104,8 @@ class Arrays(unittest.TestCase):
             with self.assertRaises(bale.Misuse) as caught:
                 self.rank.push_many([(1, 2, 3)] * 2, numpy.array([0, wrong]))
             self.assertIs(caught.exception.answer, bale.Answer.NO_RANK)
+        none = numpy.zeros((0, 3), dtype=int), numpy.zeros(0, dtype=int)
+        self.assertEqual(self.rank.push_many(*none), 0)
         with self.assertRaisesRegex(ValueError, "not 2 items and 1 ranks"):
             self.rank.push_many(numpy.zeros((2, 3), dtype=int), numpy.zeros(1, dtype=int))
 

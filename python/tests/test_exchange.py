@@ -94,8 +94,10 @@ class States(unittest.TestCase):
 
     def test_calls_out_of_order(self):
         rank = bale.Group([1]).rank(0)
-        for call, arguments in [(rank.push, ((1, 2, 3), 0)), (rank.push_many, ([], [])), (rank.pull, ()), (rank.pull_many, ()), (rank.advance, ())]:
-            self.refused(bale.Answer.NOT_BEGUN, call, *arguments)
+        self.refused(bale.Answer.NOT_BEGUN, rank.push, (1, 2, 3), 0)
+        self.refused(bale.Answer.NOT_BEGUN, rank.push_many, [], [])
+        for call in (rank.pull, rank.pull_many, rank.advance):
+            self.refused(bale.Answer.NOT_BEGUN, call)
         self.refused(bale.Answer.NOT_COMPLETE, rank.reset)
         rank.begin()
         self.refused(bale.Answer.BEGUN, rank.begin)
@@ -121,7 +123,7 @@ class States(unittest.TestCase):
         self.assertIs(first.phase, bale.Phase.DORMANT)
         first.begin()
         self.assertIs(first.phase, bale.Phase.WORKING)
-        # The link has one slot, so the second buffer is to be sent once the receiver took the first.
+        # The link has one slot, so the second buffer waits until the receiver took the first.
         first.push((1, 0, 0), 1)
         self.assertIs(first.advance(), bale.Progress.MORE)
         first.push((2, 0, 0), 1)
@@ -166,7 +168,7 @@ class Closing(unittest.TestCase):
         self.gone(group.rank, 1)
         self.assertEqual((rank.number, rank.ranks), (0, 2))
 
-    def test_close_is_called_as_often_as_one_likes_and_in_any_order(self):
+    def test_close_may_be_repeated_and_come_in_any_order(self):
         group = bale.Group([1])
         rank = group.rank(0)
         group.close()
@@ -190,8 +192,9 @@ class Closing(unittest.TestCase):
 
     def test_two_threads_are_not_in_one_rank_at_once(self):
         rank = alone()
-        calls = [lambda: rank.push((1, 2, 3), 0), rank.pull, rank.advance, lambda: rank.push_many([], []), rank.pull_many, rank.close]
-        # As while another thread is in a call.
+        calls = [lambda: rank.push((1, 2, 3), 0), lambda: rank.push_many([], [])]
+        calls += [rank.pull, rank.pull_many, rank.advance, rank.close]
+        # The state in which another thread's call leaves the rank until it returns.
         with rank._in_call:
             for call in calls:
                 with self.assertRaisesRegex(RuntimeError, "another thread"):

@@ -24,7 +24,9 @@ class Library(unittest.TestCase):
 
     def imported(self, library=None):
         """Imports the copy in another process; the status and what it printed at the end."""
-        others = {name: value for name, value in os.environ.items() if name not in ("BALE_C_SO", "PYTHONPATH")}
+        others = dict(os.environ)
+        others.pop("BALE_C_SO", None)
+        others.pop("PYTHONPATH", None)
         if library is not None:
             others["BALE_C_SO"] = str(library)
         done = subprocess.run(
@@ -40,7 +42,8 @@ class Library(unittest.TestCase):
         status, said = self.imported()
         self.assertEqual(status, 1)
         self.assertIn("ImportError: bale: the library libbale_c.so is not found.", said)
-        for part in ("Run c/build", "pip wheel ./python", "BALE_C_SO", str(self.folder / "c/out/libbale_c.so")):
+        built = str(self.folder / "c/out/libbale_c.so")
+        for part in ("Run c/build", "pip wheel ./python", "BALE_C_SO", built):
             self.assertIn(part, said)
 
     def test_the_library_that_is_named_is_the_only_one(self):

@@ -1,5 +1,7 @@
 """bale.run: it starts the ranks' threads, joins them, and raises what a rank raised."""
 
+import os
+import signal
 import threading
 import time
 import unittest
@@ -8,9 +10,10 @@ import bale
 
 
 def sum_of_numbers(rank):
-    total, to, progress = 0, 0, bale.Progress.MORE
+    total, to, progress, end = 0, 0, bale.Progress.MORE, time.monotonic() + 20
     rank.begin()
     while progress is not bale.Progress.COMPLETE:
+        assert time.monotonic() < end, "the epoch does not end"
         while to < rank.ranks and rank.push((rank.number, 0, 0), to):
             to += 1
         progress = rank.advance(to == rank.ranks)
@@ -29,7 +32,8 @@ class Run(unittest.TestCase):
         self.assertEqual(threads(), [])
 
     def test_results_by_rank(self):
-        self.assertEqual(bale.run(5, lambda rank: (rank.number, sum_of_numbers(rank))), [(k, 10) for k in range(5)])
+        pairs = bale.run(5, lambda rank: (rank.number, sum_of_numbers(rank)))
+        self.assertEqual(pairs, [(k, 10) for k in range(5)])
         self.assertEqual(bale.run([2, 3], sum_of_numbers, buffer=1, slots=1, steady=True), [15] * 6)
 
     def test_numbers_of_the_group(self):
@@ -70,6 +74,23 @@ class Run(unittest.TestCase):
         self.assertEqual(sorted(stopped), [0, 1, 3])
         if hasattr(caught.exception, "add_note"):
             self.assertEqual(caught.exception.__notes__, ["It was raised in rank 2 of bale.run."])
+
+    def test_an_interrupt_stops_all_ranks(self):
+        self.addCleanup(signal.signal, signal.SIGINT, signal.getsignal(signal.SIGINT))
+        signal.signal(signal.SIGINT, signal.default_int_handler)
+
+        def work(rank):
+            rank.begin()
+            if rank.number == 1:
+                os.kill(os.getpid(), signal.SIGINT)
+            end = time.monotonic() + 20
+            while time.monotonic() < end:
+                rank.advance()
+
+        began = time.monotonic()
+        with self.assertRaises(KeyboardInterrupt):
+            bale.run(3, work)
+        self.assertLess(time.monotonic() - began, 15)
 
     def test_a_return_within_an_epoch(self):
         def work(rank):

@@ -60,8 +60,8 @@
 //! # Threads
 //!
 //! [`Group`] and [`Rank`] are [`Send`] and [`Sync`], whatever the type of the items is. `c/bale.h`
-//! asks that a handle is used by one call at a time, and that it goes to another thread by something
-//! that puts what one thread did with it before what the next one does. Rust gives both:
+//! asks that a handle is used by one call at a time, and that what hands it to another thread
+//! orders the calls before and after. Rust gives both:
 //!
 //! - Each call that reaches the library takes `&mut self` (or is `drop`), so two calls on one
 //!   handle never overlap. A call by `&self` reads numbers of the Rust value alone, which makes
@@ -78,9 +78,9 @@
 //! # Linking
 //!
 //! The build script looks for `libbale_c.a` (or else `libbale_c_unproved.a`) in the folder that the
-//! environment variable `BALE_C_DIR` names, and without it in `c/out` of the repository, where
-//! `c/build` makes it. Documentation and `cargo check` need no library. [`version`] says which one
-//! a program has.
+//! environment variable `BALE_C_DIR` names, or without it in `c/out` of the repository, which
+//! `c/build` fills. Documentation and `cargo check` need no library. [`version`] says which one a
+//! program has.
 mod error;
 mod ffi;
 mod group;

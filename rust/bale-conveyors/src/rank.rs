@@ -70,7 +70,7 @@ pub enum Phase {
 
 /// One rank's side of an exchange, for one thread at a time.
 ///
-/// A rank that is dropped before its epoch is over leaves the others without an end.
+/// If a rank is dropped before its epoch is over, that epoch never ends for the others.
 pub struct Rank<T> {
     handle: Box<Handle>,
     number: u32,
@@ -193,9 +193,9 @@ impl<T: Into<Item> + From<Item>> Rank<T> {
         unsafe { ffi::bale_unpull(&mut *self.handle) == 0 }
     }
 
-    /// Pulls, one at a time, the items that are there now, each with its sender. It ends where
-    /// [`pull`](Rank::pull) gives nothing, and at once if the epoch has not begun. What a loop that
-    /// is left early did not take stays to be pulled.
+    /// Pulls, one at a time, the items that are there now, each with its sender. It ends when
+    /// [`pull`](Rank::pull) gives nothing, and at once if the epoch has not begun. If the loop is
+    /// left early, the other items stay to be pulled.
     pub fn drain(&mut self) -> Drain<'_, T> {
         Drain { rank: self }
     }

@@ -60,7 +60,7 @@ fn each_phase_has_its_name() {
     assert_eq!(first.phase(), Phase::Dormant);
     first.begin().unwrap();
     assert_eq!(first.phase(), Phase::Working);
-    // The link has one slot, so the second buffer is to be sent once the receiver took the first.
+    // The link has one slot, so the second buffer waits until the receiver took the first.
     assert!(first.push([1, 0, 0], 1).unwrap().is_accepted());
     assert_eq!(first.advance(false), Ok(Progress::More));
     assert!(first.push([2, 0, 0], 1).unwrap().is_accepted());
@@ -95,7 +95,8 @@ fn values_show_their_numbers_and_no_address() {
     assert_eq!(format!("{:?}", Pushed::Full(3)), "Full(3)");
 }
 
-/// An `Rc` may not leave its thread, but no item is in a group or a rank. This compiles or fails to.
+/// An `Rc` may not leave its thread, but neither a group nor a rank has an item in it. What is
+/// tested is that this compiles.
 #[test]
 fn groups_and_ranks_go_to_threads_whatever_items_are() {
     fn goes_to_threads<T: Send + Sync>() {}

@@ -42,6 +42,8 @@ def run(
     stop = threading.Event()
     results: dict[int, ResultT] = {}
     errors: list[tuple[int, BaseException]] = []
+    # A join that was interrupted may take a thread that runs for one that ended, hence the events.
+    ended = [threading.Event() for _ in members]
 
     def work(rank: Rank) -> None:
         try:
@@ -52,24 +54,30 @@ def run(
             # Before the others stop, so that what stops them is the first error.
             errors.append((rank.number, error))
             stop.set()
+        finally:
+            rank.close()
+            ended[rank.number].set()
 
-    threads = []
+    for rank in members:
+        rank._stop = stop
+    threads = [
+        threading.Thread(target=work, args=(rank,), name=f"bale rank {rank.number}")
+        for rank in members
+    ]
     try:
-        for rank in members:
-            rank._stop = stop
-            thread = threading.Thread(target=work, args=(rank,), name=f"bale rank {rank.number}")
-            thread.start()
-            threads.append(thread)
         for thread in threads:
-            thread.join()
+            thread.start()
+        for end in ended:
+            end.wait()
     except BaseException:
+        # A thread could not be started, or an interrupt came, maybe while one was being started.
         stop.set()
         raise
     finally:
-        for thread in threads:
-            thread.join()
-        for rank in members:
-            rank.close()
+        for thread, end in zip(threads, ended):
+            if thread.ident is not None:
+                end.wait()
+                thread.join()
     if errors:
         number, error = errors[0]
         if hasattr(error, "add_note"):

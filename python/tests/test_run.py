@@ -5,6 +5,7 @@ import signal
 import threading
 import time
 import unittest
+from unittest import mock
 
 import bale
 
@@ -29,6 +30,10 @@ def threads():
 
 class Run(unittest.TestCase):
     def tearDown(self):
+        # After an interrupt a thread may be listed for a moment after its end.
+        end = time.monotonic() + 1
+        while threads() and time.monotonic() < end:
+            time.sleep(0.01)
         self.assertEqual(threads(), [])
 
     def test_results_by_rank(self):
@@ -79,18 +84,36 @@ class Run(unittest.TestCase):
         self.addCleanup(signal.signal, signal.SIGINT, signal.getsignal(signal.SIGINT))
         signal.signal(signal.SIGINT, signal.default_int_handler)
 
+        stopped = []
+
         def work(rank):
             rank.begin()
             if rank.number == 1:
                 os.kill(os.getpid(), signal.SIGINT)
             end = time.monotonic() + 20
-            while time.monotonic() < end:
-                rank.advance()
+            try:
+                while time.monotonic() < end:
+                    rank.advance()
+            except bale.Stopped:
+                time.sleep(0.2)
+                stopped.append(rank.number)
 
-        began = time.monotonic()
         with self.assertRaises(KeyboardInterrupt):
             bale.run(3, work)
-        self.assertLess(time.monotonic() - began, 15)
+        # The thread was waited for. Others may not have been started before the interrupt.
+        self.assertIn(1, stopped)
+
+    def test_a_thread_that_cannot_be_started_stops_the_others(self):
+        start = threading.Thread.start
+
+        def start_some(thread):
+            if thread.name == "bale rank 2":
+                raise RuntimeError("can't start new thread")
+            start(thread)
+
+        with mock.patch.object(threading.Thread, "start", start_some):
+            with self.assertRaisesRegex(RuntimeError, "can't start new thread"):
+                bale.run(4, sum_of_numbers)
 
     def test_a_return_within_an_epoch(self):
         def work(rank):

@@ -77,7 +77,8 @@ def run(
         for thread, end in zip(threads, ended):
             if thread.ident is not None:
                 end.wait()
-                thread.join()
+    for thread in threads:
+        thread.join()
     if errors:
         number, error = errors[0]
         if hasattr(error, "add_note"):

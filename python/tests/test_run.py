@@ -30,11 +30,13 @@ def threads():
 
 class Run(unittest.TestCase):
     def tearDown(self):
-        # After an interrupt a thread may be listed for a moment after its end.
+        self.assertEqual(threads(), [])
+
+    def wait_for_threads(self):
+        """After its work a thread is listed for a moment, if it was not joined."""
         end = time.monotonic() + 1
         while threads() and time.monotonic() < end:
             time.sleep(0.01)
-        self.assertEqual(threads(), [])
 
     def test_results_by_rank(self):
         pairs = bale.run(5, lambda rank: (rank.number, sum_of_numbers(rank)))
@@ -98,10 +100,13 @@ class Run(unittest.TestCase):
                 time.sleep(0.2)
                 stopped.append(rank.number)
 
+        began = time.monotonic()
         with self.assertRaises(KeyboardInterrupt):
             bale.run(3, work)
         # The thread was waited for. Others may not have been started before the interrupt.
         self.assertIn(1, stopped)
+        self.assertLess(time.monotonic() - began, 15)
+        self.wait_for_threads()
 
     def test_a_thread_that_cannot_be_started_stops_the_others(self):
         start = threading.Thread.start
@@ -114,6 +119,7 @@ class Run(unittest.TestCase):
         with mock.patch.object(threading.Thread, "start", start_some):
             with self.assertRaisesRegex(RuntimeError, "can't start new thread"):
                 bale.run(4, sum_of_numbers)
+        self.wait_for_threads()
 
     def test_a_return_within_an_epoch(self):
         def work(rank):

@@ -1,30 +1,53 @@
 //! What `c/bale.h` declares.
 use crate::Item;
-use std::ffi::c_void;
+use std::ffi::{c_char, c_void};
 
 #[repr(C)]
 pub struct Handle {
-    pub at: *mut c_void,
-    pub live: bool,
+    at: *mut c_void,
+    live: bool,
 }
 
 impl Handle {
-    pub const EMPTY: Handle = Handle { at: std::ptr::null_mut(), live: false };
+    /// A handle begins as zeros, and its bytes are not moved while it is live: hence the box.
+    pub fn empty() -> Box<Handle> {
+        Box::new(Handle { at: std::ptr::null_mut(), live: false })
+    }
 }
 
 extern "C" {
-    pub fn bale_group_new(dims: *const u32, ndims: usize, buffer: u32, slots: u32, steady: bool, out: *mut Handle) -> i32;
-    pub fn bale_rank_new(group: *mut Handle, number: u32, out: *mut Handle) -> i32;
+    pub fn bale_group_new(
+        dims: *const u32,
+        ndims: usize,
+        buffer: u32,
+        slots: u32,
+        steady: bool,
+        group: *mut Handle,
+    ) -> i32;
+    pub fn bale_rank_new(group: *mut Handle, number: u32, rank: *mut Handle) -> i32;
     pub fn bale_begin(rank: *mut Handle) -> i32;
     pub fn bale_push(rank: *mut Handle, item: *const Item, to: u32) -> i32;
     pub fn bale_pull(rank: *mut Handle, item: *mut Item, from: *mut u32) -> i32;
     pub fn bale_unpull(rank: *mut Handle) -> i32;
     pub fn bale_advance(rank: *mut Handle, done: bool) -> i32;
     pub fn bale_reset(rank: *mut Handle) -> i32;
-    pub fn bale_push_many(rank: *mut Handle, items: *const Item, n: usize, to: *const u32, nto: usize) -> i64;
-    pub fn bale_pull_many(rank: *mut Handle, items: *mut Item, n: usize, from: *mut u32, nfrom: usize) -> i64;
+    pub fn bale_push_many(
+        rank: *mut Handle,
+        items: *const Item,
+        nitems: usize,
+        to: *const u32,
+        nto: usize,
+    ) -> i64;
+    pub fn bale_pull_many(
+        rank: *mut Handle,
+        items: *mut Item,
+        nitems: usize,
+        from: *mut u32,
+        nfrom: usize,
+    ) -> i64;
     pub fn bale_ranks(rank: *mut Handle) -> u32;
     pub fn bale_phase(rank: *mut Handle) -> i32;
     pub fn bale_rank_free(rank: *mut Handle) -> i32;
     pub fn bale_group_free(group: *mut Handle) -> i32;
+    pub fn bale_version() -> *const c_char;
 }

@@ -13,8 +13,8 @@ own_of-requires c = part_below c.args.ranks c.args.rank c.args.m.now.entries c.a
 pub len-requires : goal.len-requires
 len-requires c = part_below c.args.ranks c.args.rank c.args.m.now.entries c.args.parts.now c.requires.below c.requires.dealt
 
-pub len-2-requires : goal.len-2-requires
-len-2-requires c = part_below c.args.ranks c.args.rank c.args.m.now.entries c.args.parts.now c.requires.below c.requires.dealt
+pub len-requires-2 : goal.len-requires-2
+len-requires-2 c = part_below c.args.ranks c.args.rank c.args.m.now.entries c.args.parts.now c.requires.below c.requires.dealt
 
 pub new-requires : goal.new-requires
 new-requires c =

@@ -1,4 +1,4 @@
-use Rattle.std.proofs.Common.{◌≡◌, None, slice_get, rules, sym, subst, ◌∙◌}
+use Rattle.std.proofs.Common.{◌≡◌, [], ◌∷◌, ◌++◌, None, slice_get, rules, sym, ap, subst, ◌∙◌}
 use Rattle.app_cases.proofs.Moving.{Moved, all_moved, none_moved, one_moved}
 use Rattle.app_cases.proofs.tally_case.TallyCase.unwrap_all.Goals as goal
 
@@ -8,7 +8,7 @@ loop-case-init c = subst (λ done. Moved c.args.cases done c.args.cases) (sym c.
 pub loop-case-preserved : goal.loop-case-preserved
 loop-case-preserved c =
     one_moved c.args.cases c.loop-case.all c.add.new.self c.loop-case.cases c.take_first.new.self c.in-Some.case c.loop-case.invariant (sym c.take_first.ensures.first ∙ c.in-Some.is) c.take_first.ensures.rest
-    c.in_ok-add.ensures.added
+    (c.in_ok-add.ensures.added ∙ ap (λ m. c.loop-case.all ++ m ∷ []) c.case.view_is)
 
 pub returns : goal.returns
 returns c =

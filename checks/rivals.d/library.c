@@ -76,8 +76,8 @@ static bool push_all(bale_rank *rank, outgoing_items *out) {
     while (out->left > 0 || out->start < out->ready) {
         if (out->start == out->ready)
             draw(out);
-        size_t many = out->ready - out->start;
-        int64_t pushed = checked(bale_push_many(rank, out->items + out->start, many, out->to + out->start, many));
+        uint32_t start = out->start, many = out->ready - start;
+        int64_t pushed = checked(bale_push_many(rank, out->items + start, many, out->to + start, many));
         out->start += (uint32_t)pushed;
         moved |= pushed > 0;
         if (out->start < out->ready)

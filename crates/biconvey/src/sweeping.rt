@@ -96,8 +96,8 @@ pub(crate) fn sweep<const CAP: usize, const HOPS: usize, A: Asker, L: Ledger>(
     // A turn posts at most one parcel on a link of either way.
     ensures posted { IfOk result (λ b. PostedWithin banks.entry.queries.dims
         (sides_of banks.entry.queries banks.entry.replies) steps.old (sides_of b.queries b.replies) steps.new) }
-    ensures order { IfOk result (λ b. InTurn (IsAskingTurn A.talk banks.entry.queries.dims CAP banks.entry.queries.slots)
-        order.now
+    ensures order { IfOk result (λ b. InTurn
+        (IsAskingTurn A.talk banks.entry.queries.dims CAP banks.entry.queries.slots) order.now
         (record { ranks = all.old.items; sides = sides_of banks.entry.queries banks.entry.replies; turns = steps.old })
         (record { ranks = all.new.items; sides = sides_of b.queries b.replies; turns = steps.new })) }
     ensures swept { (steady : Bool) (starts : ℕ → A)

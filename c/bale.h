@@ -182,6 +182,7 @@ typedef struct {
 typedef struct {
     void *at;
     bool live;
+    uint64_t unused[14]; /* so that the ranks of an array share no cache line */
 } bale_rank;
 
 /* Makes a group: the memory that its ranks share, all of it at once.

@@ -5,10 +5,10 @@
 
 #ifdef __cplusplus
 static_assert(sizeof(bale_item) == 24, "an item is three words");
-static_assert(sizeof(bale_rank) == 16 && offsetof(bale_rank, live) == 8, "a handle is a pointer and a byte");
+static_assert(sizeof(bale_rank) == 128 && offsetof(bale_rank, live) == 8, "a handle is a pointer and a byte, on lines of its own");
 #else
 _Static_assert(sizeof(bale_item) == 24, "an item is three words");
-_Static_assert(sizeof(bale_rank) == 16 && offsetof(bale_rank, live) == 8, "a handle is a pointer and a byte");
+_Static_assert(sizeof(bale_rank) == 128 && offsetof(bale_rank, live) == 8, "a handle is a pointer and a byte, on lines of its own");
 #endif
 
 /* Whether the rank is in this state, and says so if not. */

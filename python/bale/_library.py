@@ -16,9 +16,14 @@ class Item(ctypes.Structure):
 
 
 class Handle(ctypes.Structure):
-    """A group's or a rank's handle. It begins as zeros, and is never moved."""
+    """A group's or a rank's handle. It begins as zeros, and is never moved. What it doesn't use keeps
+    the handles of two threads on cache lines of their own."""
 
-    _fields_ = [("at", ctypes.c_void_p), ("live", ctypes.c_bool)]
+    _fields_ = [
+        ("at", ctypes.c_void_p),
+        ("live", ctypes.c_bool),
+        ("unused", ctypes.c_uint64 * 14),
+    ]
 
 
 _i32, _i64, _u32 = ctypes.c_int32, ctypes.c_int64, ctypes.c_uint32

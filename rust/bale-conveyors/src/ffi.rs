@@ -2,7 +2,8 @@
 use crate::Item;
 use std::ffi::{c_char, c_void};
 
-#[repr(C)]
+/// Aligned, so that the handles of two threads share no cache line.
+#[repr(C, align(128))]
 pub struct Handle {
     at: *mut c_void,
     live: bool,

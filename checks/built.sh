@@ -40,12 +40,35 @@ library_sources() {
     (cd "$top" && sum_of crates.txt $(stands_on bale_c | sort | sed 's,\([^ ]*\) .*,crates/\1/src crates/\1/specs crates/\1/proofs,'))
 }
 
-# The toolchain's identity, or nothing where rt is not found.
-toolchain() {
+# The file that has the toolchain's identity, where rt is found.
+kit_id() {
     local rt
     rt=$(command -v rt) || return 0
-    rt=$(dirname "$(dirname "$(readlink -f "$rt")")")/KIT-ID
-    if [ -r "$rt" ]; then cat "$rt"; else rt version; fi
+    echo "$(dirname "$(dirname "$(readlink -f "$rt")")")/KIT-ID"
+}
+
+# The toolchain's identity, or nothing where rt is not found.
+toolchain() {
+    local id
+    id=$(kit_id)
+    [ -n "$id" ] || return 0
+    if [ -r "$id" ]; then cat "$id"; else rt version; fi
+}
+
+# The one line that a command prints of files, out of a record of its last call if none of them has
+# changed since, by names, sizes, inodes and times of change. Files that changed in the last two
+# seconds may change again without another time, so nothing is recorded of them.
+remember() { # record, command, files and folders..
+    local seen was="" line=""
+    seen=$(cd "$top" && find "${@:3}" -printf '%p %s %i %C@\n' 2>/dev/null | sha256sum)
+    { read -r was && read -r line; } 2>/dev/null <"$1"
+    if [ "$was" != "$seen" ] || [ -z "$line" ]; then
+        line=$($2)
+        if [ -d "${1%/*}" ] && [ -z "$(cd "$top" && find "${@:3}" -newerct '2 seconds ago' -print -quit 2>/dev/null)" ]; then
+            printf '%s\n' "$seen" "$line" >"$1.$$" && mv "$1.$$" "$1"
+        fi 2>/dev/null
+    fi
+    echo "$line"
 }
 
 # Whether the program is there, proved and built from these sources by this toolchain.
@@ -54,7 +77,8 @@ is_current() {
     local was_made_of was_made_by had_stamp by
     { read -r was_made_of && read -r was_made_by && read -r had_stamp; } <"$record"
     [ "$had_stamp" = "$(sha256sum <"$stamp")" ] || return 1
-    [ "$was_made_of" = "$(sources)" ] || return 1
+    [ "$was_made_of" = "$(cd "$top" && remember "$record.sources" sources crates.txt HANDLES crates/*/src crates/*/specs crates/*/proofs)" ] ||
+        return 1
     by=$(toolchain | head -n 1)
     [ -z "$by" ] || [ "$was_made_by" = "$by" ]
 }

@@ -23,7 +23,7 @@ pub(crate) fn rise_each<I: Arrivals>(sums: &mut [u64], seat: Seat, came: I)
     }
 }
 
-/// The same with one value.
+/// Adds one value that came to the sum of its column, if that is an own one.
 #[inline(always)]
 fn rise_own(sums: &mut [u64], seat: Seat, from: u32, item: Item)
     requires places { length sums.old ≡ places_for seat.ranks seat.cols }
@@ -56,7 +56,7 @@ pub(crate) fn note_each<I: Arrivals>(
     Ok(())
 }
 
-/// The same with one query.
+/// Appends one query that came for an own column to the list of its sender.
 #[inline(always)]
 fn note_own(queries: &mut Vec<Vec<Item>>, seat: Seat, from: u32, item: Item) -> Result<(), NoMemory>
     requires senders { length queries.old.items ≡ seat.ranks }
@@ -83,7 +83,7 @@ pub(crate) fn raise_each<I: Arrivals>(answers: &mut [u64], ranks: u32, came: I)
     }
 }
 
-/// The same with one reply.
+/// Takes one reply that came into the answers.
 #[inline(always)]
 fn raise_own(answers: &mut [u64], ranks: u32, from: u32, item: Item)
     ensures { answers.new ≡ own_answered ranks answers.old from item }

@@ -105,7 +105,7 @@ pub(crate) fn emit_replies<D: Departures>(
     next
 }
 
-/// The same with the replies to one sender.
+/// Hands on the replies to one sender, from number `from` on.
 #[inline(always)]
 fn emit_to<D: Departures>(
     ranks: u32,

@@ -109,7 +109,7 @@ pub(crate) fn raise_each<I: Arrivals>(
     Ok(())
 }
 
-/// The same with one item.
+/// Takes in the cell of one item that came, if its row is an own one.
 #[inline(always)]
 fn raise_own(cells: &mut Cells, owner: RowOwner, from: u32, item: Item) -> Result<(), NoMemory>
     requires ordered { InOrder cells.old }

@@ -39,7 +39,7 @@ fn push_claim(
     Ok(())
 }
 
-/// The same for a number that may be no row.
+/// Appends a row's claim as `push_claim` does, if there is a row of that number.
 fn push_row(
     outgoing: &mut Vec<Triple>,
     ranks: u32,

@@ -58,7 +58,7 @@ pub(crate) fn emission_of(kept: &Vec<Triple>, round: u64, ranks: u32, i: u64) ->
     later_emission(kept, 3 - round % 2, ranks, i)
 }
 
-/// The same in round 0: of each entry one for its row and one for its column.
+/// Emission number `i` of round 0, in which each entry is sent twice: to its row and to its column.
 #[inline(always)]
 fn first_emission(entries: &[Triple], ranks: u32, i: u64) -> (u32, Item)
     requires some { 0 < ranks }
@@ -80,7 +80,7 @@ fn entry_at(entries: &[Triple], k: usize) -> Triple
     entries[k]
 }
 
-/// The same in a later round: a claim or a fall.
+/// Emission number `i` of a later round: a claim or a fall.
 #[inline(always)]
 fn later_emission(kept: &[Triple], kind: u64, ranks: u32, i: u64) -> (u32, Item)
     requires some { 0 < ranks }

@@ -114,7 +114,7 @@ fn bound_from(columns: &[Triple], at: usize) -> u64
     columns[at].i as u64
 }
 
-/// The same as `place_of`, by halving.
+/// The place that `place_of` finds, by halving.
 #[inline(never)]
 fn first_of(columns: &[Triple], c: u64) -> usize
     requires { InOrder columns.now }

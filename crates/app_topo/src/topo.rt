@@ -173,7 +173,7 @@ impl Topo {
         Ok(())
     }
 
-    /// The same in round 0. Each kind has its tests, which then are branches.
+    /// Takes in an item of round 0. Each kind has its own tests, so that they are branches.
     #[inline(always)]
     fn take_in_entry(&mut self, seat: Seat, from: u32, item: Item) -> Result<(), NoMemory>
         requires seat { IsSeat seat self.old }

@@ -146,7 +146,7 @@ impl Application for IgAnswer {
     }
 }
 
-/// The same, by ranks that asked one another.
+/// For each entry the sum of its column, which the ranks asked one another for.
 pub(crate) struct IgHeardAnswer;
 
 impl Written for IgHeardAnswer {

@@ -88,7 +88,7 @@ impl Application for SsspAnswer {
     }
 }
 
-/// The same, by delta-stepping.
+/// The least weight of a walk from a source to each vertex, by delta-stepping.
 pub(crate) struct DeltaAnswer;
 
 impl Written for DeltaAnswer {

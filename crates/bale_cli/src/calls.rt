@@ -140,7 +140,7 @@ fn answer_of<R: Threads + Wait + Sync, S: Source, K: Sink, G: Gate + Sync>(
     }
 }
 
-/// The same, all ranks on this thread.
+/// The run of a command with all ranks on this thread, and its answer on out, or why there is none.
 fn answer_serially<S: Source, K: Sink, L: Ledger>(
     alloc: Global,
     words: &[String],

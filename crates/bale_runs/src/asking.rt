@@ -57,7 +57,7 @@ pub(crate) fn ask_serially<K: Sink, L: Ledger>(
     }
 }
 
-/// The same on threads.
+/// Runs a command that goes by asking, with its ranks on threads, and writes its answer.
 pub(crate) fn ask_on_threads<R: Threads + Wait + Sync, K: Sink, G: Gate + Sync>(
     rt: &R,
     alloc: Global,
@@ -105,7 +105,7 @@ fn ask_matrix_serially<K: Sink, L: Ledger>(
     finish_asking(command, m, sums, replied, out)
 }
 
-/// The same on threads.
+/// The three closed rounds of a matrix with the ranks on threads, and then the answer.
 fn ask_matrix_on_threads<R: Threads + Wait + Sync, K: Sink, G: Gate + Sync>(
     rt: &R,
     alloc: Global,
@@ -168,7 +168,7 @@ fn sum_serially<L: Ledger>(
     )
 }
 
-/// The same on threads.
+/// The programs that have summed the columns on threads in their one round, and that round.
 fn sum_on_threads<R: Threads + Wait + Sync, G: Gate + Sync>(
     rt: &R,
     alloc: Global,
@@ -230,7 +230,8 @@ fn hear_serially<L: Ledger>(
     bi_serial(alloc, grid, buffer, slots, steady, &order, askers, steps)
 }
 
-/// The same on threads.
+/// The askers that these programs leave, after each has heard its replies on a thread, and the two
+/// rounds.
 fn hear_on_threads<R: Threads + Wait + Sync, G: Gate + Sync>(
     rt: &R,
     alloc: Global,

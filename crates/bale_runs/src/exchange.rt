@@ -110,7 +110,8 @@ pub fn run_serially<K: Sink, L: Ledger>(
     }
 }
 
-/// The same on threads.
+/// Runs the command for its subject, with its ranks on threads, and writes its answer. `gate` is
+/// notified of each turn.
 fn run_on_threads<R: Threads + Wait + Sync, K: Sink, G: Gate + Sync>(
     rt: &R,
     alloc: Global,
@@ -160,7 +161,7 @@ fn exchange_serially<K: Sink, L: Ledger>(
     finish_run(alloc, command, subject, run, out)
 }
 
-/// The same on threads.
+/// The run of the application's programs on threads.
 fn exchange_on_threads<R: Threads + Wait + Sync, K: Sink, G: Gate + Sync>(
     rt: &R,
     alloc: Global,

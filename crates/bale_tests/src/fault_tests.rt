@@ -71,7 +71,8 @@ fn faults_at_every_call(rt: HostRuntime) -> Result<(), Fail> {
     Ok(())
 }
 
-/// The same of writes to out; the number before what is told is that of the write to err that fails.
+/// Words, a text, the most bytes of a write to out and the one that fails, the write to err that
+/// fails, and the status, out and err.
 #[test]
 fn faults_at_every_write(rt: HostRuntime) -> Result<(), Fail> {
     let rows = [

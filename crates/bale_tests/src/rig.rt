@@ -25,7 +25,7 @@ pub(crate) struct Call {
     pub(crate) text: &'static [u8],
     /// The most bytes of a read, and the read that fails: none is number 0.
     pub(crate) read: (usize, u64),
-    /// The same of a write to out.
+    /// The most bytes of a write to out, and the write that fails: none is number 0.
     pub(crate) write: (usize, u64),
     /// The write to err that fails.
     pub(crate) say: u64,

@@ -106,7 +106,8 @@ fn two_digits(buffer: &mut [u8], at: usize, n: u32) -> usize
     at + 2
 }
 
-/// The same of three or four digits.
+/// Writes a number of three or four digits behind the first `at` bytes of a buffer, and says where
+/// it ends.
 #[inline(always)]
 fn four_digits(buffer: &mut [u8], at: usize, n: u32) -> usize
     requires room { at + 4 ≤ length buffer.old }
@@ -119,7 +120,7 @@ fn four_digits(buffer: &mut [u8], at: usize, n: u32) -> usize
     next + 2
 }
 
-/// The same of five digits.
+/// Writes a number of five digits behind the first `at` bytes of a buffer, and says where it ends.
 #[inline(always)]
 fn five_digits(buffer: &mut [u8], at: usize, n: u32) -> usize
     requires room { at + 5 ≤ length buffer.old }
@@ -146,7 +147,7 @@ fn four_by(buffer: &mut [u8], at: usize, fours: &Fours, n: u32) -> usize
     at + 4
 }
 
-/// The same of five digits.
+/// Writes a number of five digits behind the first `at` bytes by a digit and a look, and says where it ends.
 #[inline(always)]
 fn five_by(buffer: &mut [u8], at: usize, fours: &Fours, n: u32) -> usize
     requires room { at + 5 ≤ length buffer.old }

@@ -35,7 +35,7 @@ pub fn components_serial(alloc: Global, m: &Matrix, grid: &Grid) -> Result<Vec<u
     labels_of(alloc, m, ranks, &finished.progs)
 }
 
-/// The same, with the ranks on threads.
+/// The label of each vertex, found by the ranks of a grid of one number, which are on threads.
 ///
 /// # Errors
 /// `NoMemory` where there was none.

@@ -32,7 +32,7 @@ pub(crate) fn measure(alloc: Global, job: Job) -> Result<u64, NoMemory> {
     }
 }
 
-/// The same on a grid, or on one of one rank.
+/// Does the job on a grid, or on one of one rank, and answers the sum of what came.
 fn on_grid<const HOPS: usize>(
     alloc: Global,
     job: Job,

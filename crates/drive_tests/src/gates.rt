@@ -17,7 +17,8 @@ pub(crate) enum TestGate<'a> {
     Holds(&'a Watch),
     /// Holds no rank, and counts the turns.
     Counts(Numbers),
-    /// The same, and notes if two ranks of one of two workers don't have their first turns in alternation.
+    /// Holds no rank, counts the turns, and notes if two ranks of one of two workers don't have
+    /// their first turns in alternation.
     Alternates(Numbers),
     /// Counts the turns, gives other threads time at each, and notes if one of them notifies it meanwhile.
     Alone(Numbers),

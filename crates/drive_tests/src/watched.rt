@@ -300,7 +300,8 @@ fn are_counted(progs: &Progs<Watched<'_>>, wanted: &[u64]) -> bool {
     true
 }
 
-/// The same on a grid of one number, with a rank for each list: whether each column was named as often as wanted, in two epochs.
+/// Whether each column was named as often as wanted, in two epochs, on a grid of one number with a
+/// rank for each list.
 pub(crate) fn is_counted<R: Threads + Wait + Sync, G: Gate + Sync>(
     rt: &R,
     alloc: Global,

@@ -45,7 +45,7 @@ pub(crate) fn take_from(
     take_in(&mut begun[from], letter, item)
 }
 
-/// The same for what one sender has begun.
+/// Takes an item in by what its sender has begun, and answers whether its letter is whole now.
 fn take_in(begun: &mut Vec<Item>, letter: &mut Vec<u8>, item: Item) -> Result<bool, NoMemory>
     ensures whole { IfOk result (λ whole. whole ≡ is_whole (begun.old.items ++ item ∷ [])) }
     ensures begun { OnOk result (begun.new.items ≡ cond (is_whole (begun.old.items ++ item ∷ [])) []

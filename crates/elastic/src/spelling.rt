@@ -78,7 +78,7 @@ fn word_of(bytes: &[u8]) -> u64
     }
 }
 
-/// The same of fewer than eight bytes.
+/// Fewer than eight bytes as a word, from the lowest bits up.
 fn short_word(bytes: &[u8]) -> u64
     requires { length bytes.now < 8 }
     ensures { result ≡ word_of bytes.now }

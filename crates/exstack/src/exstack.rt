@@ -128,7 +128,7 @@ impl<const CAP: usize> Exstack<CAP> {
         self.outs[to as usize].headroom()
     }
 
-    /// The same for the rank for which it is least.
+    /// How many items may be pushed toward any rank before its buffer is full: the least headroom.
     pub fn min_headroom(&self) -> u64
         ensures { result ≡ least_headroom CAP self.now.outs }
     {

@@ -241,7 +241,7 @@ pub fn next_unread<const CAP: usize>(ins: &[InLink<CAP>], from: u32) -> Option<u
     search_unread(ins, from)
 }
 
-/// The same, by a search.
+/// Searches the links from `from` on for the lowest one that has an unread item.
 fn search_unread<const CAP: usize>(ins: &[InLink<CAP>], from: u32) -> Option<u32>
     requires below { NoneBelow ins.now from }
     ensures { result ≡ position has_unread ins.now }

@@ -183,7 +183,7 @@ pub fn first_unread<const CAP: usize>(links: &[InLink<CAP>], from: u32) -> Optio
     search_unread(links, from + 1)
 }
 
-/// The same, by a search.
+/// Searches the links from `from` on for the lowest one whose inbox has an entry.
 fn search_unread<const CAP: usize>(links: &[InLink<CAP>], from: u32) -> Option<u32>
     requires within { from ≤ length links.now }
     requires few { length links.now < 2 ^ 32 }

@@ -90,7 +90,8 @@ fn pass_on<const CAP: usize>(
     count
 }
 
-/// The same for each link in of hop `h`, in ascending order.
+/// Relays the entries of each link in of hop `h`, in ascending order. Answers how many were passed
+/// on.
 pub fn relay_hop<const CAP: usize>(
     routes: &Routes,
     outs: &mut Vec<OutLink<CAP>>,

@@ -48,7 +48,7 @@ pub(crate) fn exchange<R: Threads + Wait + Clock + Sync>(
     }
 }
 
-/// The same over parcels of `CAP` entries.
+/// Exchanges the items once, over parcels of `CAP` entries.
 fn over_hops<const CAP: usize, R: Threads + Wait + Clock + Sync>(
     rt: &R,
     alloc: Global,
@@ -66,7 +66,7 @@ fn over_hops<const CAP: usize, R: Threads + Wait + Clock + Sync>(
     }
 }
 
-/// The same over routes of `HOPS` hops.
+/// Exchanges the items once, over parcels of `CAP` entries and routes of `HOPS` hops.
 fn measured<const CAP: usize, const HOPS: usize, R: Threads + Wait + Clock + Sync>(
     rt: &R,
     alloc: Global,

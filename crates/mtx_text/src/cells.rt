@@ -101,7 +101,8 @@ impl Cells {
         Ok(true)
     }
 
-    /// The same as `raise`. Where the cells are in order and `t` comes behind them all, they stay known to be.
+    /// Raises the cell at the place of `t` as `raise` does. If the cells are in order and `t` comes
+    /// behind them all, they stay known to be.
     fn raise_in_order(&mut self, t: Triple) -> Result<(), NoMemory>
         ensures { AllOrNothing (raised t self.old) self.old self.new result }
     {
@@ -240,7 +241,7 @@ fn nearest(best: Option<Triple>, waiting: &[Triple], i: u32, j: u32) -> Option<T
     best
 }
 
-/// The same with one triple.
+/// The first cell from a place on, once `t` came to cells of which it was `best`.
 #[inline(always)]
 fn nearer(best: Option<Triple>, t: Triple, i: u32, j: u32) -> Option<Triple>
     ensures { (cells : List Triple) → InOrder cells → best ≡ first_from i j cells

@@ -132,7 +132,8 @@ fn read_plain<'a>(
     }
 }
 
-/// The same where a look is due. A matrix with no mirrors has a copy of this loop that asks for none.
+/// Reads on as `read_plain` does where a look is due. A matrix with no mirrors has a copy of this
+/// loop that asks for none.
 #[inline(always)]
 #[tactic(auto, using(crate::proofs::Steps::draft_ok))]
 fn plain_lines<'a>(

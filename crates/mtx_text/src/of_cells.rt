@@ -38,7 +38,8 @@ impl Matrix {
         of_ordered(rows, cols, kind, triples)
     }
 
-    /// The same of cells that nobody needs after it: they become the matrix's entries, and are not copied.
+    /// The matrix of cells that nobody needs after it: they become the matrix's entries, and are
+    /// not copied.
     ///
     /// # Errors
     ///

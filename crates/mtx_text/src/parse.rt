@@ -64,7 +64,7 @@ fn line_after(n: usize, text: &[u8]) -> u64
     line
 }
 
-/// The same for a text that isn't too long.
+/// The parts of a text that is not too long.
 #[tactic(auto, unfolding(crate::specs::Grammar::lines_read))]
 fn read_lines(alloc: Global, text: &[u8]) -> Result<Parts, ParseFault>
     requires { length text.now ≤ 16_777_216 }

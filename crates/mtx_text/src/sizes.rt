@@ -34,7 +34,7 @@ pub(crate) fn read_sizes(form: Form, line: &[u8]) -> Result<Sizes, Reason>
     sizes_cut(form, line)
 }
 
-/// The same, as far as integers are read.
+/// The sizes that a line names, as far as integers are read: larger ones count as the greatest.
 #[tactic(auto, unfolding(crate::specs::Grammar::sizes_by))]
 fn sizes_cut(form: Form, line: &[u8]) -> Result<Sizes, Reason>
     ensures value { result ≡ sizes_by (λ w. option_map capped (integer_of w)) form (words_of line.now) }

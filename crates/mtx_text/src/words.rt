@@ -59,7 +59,7 @@ pub(crate) fn first_word(line: &[u8]) -> Option<(&[u8], &[u8])>
     Some(cut_word(line))
 }
 
-/// The same of a line that begins with a word.
+/// The first word of a line that begins with one, and the line behind it.
 #[tactic(auto, using(crate::proofs::Cuts::word_cut))]
 pub(crate) fn cut_word(line: &[u8]) -> (&[u8], &[u8])
     requires { BeginsWord line.now }

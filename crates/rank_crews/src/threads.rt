@@ -43,7 +43,7 @@ pub fn run_together<R: Threads + Wait + Sync, A: Seated + Send, G: Gate + Sync>(
     run_workers::<R, A, G, Brand>(rt, alloc, gate, workers, threads, all)
 }
 
-/// The same as a run of its own, so that its type names what its gate was notified of.
+/// Polls all ranks in a run of its own, whose type names what its gate was notified of.
 fn run_workers<
     R: Threads + Wait + Sync,
     A: Seated + Send,
@@ -99,7 +99,7 @@ fn run_each<
     )
 }
 
-/// The same in a scope, with room for what comes back.
+/// Polls the ranks of all workers in a scope of threads, with room for what comes back.
 fn run_in<
     's,
     E,

@@ -58,7 +58,7 @@ pub(crate) enum GroupCase {
     Of1024(Group<1024>),
 }
 
-/// The same call in each case of hops.
+/// One call, in each case of hops.
 macro_rules! by_hops {
     ($case:expr, $rank:ident, $call:expr) => {
         match $case {
@@ -69,7 +69,7 @@ macro_rules! by_hops {
     };
 }
 
-/// The same call in each case of capacities.
+/// One call, in each case of capacities.
 macro_rules! by_capacity {
     ($cases:ident, $case:expr, $part:ident, $call:expr) => {
         match $case {

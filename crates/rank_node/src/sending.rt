@@ -24,7 +24,7 @@ pub(crate) fn push_all<Q: Program, const CAP: usize, const HOPS: usize>(
     push_each(prog, sends, &mut out, from)
 }
 
-/// The same, where the conveyor is what takes the items: it is the same one after it.
+/// Pushes the items to send through `out`, which is the conveyor before and after it.
 fn push_each<Q: Program, const CAP: usize, const HOPS: usize>(
     prog: &Box<Q>,
     sends: Sends,

@@ -52,7 +52,7 @@ pub(crate) fn send_each<Q: Program, D: Departures>(
     }
 }
 
-/// The same of one vote to each rank.
+/// Hands one vote for each rank, from number `from` on, to `out`, until one is refused.
 fn vote_each<D: Departures>(vote: u64, ranks: u32, from: u64, out: &mut D) -> u64
     requires from { from ≤ length (votes_to ranks vote) }
     requires may { All (λ e. D.may out.old e.0) (drop from (votes_to ranks vote)) }

@@ -148,7 +148,7 @@ fn push_on<const CAP: usize, Q: Program>(
     push_each(prog, sends, &mut out, from)
 }
 
-/// The same, where the exstack is what takes the items: it is the same one after it.
+/// Pushes the items to send through `out`, which is the exstack before and after it.
 fn push_each<const CAP: usize, Q: Program>(
     prog: &Box<Q>,
     sends: Sends,

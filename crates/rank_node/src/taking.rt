@@ -68,7 +68,8 @@ fn take_batch<Q: Program, const CAP: usize, const HOPS: usize>(
     taken
 }
 
-/// The same while the items stay where they are: on one hop all of them are of the neighbour.
+/// Sums or absorbs these items where they lie, without a copy: on one hop all of them are of the
+/// neighbour.
 fn take_unread<Q: Program, const CAP: usize, const HOPS: usize>(
     prog: &mut Box<Q>,
     conveyor: &Conveyor<CAP, HOPS>,

@@ -35,7 +35,7 @@ pub fn skeleton_serial(alloc: Global, m: &Matrix, grid: &Grid) -> Result<Vec<u64
     found(alloc, m, ranks, &finished.progs)
 }
 
-/// The same, with the ranks on threads.
+/// The answer by column, found by the ranks of a grid of one number, which are on threads.
 ///
 /// # Errors
 /// `NoMemory` where there was none.

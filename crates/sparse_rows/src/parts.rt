@@ -68,7 +68,8 @@ impl<'a> Parts<'a> {
         (e as u32, self.entries[e])
     }
 
-    /// The same, or `None` exactly where `x` is past the part's end. The rank is below the number of parts.
+    /// Entry number `x` of the part of a rank, or `None` if and only if `x` is past the part's end.
+    /// The rank is below the number of parts.
     pub fn get(&self, rank: u32, x: usize) -> Option<(u32, Triple)>
         requires { rank < length self.now }
         ensures { result ≡ slice_get (slice_index_or self.now rank []) x }

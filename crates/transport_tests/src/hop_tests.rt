@@ -48,7 +48,7 @@ fn begun<const HOPS: usize>(
     Ok(state)
 }
 
-/// The same, with an item pushed toward a rank.
+/// The state of a rank whose first epoch has begun, with an item pushed toward a rank.
 fn begun_and_pushed<const HOPS: usize>(
     rt: &impl Abort,
     alloc: Global,

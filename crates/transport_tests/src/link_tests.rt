@@ -25,7 +25,7 @@ fn answered<P: Port<1>>(hand: Hand<P>, calls: &[(Call, Answer)]) -> Result<usize
     Ok(calls.len())
 }
 
-/// The same of the one rank of the grid 1 at the slot bank.
+/// Makes the calls at the one rank of the grid 1, over the slot bank.
 fn answered_by_slots(alloc: Global, slots: u32, calls: &[(Call, Answer)]) -> Result<usize, NoMemory>
     requires slots { IsSlots slots }
 {

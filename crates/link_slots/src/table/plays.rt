@@ -38,7 +38,7 @@ impl<const CAP: usize> Play<Slot<CAP>, Knows> for BringSpare {
     ghost then = { spare_told CAP };
 }
 
-/// The same, with the slot of the link's next parcel last.
+/// The seat lays down what it holds, and takes it up with the slot of the link's next parcel last.
 pub(crate) struct BringParcel;
 
 impl<const CAP: usize> Play<Slot<CAP>, Knows> for BringParcel {

@@ -1,5 +1,5 @@
 //! Matrices of cells.
-ghost use Rattle.std.specs.Prelude.{◌≡◌, [], IfOk, OnOk};
+ghost use Rattle.std.specs.Prelude.{◌≡◌, ◌≤◌, [], length, IfOk, IsOk, OnOk};
 ghost use Rattle.std.specs.List.{All};
 ghost use Rattle.mtx_text.specs.Sparse.{IsEntry, AreSides};
 ghost use Rattle.mtx_text.specs.Cells.{InOrder, together, sparse};
@@ -43,11 +43,12 @@ impl Matrix {
     ///
     /// # Errors
     ///
-    /// `NoMemory` where there are more cells than the 524,288 entries of a matrix.
+    /// `NoMemory` if and only if there are more cells than the 524,288 entries of a matrix.
     pub fn of_own_cells(rows: u32, cols: u32, kind: Kind, cells: Cells) -> Result<Matrix, NoMemory>
         requires sides { AreSides rows cols }
         requires inside { All (λ t. IsEntry (sparse rows cols kind []) t) cells }
-        ensures { IfOk result (λ m. m ≡ sparse rows cols kind cells) }
+        ensures matrix { IfOk result (λ m. m ≡ sparse rows cols kind cells) }
+        ensures limit { (length cells ≤ 524_288 → IsOk result) × (IsOk result → length cells ≤ 524_288) }
     {
         of_ordered(rows, cols, kind, cells.into_entries())
     }
@@ -79,10 +80,12 @@ impl Matrix {
     }
 }
 
-/// The matrix of triples in order.
+/// The matrix of triples in order, if there are at most 524,288.
 fn of_ordered(rows: u32, cols: u32, kind: Kind, triples: Vec<Triple>) -> Result<Matrix, NoMemory>
     requires { AreCells rows cols kind triples.items }
-    ensures { IfOk result (λ m. m ≡ sparse rows cols kind triples.items) }
+    ensures matrix { IfOk result (λ m. m ≡ sparse rows cols kind triples.items) }
+    ensures limit { (length triples.items ≤ 524_288 → IsOk result)
+        × (IsOk result → length triples.items ≤ 524_288) }
 {
     if triples.len() > MOST_ENTRIES {
         return Err(NoMemory);

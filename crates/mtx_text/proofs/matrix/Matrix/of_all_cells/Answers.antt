@@ -36,7 +36,7 @@ returns-clause-matrix c =
     let all = c.args.all.now in
     let same : c.gather.new.triples.items ≡ together all =
     c.gather.ensures ∙ c.loop-cells.invariant.same ∙ ap together (take_all c.loop-cells.cells-index all c.loop-cells-test.false) in
-    subst (λ cells. IfOk c.of_ordered.result (λ m. m ≡ sparse c.args.rows c.args.cols c.args.kind cells)) same c.of_ordered.ensures
+    subst (λ cells. IfOk c.of_ordered.result (λ m. m ≡ sparse c.args.rows c.args.cols c.args.kind cells)) same c.of_ordered.ensures.matrix
 
 pub returns-clause-ordered : goal.returns-clause-ordered
 returns-clause-ordered c =

@@ -21,4 +21,4 @@ returns c =
     let same : c.gather.new.triples.items ≡ c.args.cells.now =
     c.gather.ensures ∙ c.in_ok-append_to.ensures.cells ∙ ap (λ ts. gathered (ts ++ c.args.cells.now)) c.new-triples.ensures.items
     ∙ gathered_itself c.args.cells.now c.append_to.ensures.ordered in
-    subst (λ cells. IfOk c.of_ordered.result (λ m. m ≡ sparse c.args.rows c.args.cols c.args.kind cells)) same c.of_ordered.ensures
+    subst (λ cells. IfOk c.of_ordered.result (λ m. m ≡ sparse c.args.rows c.args.cols c.args.kind cells)) same c.of_ordered.ensures.matrix

@@ -23,7 +23,6 @@ use Rattle.bale_subjects.specs.Fitness.{unfitness}
 use Rattle.bale_cli.specs.Outcomes.{Answered}
 use Rattle.bale_subjects.specs.Subjects.{subject_asked}
 use Rattle.bale_words.specs.Ranges.{InRanges}
-use Rattle.bale_meaning.proofs.Serial.{means_of}
 use Rattle.bale_cli.proofs.AnswerEnds.{before_text}
 
 -- what holds of a result that is there
@@ -181,7 +180,6 @@ module _ {S K : Type 0} {serial : Command → Bool} {turns : Command → Subject
           fits = fits;
           bytes = wrote.bytes;
           answers = wrote.answers;
-          means = λ text told. means_of c text s (serial c) wrote.bytes ranges (subject.of_text text told) fits wrote.answers;
           wrote = (finish.ending.status, wrote.whole, wrote.front);
           rounds_tell = finish.rounds;
           turned = turned;

@@ -155,7 +155,6 @@ module _ {serial : Command → Bool} {turns : Command → Subject → List Close
         fits = r.fits;
         bytes = r.bytes;
         answers = r.answers;
-        means = r.means;
         wrote = elim (ends f o) [
           | inl w ↦ (λ other. (w.fact.0 ∙ r.wrote.0, did w r.wrote.1), subst (IsFront (taken out')) (did w r.wrote.1) (front_same (taken out')))
           | inr u ↦ (λ other. absurd (other u.fact.0), failed u r.wrote.2)

@@ -11,16 +11,17 @@ use Rattle.bale_subjects.specs.declared.refusal.Refusal.TheVariants as refusal
 use Rattle.bale_subjects.specs.declared.subject.Subject.{Subject}
 use Rattle.bale_subjects.specs.declared.unfit.Unfit.{Unfit}
 use Rattle.bale_subjects.specs.Fitness.{unfitness}
-use Rattle.bale_subjects.specs.Reading.{reads, Told, TellsText, IsSubjectOf}
+use Rattle.bale_subjects.specs.Reading.{reads, Told, IsSubjectOf}
 use Rattle.bale_subjects.specs.Refusals.{refusal_text}
 use Rattle.bale_answers.specs.Answer.{serial_answer, said, shown, Asked}
-use Rattle.bale_answers.specs.Tasks.{IsAnswer, Means, task_status}
+use Rattle.bale_answers.specs.Tasks.{IsAnswer, task_status}
 use Rattle.bale_runs.specs.Asking.{FewestOfCommand, SweptOfCommand, TellsCommand, ToldOfCommand, TurnsOfCommand}
 use Rattle.bale_runs.specs.Jobs.{as_asked, on_one_thread}
 
 -- What a run with an answer ran: a command of the words on a subject that it fits, the text's if the
 -- source tells it. `bytes` are that command's answer, `P` says of its status and of the bytes shown
 -- what out took, the rounds tell what was exchanged, and `turns` says how its ranks were turned.
+-- What such bytes mean, in the words of each application's field, is a law of bale_meaning.
 -- This holds of standard input too, which tells no text: status 0 on the words `histo` then says
 -- that some matrix was read, that the answer for it was written, and that its items travelled.
 pub record HasRun (serial : Command → Bool) (turns : Command → Subject → List ClosedRound → Type 0)
@@ -33,9 +34,6 @@ pub record HasRun (serial : Command → Bool) (turns : Command → Subject → L
   pub fits : unfitness command subject (serial command) ≡ None
   pub bytes : List ℕ
   pub answers : IsAnswer command.task subject bytes
-  -- What the bytes mean, if the source tells the text.
-  pub means : (text : List ℕ) → TellsText command.travel.generated left text
-      → Means command.task subject (task_status command.task subject) bytes
   pub wrote : P (task_status command.task subject)
       (shown command.travel.generated (task_status command.task subject) bytes)
   pub rounds_tell : TellsCommand (serial command) command subject rounds

@@ -10,8 +10,8 @@
 //! is about the words and the text alone, on bale_subjects (what a command is asked of), and on bale_runs (what the rounds tell).
 //! `specs/Outcomes` is the way there.
 //!
-//! What the bytes of each answer mean, in the words of its field, is part of `Wrote`: `Means` in `specs/Tasks` of bale_answers has a line for
-//! each task.
+//! What the bytes of each answer mean, in the words of its field, is the law of bale_meaning: `Means`
+//! in `specs/Tasks` of bale_answers has a line for each task.
 #![tactic(auto)]
 
 mod calls;

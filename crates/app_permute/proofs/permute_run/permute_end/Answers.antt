@@ -36,7 +36,7 @@ returns-clause-matrix c = λ rp cp h.
     let same : sparse c.rows.result c.cols.result c.kind.result c.loop-rank.all ≡ permuted rp cp m =
     ap (λ k. sparse k c.cols.result c.kind.result c.loop-rank.all) c.rows.ensures ∙ ap (λ k. sparse m.rows k c.kind.result c.loop-rank.all) c.cols.ensures
     ∙ ap (λ k. sparse m.rows m.cols k c.loop-rank.all) c.kind.ensures ∙ ap (sparse m.rows m.cols m.kind) all in
-    if_ok_from (λ b. b ≡ permuted rp cp m) c.of_own_cells.result (λ b e. if_ok_is _ c.of_own_cells.result b e c.of_own_cells.ensures ∙ same)
+    if_ok_from (λ b. b ≡ permuted rp cp m) c.of_own_cells.result (λ b e. if_ok_is _ c.of_own_cells.result b e c.of_own_cells.ensures.matrix ∙ same)
 
 pub returns-clause-values : goal.returns-clause-values
 returns-clause-values c = λ rp cp h.

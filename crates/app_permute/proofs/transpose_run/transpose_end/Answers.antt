@@ -30,7 +30,7 @@ returns-clause-matrix c =
     let same : sparse c.cols.result c.rows.result c.kind.result c.loop-rank.all ≡ transposed m =
     ap (λ k. sparse k c.rows.result c.kind.result c.loop-rank.all) c.cols.ensures ∙ ap (λ k. sparse m.cols k c.kind.result c.loop-rank.all) c.rows.ensures
     ∙ ap (λ k. sparse m.cols m.rows k c.loop-rank.all) c.kind.ensures ∙ ap (sparse m.cols m.rows m.kind) all in
-    if_ok_from (λ b. b ≡ transposed m) c.of_own_cells.result (λ b e. if_ok_is _ c.of_own_cells.result b e c.of_own_cells.ensures ∙ same)
+    if_ok_from (λ b. b ≡ transposed m) c.of_own_cells.result (λ b e. if_ok_is _ c.of_own_cells.result b e c.of_own_cells.ensures.matrix ∙ same)
 
 pub returns-clause-values : goal.returns-clause-values
 returns-clause-values c =

@@ -13,6 +13,7 @@
 //! | `SlotBank::port`, `SlotPort::into_seat` | the rank's port, by the trait of port_bank, and its seat back |
 //! | `SlotBank::gather` | the gathering seat knows what the rank sent and got |
 //! | `SlotBank::close` | a closed round, on which what each rank pulled is what the others pushed |
+//! | `SlotBank::table` | the table of the bank, whose type names the rule that it keeps |
 //! | `rule_law`, `live_law` | between any two steps the bank is lawful, and its lists keep the laws of a closed round |
 //! | `bell_law` | a collect that answers Nothing right after a hear has left no offered parcel |
 //! | `SlotRound::ranks`, `SlotRound::epochs` | the number of ranks; how many epochs every link has ended |

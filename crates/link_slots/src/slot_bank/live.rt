@@ -1,4 +1,5 @@
 //! What holds of a bank at every moment.
+ghost use Rattle.std.specs.Prelude.{◌≡◌};
 ghost use Rattle.item_buffer.specs.Contents.{Contents};
 ghost use Rattle.atomic_table.specs.Table.{State};
 ghost use Rattle.link_slots.specs.Shape.{Shape};
@@ -6,14 +7,26 @@ ghost use Rattle.link_slots.specs.Told.{Knowing, IsLawful};
 ghost use Rattle.link_slots.specs.Closed.{LiveLaw};
 ghost use Rattle.link_slots.specs.Offered.{BellLaw};
 
+use crate::slot_bank::SlotBank;
 use crate::table::plan::Plan;
 use crate::table::rule::Links;
 use crate::table::slot::Slot;
 use crate::table::view::Knows;
-use atomic_table::TableRule;
+use atomic_table::{Shared, TableRule};
 
-/// Between any two steps, whichever threads make them, the bank is lawful: the rule that its table keeps, `Links`, says so in all six parts.
-/// This call tells it, and does nothing else.
+impl<const CAP: usize> SlotBank<CAP> {
+    /// The table that the ranks' seats share. Its type names the rule that each step on it keeps, `Links`: so whatever `rule_law` tells of a
+    /// state that keeps the rule holds of the bank between any two steps.
+    pub fn table(&self) -> &Shared<Slot<CAP>, Knows, Plan, Links<CAP>>
+        ensures id { result.now.table_id ≡ self.now.id }
+        ensures shape { result.now.key ≡ self.now.shape }
+    {
+        &self.board.shared
+    }
+}
+
+/// Between any two steps, whichever threads make them, the bank is lawful: the rule that its table keeps (`SlotBank::table`), `Links`, says so
+/// in all six parts. This call tells it, and does nothing else.
 pub fn rule_law<const CAP: usize>()
     ensures { (shape : Shape) (s : State Contents Knowing)
         → ⟦<Links<CAP> as TableRule<Slot<CAP>, Knows, Plan>>⟧.holds shape s → IsLawful CAP shape s }

@@ -117,6 +117,7 @@ impl<const CAP: usize> SlotSeat<CAP> {
     ///
     /// Where the rank knows of a parcel, that is all. Else it hears the doorbell of the link's hop where a hear is due, which marks every link
     /// whose bit it finds; and then it looks in where the link is marked.
+    #[inline]
     pub fn collect(
         &mut self,
         bank: &SlotBank<CAP>,
@@ -182,6 +183,7 @@ impl<const CAP: usize> SlotSeat<CAP> {
 }
 
 /// Counts an epoch that the link has ended, where the collect gave a parcel marked last.
+#[inline]
 fn note_last(ended: &mut Vec<u64>, link: u32, answer: Collected, last: bool)
     requires { link < length ended.old.items }
     ensures { ended.new.items

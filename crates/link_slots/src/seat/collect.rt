@@ -23,6 +23,7 @@ use item_buffer::Parcel;
 use port_bank::Collected;
 
 /// Hears the doorbell of the link's hop, unless the link is marked, or the doorbell was heard since its latest collect.
+#[inline(never)]
 fn hear_if_due<const CAP: usize>(
     top: &Top<CAP>,
     place: &mut Place<CAP>,
@@ -55,6 +56,7 @@ fn hear_if_due<const CAP: usize>(
 }
 
 /// Looks into the link where it is marked, and takes its mark away. Answers how many parcels are at hand then.
+#[inline(never)]
 fn look_if_marked<const CAP: usize>(
     top: &Top<CAP>,
     place: &mut Place<CAP>,
@@ -94,6 +96,7 @@ fn look_if_marked<const CAP: usize>(
 
 /// Finds how many parcels of the link are at hand: where none is, it hears the doorbell if that is due, and looks into the link if it is
 /// marked. It makes no other step.
+#[inline]
 fn find_parcel<const CAP: usize>(
     top: &Top<CAP>,
     place: &mut Place<CAP>,
@@ -139,7 +142,8 @@ fn find_parcel<const CAP: usize>(
 /// Collects the link's next parcel for the empty one at hand, if one is found.
 ///
 /// Most collects in vain are of a link that isn't marked and for which no hear is due: that is told
-/// at once, by what the seat counts.
+/// at once, where the call stands, by what the seat counts. The steps at the table are calls.
+#[inline]
 pub(crate) fn collect_on<const CAP: usize>(
     top: &Top<CAP>,
     place: &mut Place<CAP>,

@@ -38,7 +38,7 @@ module _ {T : Type 0} where
 
 module _ {T : Type 0} (Blank : T → Type 0) (Good : ℕ → List T → T → Type 0) (w : Wiring) (wired : IsWired w) (r l : ℕ) (x : Lists T) (ws : List ℕ) (hs : List (Option T)) (c : List (ℕ × T)) where
   abbrev out_at : ℕ → OutLog T
-  out_at n = let o = out_of x l in record { sent = o.sent; room = n; offered = o.offered; looks = o.looks }
+  out_at n = let o = out_of x l in record { sent = o.sent; room = n; offered = o.offered; looks = o.looks; rung_at = o.rung_at }
 
   abbrev in_at : List T → ℕ → InLog T
   in_at sent n = let i = in_of x l in record { seen = take n sent; taken = i.taken; marked = i.marked; hears = i.hears; heard = i.heard; look_ins = i.look_ins }

@@ -22,11 +22,11 @@ module _ {T : Type 0} (Blank : T → Type 0) (Good : ℕ → List T → T → Ty
   slot = slot_of w
 
   -- a link's facts speak of its own words and slots alone, and not of what is rung and heard
-  pub link_kept : (l : ℕ) (o : OutLog T) (i : InLog T) (ws ws' : List ℕ) (hs hs' : List (Option T)) (offered looks hears heard look_ins : ℕ) (marked : Bool)
+  pub link_kept : (l : ℕ) (o : OutLog T) (i : InLog T) (ws ws' : List ℕ) (hs hs' : List (Option T)) (offered looks rung_at hears heard look_ins : ℕ) (marked : Bool)
       → get_or ws' (posted_word l) 0 ≡ get_or ws (posted_word l) 0 → get_or ws' (released_word l) 0 ≡ get_or ws (released_word l) 0
       → ((n : ℕ) → get_elem? hs' (slot l n) ≡ get_elem? hs (slot l n)) → Ok l o i ws hs
-      → Ok l (record { sent = o.sent; room = o.room; offered = offered; looks = looks }) (record { seen = i.seen; taken = i.taken; marked = marked; hears = hears; heard = heard; look_ins = look_ins }) ws' hs'
-  link_kept l o i ws ws' hs hs' offered looks hears heard look_ins marked p q same ok = record {
+      → Ok l (record { sent = o.sent; room = o.room; offered = offered; looks = looks; rung_at = rung_at }) (record { seen = i.seen; taken = i.taken; marked = marked; hears = hears; heard = heard; look_ins = look_ins }) ws' hs'
+  link_kept l o i ws ws' hs hs' offered looks rung_at hears heard look_ins marked p q same ok = record {
     posted = p ∙ ok.posted;
     released = q ∙ ok.released;
     taken_seen = ok.taken_seen;

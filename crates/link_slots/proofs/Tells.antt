@@ -89,7 +89,7 @@ module _ (cap : ℕ) (shape : Shape) (is : IsShape shape) (count : ℕ) (as_many
   -- here a filled parcel lies in the slot in front, in place of the empty one b
   pub post : (v : Knowing) (c : List (ℕ × Contents)) (b p : Contents) → IsManned shape (v, (slot_of (wiring shape) l (length (out_of (own_logs v) l).sent), b) ∷ c) → l < links shape.dims → sender_at shape.dims l ≡ v.pick
       → length (out_of (own_logs v) l).sent < (out_of (own_logs v) l).room → MayFollow shape.dims cap l (out_of (own_logs v) l).sent p
-      → (Law v.pick (sent_of (own_logs v)) (got_of (own_logs v)) → Law v.pick (sent_of (with_out (own_logs v) l (let o = out_of (own_logs v) l in record { sent = o.sent ++ p ∷ []; room = o.room; offered = o.offered; looks = o.looks }))) (got_of (own_logs v)))
+      → (Law v.pick (sent_of (own_logs v)) (got_of (own_logs v)) → Law v.pick (sent_of (with_out (own_logs v) l (let o = out_of (own_logs v) l in record { sent = o.sent ++ p ∷ []; room = o.room; offered = o.offered; looks = o.looks; rung_at = o.rung_at }))) (got_of (own_logs v)))
       → let m : M = (v, (slot_of (wiring shape) l (length (out_of (own_logs v) l).sent), p) ∷ c) in Allows (IsLawful cap shape) count id m (posted_word l) (λ n. (n + 1) % 2 ^ 64) (post_told cap (step count (posted_word l) 1 0 none) m)
   post v c b p manned inside mine some_left good law =
       let m : M = (v, (slot_of (wiring shape) l (length (out_of (own_logs v) l).sent), p) ∷ c) in

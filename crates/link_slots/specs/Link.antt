@@ -37,10 +37,14 @@ module _ {T : Type 0} (Blank : T → Type 0) (Good : ℕ → List T → T → Ty
 
 module _ {T : Type 0} (w : Wiring) where
   -- Part (vi) for a link l: no parcel is offered that was not posted; where the doorbell's bit is
-  -- not set and the link is not marked, all offered parcels are seen; and each look in answers one
-  -- bit that was heard.
+  -- not set and the link is not marked, all offered parcels are seen; each look in answers one bit
+  -- that was heard; and where the reader has heard the doorbell since the sender last rang, and the
+  -- link is not marked, all offered parcels are seen. So a hear is counted only where the doorbell is
+  -- emptied, or has no bit.
   pub record BellOk (l : ℕ) (o : OutLog T) (i : InLog T) (words : List ℕ) : Type 0 where
     pub offered_sent : o.offered ≤ length o.sent
     pub told : (bit_at (slice_index_or words (bell_word w l) 0) (w.bit l) ≡ 1) ⊎ (i.marked ≡ true)
         ⊎ (o.offered ≤ length i.seen)
     pub looked : i.look_ins + one_where i.marked ≤ i.heard
+    pub rung : o.rung_at ≤ i.hears
+    pub answered : (o.rung_at ≡ i.hears) ⊎ (i.marked ≡ true) ⊎ (o.offered ≤ length i.seen)

@@ -6,7 +6,7 @@ use mathlib.Core.Option.{some}
 use lib.ListN.{get_elem?}
 use Rattle.atomic_table.specs.Table.{Me, rest}
 use Rattle.port_bank.specs.Flow.{Begins}
-use Rattle.link_slots.specs.Logs.{InLog, Lists, out_of, in_of, with_out, with_in}
+use Rattle.link_slots.specs.Logs.{InLog, Lists, out_of, in_of, with_out, with_in, all_offered}
 use Rattle.link_slots.specs.View.{View, own_logs, with_logs}
 use Rattle.link_slots.specs.Wiring.{Wiring, slot_of}
 use Rattle.link_slots.specs.Hands.{Holds}
@@ -65,12 +65,7 @@ module _ {D T : Type 0} (Blank : T → Type 0) (Good : ℕ → List T → T → 
       (beyond (length o.sent) n ≤ w.slots) × (beyond (length o.sent) n ≤ length o.sent)
       × (m'.0 ≡ with_logs m.0
       (with_out x l
-      (record {
-        sent = o.sent;
-        room = length o.sent + (w.slots - beyond (length o.sent) n);
-        offered = o.offered;
-        looks = suc o.looks;
-      })))
+      (record o { room = length o.sent + (w.slots - beyond (length o.sent) n); looks = suc o.looks })))
       × Holds Blank w m.0.pick (own_logs m'.0) m'.1
 
   -- Post: the parcel in front is appended, and its slot goes home.
@@ -80,7 +75,7 @@ module _ {D T : Type 0} (Blank : T → Type 0) (Good : ℕ → List T → T → 
       (m' ≡ (
         with_logs m.0
             (with_out x l
-            (record { sent = o.sent ++ in_front m.1; room = o.room; offered = o.offered; looks = o.looks })),
+            (record o { sent = o.sent ++ in_front m.1 })),
         rest m.1,
       ))
       × Holds Blank w m.0.pick (own_logs m'.0) m'.1
@@ -139,13 +134,14 @@ module _ {D T : Type 0} (Blank : T → Type 0) (Good : ℕ → List T → T → 
       × Holds Blank w m.0.pick x m'.1
       × (w.from l ≡ m.0.pick → Begins i.seen (out_of x l).sent)
 
-  -- Ring: all parcels posted so far are offered.
+  -- Ring: all parcels posted so far are offered, and the bank keeps how often their reader had heard
+  -- the doorbell then.
   abbrev pub rung : ℕ → Me T (View D T) → Me T (View D T) → Type 0
   rung l m m' =
       let x = own_logs m.0 in let o = out_of x l in
       (m' ≡ (
         with_logs m.0
-            (with_out x l (record { sent = o.sent; room = o.room; offered = length o.sent; looks = o.looks })),
+            (with_out x l (all_offered o (out_of (own_logs m'.0) l).rung_at)),
         m.1,
       ))
       × Holds Blank w m.0.pick (own_logs m'.0) m'.1

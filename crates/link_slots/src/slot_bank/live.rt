@@ -5,7 +5,7 @@ ghost use Rattle.atomic_table.specs.Table.{State};
 ghost use Rattle.link_slots.specs.Shape.{Shape};
 ghost use Rattle.link_slots.specs.Told.{Knowing, IsLawful};
 ghost use Rattle.link_slots.specs.Closed.{LiveLaw};
-ghost use Rattle.link_slots.specs.Offered.{BellLaw};
+ghost use Rattle.link_slots.specs.Offered.{BellLaw, HeardLaw};
 
 use crate::slot_bank::SlotBank;
 use crate::table::plan::Plan;
@@ -38,8 +38,9 @@ pub fn live_law<const CAP: usize>()
     ensures { LiveLaw CAP }
 {}
 
-/// Where a link's bit isn't set, as right after a hear of its doorbell, and a collect of it answered Nothing, each parcel that was offered
-/// is collected. This call tells it, and does nothing else.
+/// Where a link's bit isn't set, as right after a hear of its doorbell, or the reader has heard it since the sender last rang, and a collect
+/// of the link answered Nothing, each parcel that was offered is collected. This call tells it, and does nothing else.
 pub fn bell_law<const CAP: usize>()
-    ensures { BellLaw CAP }
+    ensures unset { BellLaw CAP }
+    ensures heard { HeardLaw CAP }
 {}

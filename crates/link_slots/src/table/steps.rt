@@ -99,7 +99,8 @@ pub(crate) fn ring<const CAP: usize>(
     requires bell { (word ≡ bell_word (wiring top.now.key) link) × (mask ≡ 2 ^ (wiring top.now.key).bit link) }
     ensures stays { StaysSeated top.now.key place.old.table_id place.new.table_id place.new.me }
     ensures rung { place.new.me.0 ≡ with_logs place.old.me.0
-        (with_out (own_logs place.old.me.0) link (all_offered (out_of (own_logs place.old.me.0) link))) }
+        (with_out (own_logs place.old.me.0) link (all_offered (out_of (own_logs place.old.me.0) link)
+        (out_of (own_logs place.new.me.0) link).rung_at)) }
 {
     if top.load::<LookBeforeRing>(place, word) & mask == 0 {
         top.fetch_or::<Ring>(place, word, mask);

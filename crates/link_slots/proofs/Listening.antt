@@ -102,9 +102,9 @@ module _ {D T : Type 0} (Blank : T → Type 0) (Good : ℕ → List T → T → 
                   (λ ne. subst (λ (z : ℕ). z < 2 ^ w.width b) (sym (get_or-set_other s.words k (16 * (2 * w.links + b)) _ 0 (λ e. ne (omega arith)))) (ok.no_other_bits b h));
             })
             (λ _ _ _. refl)
-            (λ link. link_kept Blank Good w wired l o i s.words words s.homes s.homes (length o.sent) o.looks i.hears i.hears i.heard i.look_ins i.marked
+            (λ link. link_kept Blank Good w wired l o i s.words words s.homes s.homes (length o.sent) o.looks i.hears i.hears i.heard i.look_ins i.released_at i.marked
             (get_or-set_other s.words k (posted_word l) _ 0 (λ e. omega arith)) (get_or-set_other s.words k (released_word l) _ 0 (λ e. omega arith)) (λ _. refl) link)
-            (λ bell. bell_rung w l o o' i s.words words refl refl refl (ap (λ (z : ℕ). bit_at z (w.bit l)) here ∙ bit_comes (get_or s.words k 0) (w.bit l)) bell),
+            (λ bell. bell_rung w l o o' i s.words words refl refl refl refl refl (ap (λ (z : ℕ). bit_at z (w.bit l)) here ∙ bit_comes (get_or s.words k 0) (w.bit l)) bell),
         (
           let there : out_of (own_logs (with_logs v x')) l ≡ o' = ap (λ (z : Lists T). out_of z l) (own_with v x' speaks) ∙ out_here x l o' long in
               (λ j. (with_logs v (with_out x l (all_offered o ((sym there) j).rung_at)), c)),
@@ -147,16 +147,16 @@ module _ {D T : Type 0} (Blank : T → Type 0) (Good : ℕ → List T → T → 
             let p = low (posted_word m) (omega arith) in let q = low (released_word m) (omega arith) in
             ⊎_elim
             (λ t. subst (λ (z : OutLog T × InLog T). LinkOk Blank Good w m z.0 z.1 words s.homes) (λ j. (sym (outs (w.from m) m) j, sym t.1 j))
-            (let e = heard_by (bit_at n (w.bit m)) d in link_kept Blank Good w wired m a d s.words words s.homes s.homes a.offered a.looks a.rung_at e.hears e.heard e.look_ins e.marked p q (λ _. refl) (ok.each_link m h)))
+            (let e = heard_by (bit_at n (w.bit m)) d in link_kept Blank Good w wired m a d s.words words s.homes s.homes a.offered a.looks a.rung_at e.hears e.heard e.look_ins e.released_at e.marked p q (λ _. refl) (ok.each_link m h)))
             (λ t. subst (λ (z : OutLog T × InLog T). LinkOk Blank Good w m z.0 z.1 words s.homes) (λ j. (sym (outs (w.from m) m) j, sym t.1 j))
-            (link_kept Blank Good w wired m a d s.words words s.homes s.homes a.offered a.looks a.rung_at d.hears d.heard d.look_ins d.marked p q (λ _. refl) (ok.each_link m h)))
+            (link_kept Blank Good w wired m a d s.words words s.homes s.homes a.offered a.looks a.rung_at d.hears d.heard d.look_ins d.released_at d.marked p q (λ _. refl) (ok.each_link m h)))
             (ins m h))
             (λ m h. let a = out_of (ok.logs (w.from m)) m in let d = in_of (ok.logs (w.to m)) m in
             ⊎_elim
             (λ t. subst (λ (z : OutLog T × InLog T). BellOk w m z.0 z.1 words) (λ j. (sym (outs (w.from m) m) j, (ap (λ (z : ℕ). heard_by (bit_at (get_or s.words (16 * (2 * w.links + z)) 0) (w.bit m)) d) t.0 ∙ sym t.1) j))
             (bell_heard w m a d s.words words (ok.each_bell m h)))
             (λ t. subst (λ (z : OutLog T × InLog T). BellOk w m z.0 z.1 words) (λ j. (sym (outs (w.from m) m) j, sym t.1 j))
-            (bell_kept w m a a d d s.words words refl refl (omega arith) refl refl refl refl (omega arith)
+            (bell_kept w m a a d d s.words words refl refl refl refl (omega arith) refl refl refl refl refl refl (omega arith)
             (λ e. ap (λ (z : ℕ). bit_at z (w.bit m)) (get_or-set_other s.words k (bell_word w m) 0 0 (λ z. t.0 (omega arith))) ∙ e) (ok.each_bell m h)))
             (ins m h))
             (λ d h. dite (ℕ_discrete d b)

@@ -105,7 +105,7 @@ module _ (cap : ℕ) (shape : Shape) (is : IsShape shape) (count : ℕ) (as_many
       let m : M = (v, (slot_of (wiring shape) l (in_of (own_logs v) l).taken, b) ∷ c) in
       may m (released_word l) (λ n. (n + 1) % 2 ^ 64) (λ n. released cap shape l m) (release_told cap (step count (released_word l) 1 0 none) m)
       (λ n m' t q e. subst (λ (z : Shape × ℕ). released cap z.0 z.1 m m') (λ k. (sym manned.of k, (let same : l ≡ q = omega arith in same) k)) t)
-      (moves.release IsBlank Good Law shape (wiring shape) (wired shape is) id l v c b p manned.speaks inside mine some_left blank (λ long. law_taken shape.dims v.pick l (own_logs v) is.grid long some_left) manned.holds)
+      (moves.release IsBlank Good Law shape (wiring shape) (wired shape is) id l v c b p manned.speaks inside mine some_left blank (λ looks long. law_taken shape.dims v.pick l (own_logs v) looks is.grid long some_left) manned.holds)
 
   pub look_before_ring : (m : M) (word : ℕ) → word ≡ bell_word (wiring shape) l → IsManned shape m → l < links shape.dims → sender_at shape.dims l ≡ m.0.pick
       → Allows (IsLawful cap shape) count id m word (λ n. n) (ring_look_told cap (step count word 0 0 none) m)

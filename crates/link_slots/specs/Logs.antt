@@ -15,7 +15,8 @@ pub record OutLog (T : Type 0) : Type 0 where
 
 -- The reader's side of a link: the parcels that it saw posted, in order, and how many of them it
 -- has taken; whether the link is marked as rung; how often the reader heard the link's doorbell,
--- how often it then found the link's bit, and how often it looked in.
+-- how often it then found the link's bit, and how often it looked in; and how often the sender had
+-- looked for room when the latest parcel was released.
 pub record InLog (T : Type 0) : Type 0 where
   pub seen : List T
   pub taken : ℕ
@@ -23,6 +24,7 @@ pub record InLog (T : Type 0) : Type 0 where
   pub hears : ℕ
   pub heard : ℕ
   pub look_ins : ℕ
+  pub released_at : ℕ
 
 module _ {T : Type 0} where
   -- All that the reader collected, in order: the first of those that it saw.
@@ -35,23 +37,15 @@ module _ {T : Type 0} where
 
 module _ {T : Type 0} where
   -- One parcel more is posted; all that are posted are offered, where the reader had heard the doorbell
-  -- so often; one parcel more is taken.
+  -- so often; one parcel more is taken, where the sender had looked for room so often.
   abbrev pub sent_more : OutLog T → T → OutLog T
   sent_more o p = record o { sent = o.sent ++ p ∷ [] }
 
   abbrev pub all_offered : OutLog T → ℕ → OutLog T
   all_offered o hears = record o { offered = length o.sent; rung_at = hears }
 
-  abbrev pub taken_more : InLog T → InLog T
-  taken_more i =
-      record {
-        seen = i.seen;
-        taken = suc i.taken;
-        marked = i.marked;
-        hears = i.hears;
-        heard = i.heard;
-        look_ins = i.look_ins;
-      }
+  abbrev pub taken_more : InLog T → ℕ → InLog T
+  taken_more i looks = record i { taken = suc i.taken; released_at = looks }
 
   -- A look for room found every slot taken: the sender may post no more, and nothing else is changed.
   abbrev pub found_full : OutLog T → OutLog T
@@ -66,7 +60,7 @@ module _ {T : Type 0} where
   no_out = record { sent = []; room = 0; offered = 0; looks = 0; rung_at = 0 }
 
   abbrev pub no_in : InLog T
-  no_in = record { seen = []; taken = 0; marked = false; hears = 0; heard = 0; look_ins = 0 }
+  no_in = record { seen = []; taken = 0; marked = false; hears = 0; heard = 0; look_ins = 0; released_at = 0 }
 
   abbrev pub out_of : Lists T → ℕ → OutLog T
   out_of x l = slice_index_or x.outs l no_out

@@ -152,7 +152,8 @@ impl<const CAP: usize> SlotSeat<CAP> {
         ensures known_elsewhere { (l : ℕ) → l ≢ link → known self.new l ≡ known self.old l }
         ensures at_hand { length (collected_from self.old link) < known self.old link → result ≡ Collected.Got }
         ensures no_looking { length (collected_from self.old link) < known self.old link
-            → self.new.lists ≡ with_in self.old.lists link (taken_more (in_of self.old.lists link)) }
+            → self.new.lists ≡ with_in self.old.lists link (taken_more (in_of self.old.lists link)
+            (in_of self.new.lists link).released_at) }
         ensures heard_beside { length (collected_from self.old link) ≡ known self.old link → (m : ℕ)
             → m < links self.old.shape.dims → reader_at self.old.shape.dims m ≡ self.old.rank
             → hop_at self.old.shape.dims m ≡ hop_at self.old.shape.dims link → m ≢ link

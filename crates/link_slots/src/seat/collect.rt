@@ -182,7 +182,8 @@ pub(crate) fn collect_on<const CAP: usize>(
     // A parcel that is at hand is taken without a step of looking.
     ensures at_hand { end.old.waiting ≢ 0 → result ≡ Collected.Got }
     ensures no_looking { end.old.waiting ≢ 0 → own_logs place.new.me.0
-        ≡ with_in (own_logs place.old.me.0) link (taken_more (in_of (own_logs place.old.me.0) link)) }
+        ≡ with_in (own_logs place.old.me.0) link (taken_more (in_of (own_logs place.old.me.0) link)
+        (in_of (own_logs place.new.me.0) link).released_at) }
     // Else the doorbell is heard where a hear is due, and the link is looked in where it is then marked.
     ensures heard { end.old.waiting ≡ 0 → (m : ℕ) → m < links top.now.key.dims
         → reader_at top.now.key.dims m ≡ place.old.me.0.pick → hop_at top.now.key.dims m ≡ hop_at top.now.key.dims link

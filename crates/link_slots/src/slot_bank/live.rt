@@ -6,6 +6,7 @@ ghost use Rattle.link_slots.specs.Shape.{Shape};
 ghost use Rattle.link_slots.specs.Told.{Knowing, IsLawful};
 ghost use Rattle.link_slots.specs.Closed.{LiveLaw};
 ghost use Rattle.link_slots.specs.Offered.{BellLaw, HeardLaw};
+ghost use Rattle.link_slots.specs.Room.{RoomLaw};
 
 use crate::slot_bank::SlotBank;
 use crate::table::plan::Plan;
@@ -43,4 +44,10 @@ pub fn live_law<const CAP: usize>()
 pub fn bell_law<const CAP: usize>()
     ensures unset { BellLaw CAP }
     ensures heard { HeardLaw CAP }
+{}
+
+/// Where the sender of a link has looked for room since the latest release, and a post answered NoRoom, every slot of the link is taken. This
+/// call tells it, and does nothing else.
+pub fn room_law<const CAP: usize>()
+    ensures { RoomLaw CAP }
 {}

@@ -162,7 +162,8 @@ pub(crate) fn receive<const CAP: usize>(
     requires empty { IsBlank parcel.old }
     ensures stays { StaysSeated top.now.key place.old.table_id place.new.table_id place.new.me }
     ensures released { place.new.me.0 ≡ with_logs place.old.me.0
-        (with_in (own_logs place.old.me.0) link (taken_more (in_of (own_logs place.old.me.0) link))) }
+        (with_in (own_logs place.old.me.0) link (taken_more (in_of (own_logs place.old.me.0) link)
+        (in_of (own_logs place.new.me.0) link).released_at)) }
     ensures parcel { get_elem? (in_of (own_logs place.old.me.0) link).seen (in_of (own_logs place.old.me.0) link).taken
         ≡ some parcel.new }
     ensures own { sender_at top.now.key.dims link ≡ place.old.me.0.pick

@@ -1,5 +1,5 @@
 -- What Nothing says of the parcels that a sender rang for.
-use Rattle.std.specs.Prelude.{◌≡◌, ℕ, ◌<◌, ◌≤◌, false, length, slice_index_or}
+use Rattle.std.specs.Prelude.{◌≡◌, ◌⊎◌, ℕ, ◌<◌, ◌≤◌, true, false, length, slice_index_or}
 use Rattle.std.specs.Int.{bit_at}
 use Rattle.item_buffer.specs.Contents.{Contents}
 use Rattle.route_tensor.specs.Link.{links}
@@ -42,3 +42,14 @@ HeardLaw cap = (shape : Shape) (s : State Contents Knowing) (l : ℕ) → (bank 
     → IsHeardOf (out_of (bank.logs (sender_at shape.dims l)) l) (in_of (bank.logs (reader_at shape.dims l)) l)
     → IsSettledFor (in_of (bank.logs (reader_at shape.dims l)) l)
     → (out_of (bank.logs (sender_at shape.dims l)) l).offered ≤ (in_of (bank.logs (reader_at shape.dims l)) l).taken
+
+-- And the step that counts a hear marks the link, unless every offered parcel is seen: from the state s to
+-- s' the link's sender did nothing, and its reader heard once more.
+abbrev pub HearLaw : ℕ → Type 0
+HearLaw cap = (shape : Shape) (s s' : State Contents Knowing) (l : ℕ) → (was : IsLawful cap shape s)
+    → (now : IsLawful cap shape s') → l < links shape.dims
+    → out_of (now.logs (sender_at shape.dims l)) l ≡ out_of (was.logs (sender_at shape.dims l)) l
+    → (in_of (was.logs (reader_at shape.dims l)) l).hears < (in_of (now.logs (reader_at shape.dims l)) l).hears
+    → ((in_of (now.logs (reader_at shape.dims l)) l).marked ≡ true)
+    ⊎ ((out_of (now.logs (sender_at shape.dims l)) l).offered
+    ≤ length (in_of (now.logs (reader_at shape.dims l)) l).seen)

@@ -24,3 +24,13 @@ RoomLaw cap = (shape : Shape) (s : State Contents Knowing) (l : ℕ) → (bank :
     → IsFullFor (out_of (bank.logs (sender_at shape.dims l)) l) (in_of (bank.logs (reader_at shape.dims l)) l)
     → length (out_of (bank.logs (sender_at shape.dims l)) l).sent
     ≡ (in_of (bank.logs (reader_at shape.dims l)) l).taken + shape.slots
+
+-- And the step that counts a look finds all the room that there is: from the state s to s' the link's
+-- reader did nothing, and its sender looked once more.
+abbrev pub LookLaw : ℕ → Type 0
+LookLaw cap = (shape : Shape) (s s' : State Contents Knowing) (l : ℕ) → (was : IsLawful cap shape s)
+    → (now : IsLawful cap shape s') → l < links shape.dims
+    → in_of (now.logs (reader_at shape.dims l)) l ≡ in_of (was.logs (reader_at shape.dims l)) l
+    → (out_of (was.logs (sender_at shape.dims l)) l).looks < (out_of (now.logs (sender_at shape.dims l)) l).looks
+    → (out_of (now.logs (sender_at shape.dims l)) l).room
+    ≡ (in_of (now.logs (reader_at shape.dims l)) l).taken + shape.slots

@@ -5,8 +5,8 @@ ghost use Rattle.atomic_table.specs.Table.{State};
 ghost use Rattle.link_slots.specs.Shape.{Shape};
 ghost use Rattle.link_slots.specs.Told.{Knowing, IsLawful};
 ghost use Rattle.link_slots.specs.Closed.{LiveLaw};
-ghost use Rattle.link_slots.specs.Offered.{BellLaw, HeardLaw};
-ghost use Rattle.link_slots.specs.Room.{RoomLaw};
+ghost use Rattle.link_slots.specs.Offered.{BellLaw, HeardLaw, HearLaw};
+ghost use Rattle.link_slots.specs.Room.{RoomLaw, LookLaw};
 
 use crate::slot_bank::SlotBank;
 use crate::table::plan::Plan;
@@ -40,14 +40,17 @@ pub fn live_law<const CAP: usize>()
 {}
 
 /// Where a link's bit isn't set, as right after a hear of its doorbell, or the reader has heard it since the sender last rang, and a collect
-/// of the link answered Nothing, each parcel that was offered is collected. This call tells it, and does nothing else.
+/// of the link answered Nothing, each parcel that was offered is collected; and a step that counts a hear marks each link for which one rang.
+/// This call tells it, and does nothing else.
 pub fn bell_law<const CAP: usize>()
     ensures unset { BellLaw CAP }
     ensures heard { HeardLaw CAP }
+    ensures step { HearLaw CAP }
 {}
 
-/// Where the sender of a link has looked for room since the latest release, and a post answered NoRoom, every slot of the link is taken. This
-/// call tells it, and does nothing else.
+/// Where the sender of a link has looked for room since the latest release, and a post answered NoRoom, every slot of the link is taken; and
+/// a step that counts a look finds all the room that there is. This call tells it, and does nothing else.
 pub fn room_law<const CAP: usize>()
-    ensures { RoomLaw CAP }
+    ensures full { RoomLaw CAP }
+    ensures step { LookLaw CAP }
 {}

@@ -16,12 +16,15 @@ use crate::table::view::Knows;
 use atomic_table::{Shared, TableRule};
 
 impl<const CAP: usize> SlotBank<CAP> {
-    /// The table that the ranks' seats share. Its type names the rule that each step on it keeps, `Links`: so whatever `rule_law` tells of a
-    /// state that keeps the rule holds of the bank between any two steps.
+    /// The table that the ranks' seats share. Its type names the rule that each step on it keeps, `Links`, and a state that keeps the rule is
+    /// lawful: so the bank is, between any two steps.
     pub fn table(&self) -> &Shared<Slot<CAP>, Knows, Plan, Links<CAP>>
         ensures id { result.now.table_id ≡ self.now.id }
         ensures shape { result.now.key ≡ self.now.shape }
+        ensures lawful { (s : State Contents Knowing)
+            → ⟦<Links<CAP> as TableRule<Slot<CAP>, Knows, Plan>>⟧.holds result.now.key s → IsLawful CAP self.now.shape s }
     {
+        rule_law::<CAP>();
         &self.board.shared
     }
 }

@@ -148,7 +148,6 @@ pub(crate) fn bring_parcel<const CAP: usize>(top: &Top<CAP>, place: &mut Place<C
 }
 
 /// Takes the link's next parcel out of its slot, for the empty one at hand, and releases the slot.
-#[inline(never)]
 pub(crate) fn receive<const CAP: usize>(
     top: &Top<CAP>,
     place: &mut Place<CAP>,

@@ -5,7 +5,8 @@ use Rattle.std.specs.Prelude.{ℕ, suc, ◌+◌, ◌∷◌, ◌++◌, Bool, fals
 -- The sender's side of a link: the parcels that it posted, in order; the numbers below which it may
 -- post; how many parcels had been posted when it last rang; how often it looked for room; and how
 -- often its reader had heard the doorbell when it last rang.
--- Example: with 2 slots, after two posts and a third that found no room, `sent` has two parcels, and `room` is 2.
+-- Example: with 2 slots, after two posts and a third that found no room, `sent` has two parcels, and
+-- `room` is 2.
 pub record OutLog (T : Type 0) : Type 0 where
   pub sent : List T
   pub room : ℕ
@@ -60,7 +61,8 @@ module _ {T : Type 0} where
   no_out = record { sent = []; room = 0; offered = 0; looks = 0; rung_at = 0 }
 
   abbrev pub no_in : InLog T
-  no_in = record { seen = []; taken = 0; marked = false; hears = 0; heard = 0; look_ins = 0; released_at = 0 }
+  no_in =
+      record { seen = []; taken = 0; marked = false; hears = 0; heard = 0; look_ins = 0; released_at = 0 }
 
   abbrev pub out_of : Lists T → ℕ → OutLog T
   out_of x l = slice_index_or x.outs l no_out

@@ -16,13 +16,14 @@ use crate::table::view::Knows;
 use atomic_table::{Shared, TableRule};
 
 impl<const CAP: usize> SlotBank<CAP> {
-    /// The table that the ranks' seats share. Its type names the rule that each step on it keeps, `Links`, and a state that keeps the rule is
-    /// lawful: so the bank is, between any two steps.
+    /// The table that the ranks' seats share. Its type names the rule that each step on it keeps, `Links`, and a state
+    /// that keeps the rule is lawful: so the bank is, between any two steps.
     pub fn table(&self) -> &Shared<Slot<CAP>, Knows, Plan, Links<CAP>>
         ensures id { result.now.table_id ≡ self.now.id }
         ensures shape { result.now.key ≡ self.now.shape }
         ensures lawful { (s : State Contents Knowing)
-            → ⟦<Links<CAP> as TableRule<Slot<CAP>, Knows, Plan>>⟧.holds result.now.key s → IsLawful CAP self.now.shape s }
+            → ⟦<Links<CAP> as TableRule<Slot<CAP>, Knows, Plan>>⟧.holds result.now.key s
+            → IsLawful CAP self.now.shape s }
     {
         rule_law::<CAP>();
         &self.board.shared
@@ -42,17 +43,18 @@ pub fn live_law<const CAP: usize>()
     ensures { LiveLaw CAP }
 {}
 
-/// Where a link's bit isn't set, as right after a hear of its doorbell, or the reader has heard it since the sender last rang, and a collect
-/// of the link answered Nothing, each parcel that was offered is collected; and a step that counts a hear marks each link for which one rang.
-/// This call tells it, and does nothing else.
+/// Where a link's bit isn't set, as right after a hear of its doorbell, or the reader has heard it since the sender
+/// last rang, and a collect of the link answered Nothing, each parcel that was offered is collected; and a step that
+/// counts a hear marks each link for which one rang. This call tells it, and does nothing else.
 pub fn bell_law<const CAP: usize>()
     ensures unset { BellLaw CAP }
     ensures heard { HeardLaw CAP }
     ensures step { HearLaw CAP }
 {}
 
-/// Where the sender of a link has looked for room since the latest release, and a post answered NoRoom, every slot of the link is taken; and
-/// a step that counts a look finds all the room that there is. This call tells it, and does nothing else.
+/// Where the sender of a link has looked for room since the latest release, and a post answered NoRoom, every slot of
+/// the link is taken; and a step that counts a look finds all the room that there is. This call tells it, and does
+/// nothing else.
 pub fn room_law<const CAP: usize>()
     ensures full { RoomLaw CAP }
     ensures step { LookLaw CAP }

@@ -131,6 +131,7 @@ link_begun e rounds through due log none a = record {
   each_round = λ h.
       let all : length (segment e log) + 0 ≡ rounds = subst (λ d. length (segment e log) + cond d 1 0 ≡ rounds) none (a.each_round h) in
       subst (λ t. length (segment e log) + cond (not t) 1 0 ≡ rounds + 1) (sym h) (omega (arith, all));
+  until = λ h. omega (arith, a.until h);
 }
 
 -- without the right to unpop

@@ -49,6 +49,7 @@ link_moved e rounds log p a =
       ended = lasts_more log p ∙ (ap (λ n. n + cond p.last 1 0) now ∙ plus_mark e p.last);
       by_last = λ h. record { front = log; final = p; is = refl; last = h };
       each_round = λ h. omega (arith, size, one);
+      until = λ h. omega (arith, size, one);
     }
 
 pub moved_due : (a b : Bool) → was_moved a b ≡ true → a ≡ true

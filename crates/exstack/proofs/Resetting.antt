@@ -31,6 +31,7 @@ link_reset e rounds through due log t a none =
       each_round = λ h.
           let fresh : segment (e + 1) log ≡ [] = none_after (e + 1) log (a.by_last t) (omega (arith, now)) in
           ap (λ d. length (segment (e + 1) log) + cond d 1 0) none ∙ ap (λ (xs : List Shipped). length xs + 0) fresh;
+      until = λ h. absurd (false≢true h);
     }
 
 module _ (cap n : ℕ) (st : Stack) (sent got : Logs) (s : IsStack cap st) (all : st.stage ≡ AllDone) (a : AgreesIn n st sent got) where

@@ -1,5 +1,5 @@
 -- When a port's lists agree with an exstack.
-use Rattle.std.specs.Prelude.{◌≡◌, ℕ, ◌+◌, ◌*◌, ◌<◌, ◌==◌, Bool, true, false, List, length, Option, Some, None}
+use Rattle.std.specs.Prelude.{◌≡◌, ℕ, ◌+◌, ◌*◌, ◌<◌, ◌≤◌, ◌==◌, Bool, true, false, List, length, Option, Some, None}
 use Rattle.std.specs.Prelude.{if◌then◌else◌}
 use Rattle.bale_items.specs.declared.item.Entry.{Entry}
 use Rattle.item_buffer.specs.Contents.{Shipped}
@@ -36,10 +36,15 @@ cycle_after n AllDone = n
 -- ended: it has ended as many epochs as there were, and the current one exactly where it is through with it.
 -- by_last: where it is through, nothing stands after the parcel marked last.
 -- each_round: else the current segment has one parcel for each round, but for that which is due.
+-- until: where it is through, that segment has one for each round up to that in which it ended, which
+-- is this one or an earlier one.
+-- Example: a link that was closed in cycle 0 has one parcel, the proceed parcel of that cycle, while the
+-- exstack goes on to cycle 3.
 pub record LinkAgrees (epoch rounds : ℕ) (through due : Bool) (log : List Shipped) : Type 0 where
   pub ended : lasts log ≡ lasts_in epoch through
   pub by_last : through ≡ true → EndsLast log
   pub each_round : through ≡ false → length (segment epoch log) + (if due then 1 else 0) ≡ rounds
+  pub until : through ≡ true → length (segment epoch log) ≤ rounds
 
 -- The entry that an unpop would put back at a link, if any, and then the unread ones.
 abbrev pub back_first : Option ℕ → ℕ → In → List Entry

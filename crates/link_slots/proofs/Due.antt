@@ -84,18 +84,18 @@ module _ {T : Type 0} where
           }
 
   -- a parcel taken after that
-  pub looked_then_taken : (noted : ℕ) (i j k : InLog T) → k ≡ taken_more j → LookedFor noted i j → LookedFor noted i k
-  looked_then_taken noted i j k e l = subst (LookedFor noted i) (sym e) (record { hears = l.hears; heard = l.heard; one_bit = l.one_bit; look_ins = l.look_ins; unmarked = l.unmarked })
+  pub looked_then_taken : (noted : ℕ) (i j k : InLog T) (looks : ℕ) → k ≡ taken_more j looks → LookedFor noted i j → LookedFor noted i k
+  looked_then_taken noted i j k looks e l = subst (LookedFor noted i) (sym e) (record { hears = l.hears; heard = l.heard; one_bit = l.one_bit; look_ins = l.look_ins; unmarked = l.unmarked })
 
   -- a look in at a link that isn't marked is none
   pub unmarked_same : (i : InLog T) → i.marked ≡ false → looked_where_marked i.seen i ≡ i
   unmarked_same i e =
       let none : one_where i.marked ≡ 0 = ap one_where e in
       let same : i.look_ins + one_where i.marked ≡ i.look_ins = omega arith in
-      λ k. record { seen = i.seen; taken = i.taken; marked = sym e k; hears = i.hears; heard = i.heard; look_ins = same k }
+      λ k. record { seen = i.seen; taken = i.taken; marked = sym e k; hears = i.hears; heard = i.heard; look_ins = same k; released_at = i.released_at }
 
-  pub marked_once : (seen : List T) (i : InLog T) → i.marked ≡ true → looked_where_marked seen i ≡ record { seen = seen; taken = i.taken; marked = false; hears = i.hears; heard = i.heard; look_ins = suc i.look_ins }
+  pub marked_once : (seen : List T) (i : InLog T) → i.marked ≡ true → looked_where_marked seen i ≡ record { seen = seen; taken = i.taken; marked = false; hears = i.hears; heard = i.heard; look_ins = suc i.look_ins; released_at = i.released_at }
   marked_once seen i e =
       let one : one_where i.marked ≡ 1 = ap one_where e in
       let more : i.look_ins + one_where i.marked ≡ suc i.look_ins = omega arith in
-      λ k. record { seen = seen; taken = i.taken; marked = false; hears = i.hears; heard = i.heard; look_ins = more k }
+      λ k. record { seen = seen; taken = i.taken; marked = false; hears = i.hears; heard = i.heard; look_ins = more k; released_at = i.released_at }

@@ -38,10 +38,10 @@ module _ {T : Type 0} where
 
 module _ {T : Type 0} (Blank : T → Type 0) (Good : ℕ → List T → T → Type 0) (w : Wiring) (wired : IsWired w) (r l : ℕ) (x : Lists T) (ws : List ℕ) (hs : List (Option T)) (c : List (ℕ × T)) where
   abbrev out_at : ℕ → OutLog T
-  out_at n = let o = out_of x l in record { sent = o.sent; room = n; offered = o.offered; looks = o.looks }
+  out_at n = let o = out_of x l in record { sent = o.sent; room = n; offered = o.offered; looks = o.looks; rung_at = o.rung_at }
 
   abbrev in_at : List T → ℕ → InLog T
-  in_at sent n = let i = in_of x l in record { seen = take n sent; taken = i.taken; marked = i.marked; hears = i.hears; heard = i.heard; look_ins = i.look_ins }
+  in_at sent n = let i = in_of x l in record { seen = take n sent; taken = i.taken; marked = i.marked; hears = i.hears; heard = i.heard; look_ins = i.look_ins; released_at = i.released_at }
 
   -- the sender holds all empty slots below n
   pub record RoomTo (i : InLog T) (n : ℕ) (a : Act T) : Type 0 where
@@ -130,7 +130,7 @@ module _ {T : Type 0} (Blank : T → Type 0) (Good : ℕ → List T → T → Ty
           valid = tt;
           deep = refl;
           others = λ _ _ _. refl;
-          link = let i = in_of x l in subst (λ (z : List T). LinkOk Blank Good w l o (record { seen = z; taken = i.taken; marked = i.marked; hears = i.hears; heard = i.heard; look_ins = i.look_ins }) ws hs) (sym same) ok;
+          link = let i = in_of x l in subst (λ (z : List T). LinkOk Blank Good w l o (record { seen = z; taken = i.taken; marked = i.marked; hears = i.hears; heard = i.heard; look_ins = i.look_ins; released_at = i.released_at }) ws hs) (sym same) ok;
           holds = holds_same Blank w r x (with_in x l (in_at o.sent n)) c (λ _. refl) (λ _. refl)
               (all_same (λ m. (in_of (with_in x l (in_at o.sent n)) m).taken) (λ m. (in_of x m).taken) (ap (λ (z : InLog T). z.taken) (in_here (in_at o.sent n) long)) (λ m ne. ap (λ (z : InLog T). z.taken) (in_there (in_at o.sent n) m ne)))
               (all_same (λ m. (in_of (with_in x l (in_at o.sent n)) m).seen) (λ m. (in_of x m).seen) (ap (λ (z : InLog T). z.seen) (in_here (in_at o.sent n) long) ∙ same) (λ m ne. ap (λ (z : InLog T). z.seen) (in_there (in_at o.sent n) m ne))) h;
@@ -158,14 +158,14 @@ module _ {T : Type 0} (Blank : T → Type 0) (Good : ℕ → List T → T → Ty
       (ap (λ (z : InLog T). z.taken) (in_here (in_at o.sent n) long) ∙ sym (ap (λ (z : InLog T). z.taken) (in_here (in_at o.sent N) long))) refl
       (subst (λ (z : InLog T). z.taken ≤ length z.seen) (sym (in_here (in_at o.sent N) long)) low)
       (λ j z q. subst (λ (y : ℕ). z.0 ≢ slot_of w l y) (sym known1) (new_slot hs1 c1 k p t.away home j z q)) t.holds in
-      let linked : LinkOk Blank Good w l o (let i = in_at o.sent N in record { seen = i.seen ++ p ∷ []; taken = i.taken; marked = i.marked; hears = i.hears; heard = i.heard; look_ins = i.look_ins }) ws (set hs1 (slot_of w l (length (take N o.sent))) none) =
+      let linked : LinkOk Blank Good w l o (let i = in_at o.sent N in record { seen = i.seen ++ p ∷ []; taken = i.taken; marked = i.marked; hears = i.hears; heard = i.heard; look_ins = i.look_ins; released_at = i.released_at }) ws (set hs1 (slot_of w l (length (take N o.sent))) none) =
       parcel_seen Blank Good w wired l o (in_at o.sent N) ws hs1 p (t.deep ∙ deep) inside t.link (ap (get_elem? o.sent) len ∙ posted.1) in (
         chain a (takes k p),
         record {
           valid = (t.valid, home);
           deep = length-set hs1 k none ∙ t.deep;
           others = λ q z ne. set_else hs1 k (slot_of w q z) none (λ s. ne (same_link w wired.some_slots q l z N s)) ∙ t.others q z ne;
-          link = subst (λ (z : List T × ℕ). LinkOk Blank Good w l o (let i = in_of x l in record { seen = z.0; taken = i.taken; marked = i.marked; hears = i.hears; heard = i.heard; look_ins = i.look_ins }) ws (set hs1 (slot_of w l z.1) none)) (λ j. (longer j, len j)) linked;
+          link = subst (λ (z : List T × ℕ). LinkOk Blank Good w l o (let i = in_of x l in record { seen = z.0; taken = i.taken; marked = i.marked; hears = i.hears; heard = i.heard; look_ins = i.look_ins; released_at = i.released_at }) ws (set hs1 (slot_of w l z.1) none)) (λ j. (longer j, len j)) linked;
           holds = subst (λ (y : ℕ). Holds Blank w r x2 ((slot_of w l y, p) ∷ c1)) known1 held;
           away = away_more hs1 c1 k p t.away home;
         },

@@ -7,7 +7,7 @@ use Rattle.std.specs.Int.Bits.{bit_or}
 use mathlib.Core.Logic.{dite}
 use native.Mathlib.Decide.{ℕ_discrete}
 use Rattle.atomic_table.specs.Table.{State, keeps, Allows}
-use Rattle.link_slots.specs.Logs.{OutLog, InLog, Lists, no_in, out_of, in_of, with_out, got, sent_of, got_of}
+use Rattle.link_slots.specs.Logs.{OutLog, InLog, Lists, no_in, out_of, in_of, with_out, got, sent_of, got_of, all_offered}
 use Rattle.link_slots.specs.View.{View, own_logs, with_logs, Speaks}
 use Rattle.link_slots.specs.Wiring.{Wiring, IsWired, posted_word, released_word, bell_word}
 use Rattle.link_slots.specs.Link.{LinkOk, BellOk}
@@ -18,7 +18,7 @@ use Rattle.link_slots.proofs.OneLink.{link_kept}
 use Rattle.link_slots.proofs.Bells.{bit_stays, bit_comes, bell_kept, bell_rung, bell_heard}
 use Rattle.link_slots.proofs.Holding.{holds_same}
 use Rattle.link_slots.proofs.OneRank.{put, put_here, put_else, rank_step, sender_step, own_lens, speaker}
-use Rattle.link_slots.proofs.Moves.{own_with, out_same, sent_kept}
+use Rattle.link_slots.proofs.Moves.{own_with, out_here, out_same, sent_kept}
 
 module _ {A : Type 0} where
   pub length-map_from : (f : ℕ → A → A) (n : ℕ) (l : List A) → length (map_from f n l) ≡ length l
@@ -84,7 +84,7 @@ module _ {D T : Type 0} (Blank : T → Type 0) (Good : ℕ → List T → T → 
       let word : k < length s.words = (let e = ok.wide in let f = wired.rung l inside in omega arith) in
       let words : List ℕ = set s.words k (bit_or (get_or s.words k 0) (2 ^ w.bit l)) in
       let here : get_or words k 0 ≡ bit_or (get_or s.words k 0) (2 ^ w.bit l) = get_or-set_same s.words k _ 0 word in
-      let o' : OutLog T = record { sent = o.sent; room = o.room; offered = length o.sent; looks = o.looks } in
+      let o' : OutLog T = all_offered o i.hears in
       let x' : Lists T = with_out x l o' in
       let fits_in : 2 ^ w.bit l < 2 ^ w.width (w.bell l) = pow-lt (wired.bit_fits l inside) in
       let held' : Holds Blank w v.pick x' c = holds_same Blank w v.pick x x' c
@@ -102,10 +102,14 @@ module _ {D T : Type 0} (Blank : T → Type 0) (Good : ℕ → List T → T → 
                   (λ ne. subst (λ (z : ℕ). z < 2 ^ w.width b) (sym (get_or-set_other s.words k (16 * (2 * w.links + b)) _ 0 (λ e. ne (omega arith)))) (ok.no_other_bits b h));
             })
             (λ _ _ _. refl)
-            (λ link. link_kept Blank Good w wired l o i s.words words s.homes s.homes (length o.sent) o.looks i.hears i.heard i.look_ins i.marked
+            (λ link. link_kept Blank Good w wired l o i s.words words s.homes s.homes (length o.sent) o.looks i.hears i.hears i.heard i.look_ins i.released_at i.marked
             (get_or-set_other s.words k (posted_word l) _ 0 (λ e. omega arith)) (get_or-set_other s.words k (released_word l) _ 0 (λ e. omega arith)) (λ _. refl) link)
-            (λ bell. bell_rung w l o o' i s.words words refl refl (ap (λ (z : ℕ). bit_at z (w.bit l)) here ∙ bit_comes (get_or s.words k 0) (w.bit l)) bell),
-        (refl, subst (λ (z : Lists T). Holds Blank w v.pick z c) (sym (own_with v x' speaks)) held'),
+            (λ bell. bell_rung w l o o' i s.words words refl refl refl refl refl (ap (λ (z : ℕ). bit_at z (w.bit l)) here ∙ bit_comes (get_or s.words k 0) (w.bit l)) bell),
+        (
+          let there : out_of (own_logs (with_logs v x')) l ≡ o' = ap (λ (z : Lists T). out_of z l) (own_with v x' speaks) ∙ out_here x l o' long in
+              (λ j. (with_logs v (with_out x l (all_offered o ((sym there) j).rung_at)), c)),
+          subst (λ (z : Lists T). Holds Blank w v.pick z c) (sym (own_with v x' speaks)) held',
+        ),
       )
 
   -- the doorbell b has the bits of links into the seat's rank, of which l is one
@@ -143,16 +147,16 @@ module _ {D T : Type 0} (Blank : T → Type 0) (Good : ℕ → List T → T → 
             let p = low (posted_word m) (omega arith) in let q = low (released_word m) (omega arith) in
             ⊎_elim
             (λ t. subst (λ (z : OutLog T × InLog T). LinkOk Blank Good w m z.0 z.1 words s.homes) (λ j. (sym (outs (w.from m) m) j, sym t.1 j))
-            (let e = heard_by (bit_at n (w.bit m)) d in link_kept Blank Good w wired m a d s.words words s.homes s.homes a.offered a.looks e.hears e.heard e.look_ins e.marked p q (λ _. refl) (ok.each_link m h)))
+            (let e = heard_by (bit_at n (w.bit m)) d in link_kept Blank Good w wired m a d s.words words s.homes s.homes a.offered a.looks a.rung_at e.hears e.heard e.look_ins e.released_at e.marked p q (λ _. refl) (ok.each_link m h)))
             (λ t. subst (λ (z : OutLog T × InLog T). LinkOk Blank Good w m z.0 z.1 words s.homes) (λ j. (sym (outs (w.from m) m) j, sym t.1 j))
-            (link_kept Blank Good w wired m a d s.words words s.homes s.homes a.offered a.looks d.hears d.heard d.look_ins d.marked p q (λ _. refl) (ok.each_link m h)))
+            (link_kept Blank Good w wired m a d s.words words s.homes s.homes a.offered a.looks a.rung_at d.hears d.heard d.look_ins d.released_at d.marked p q (λ _. refl) (ok.each_link m h)))
             (ins m h))
             (λ m h. let a = out_of (ok.logs (w.from m)) m in let d = in_of (ok.logs (w.to m)) m in
             ⊎_elim
             (λ t. subst (λ (z : OutLog T × InLog T). BellOk w m z.0 z.1 words) (λ j. (sym (outs (w.from m) m) j, (ap (λ (z : ℕ). heard_by (bit_at (get_or s.words (16 * (2 * w.links + z)) 0) (w.bit m)) d) t.0 ∙ sym t.1) j))
             (bell_heard w m a d s.words words (ok.each_bell m h)))
             (λ t. subst (λ (z : OutLog T × InLog T). BellOk w m z.0 z.1 words) (λ j. (sym (outs (w.from m) m) j, sym t.1 j))
-            (bell_kept w m a a d d s.words words refl (omega arith) refl refl refl (omega arith)
+            (bell_kept w m a a d d s.words words refl refl refl refl (omega arith) refl refl refl refl refl refl (omega arith)
             (λ e. ap (λ (z : ℕ). bit_at z (w.bit m)) (get_or-set_other s.words k (bell_word w m) 0 0 (λ z. t.0 (omega arith))) ∙ e) (ok.each_bell m h)))
             (ins m h))
             (λ d h. dite (ℕ_discrete d b)

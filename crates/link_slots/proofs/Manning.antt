@@ -35,22 +35,22 @@ module _ (shape : Shape) (m m' : Me Contents Knowing) (is : IsManned shape m) wh
   manned_brought c e h = subst (IsManned shape) (sym e) (record { of = is.of; speaks = is.speaks; holds = subst (Holds IsBlank (wiring shape) m.0.pick (own_logs m.0)) (ap (λ (z : Me Contents Knowing). z.1) e) h })
 
 -- what was collected grows, and the relay law stays
-pub law_taken : (dims : List ℕ) (r l : ℕ) (x : Lists Contents) → IsGrid dims → l < length x.ins → (in_of x l).taken < length (in_of x l).seen
-    → KeepsLaw dims r (sent_of x) (got_of x) → KeepsLaw dims r (sent_of x) (got_of (with_in x l (taken_more (in_of x l))))
-law_taken dims r l x grid inside some_left law =
+pub law_taken : (dims : List ℕ) (r l : ℕ) (x : Lists Contents) (looks : ℕ) → IsGrid dims → l < length x.ins → (in_of x l).taken < length (in_of x l).seen
+    → KeepsLaw dims r (sent_of x) (got_of x) → KeepsLaw dims r (sent_of x) (got_of (with_in x l (taken_more (in_of x l) looks)))
+law_taken dims r l x looks grid inside some_left law =
     let i : InLog Contents = in_of x l in
     let p = at_there i.seen i.taken some_left in
-    let more : got (taken_more i) ≡ got i ++ p.0 ∷ [] = take_next i.seen i.taken p.0 p.1 in
-    law_got_more dims r (shipped_all (sent_of x)) (shipped_all (got_of x)) (shipped_all (got_of (with_in x l (taken_more i)))) grid (λ m. grown m i p.0 more) law
+    let more : got (taken_more i looks) ≡ got i ++ p.0 ∷ [] = take_next i.seen i.taken p.0 p.1 in
+    law_got_more dims r (shipped_all (sent_of x)) (shipped_all (got_of x)) (shipped_all (got_of (with_in x l (taken_more i looks)))) grid (λ m. grown m i p.0 more) law
   where
     one : (m : ℕ) → Begins (map shipped (got_of x m)) (map shipped (got_of x m))
     one m = begins_refl (map shipped (got_of x m))
 
-    grown : (m : ℕ) (i : InLog Contents) (p : Contents) → got (taken_more (in_of x l)) ≡ got (in_of x l) ++ p ∷ [] → Begins (map shipped (got_of x m)) (map shipped (got_of (with_in x l (taken_more (in_of x l))) m))
+    grown : (m : ℕ) (i : InLog Contents) (p : Contents) → got (taken_more (in_of x l) looks) ≡ got (in_of x l) ++ p ∷ [] → Begins (map shipped (got_of x m)) (map shipped (got_of (with_in x l (taken_more (in_of x l) looks)) m))
     grown m i p more = dite (ℕ_discrete m l)
-        (λ e. subst (λ (z : ℕ). Begins (map shipped (got_of x z)) (map shipped (got_of (with_in x l (taken_more (in_of x l))) z))) (sym e)
-        (record { rest = shipped p ∷ []; is = ap (λ (z : InLog Contents). map shipped (got z)) (in_here x l (taken_more (in_of x l)) inside) ∙ ap (map shipped) more ∙ map-append shipped (got (in_of x l)) (p ∷ []) }))
-        (λ ne. subst (λ (z : InLog Contents). Begins (map shipped (got_of x m)) (map shipped (got z))) (sym (in_there x l (taken_more (in_of x l)) m ne)) (one m))
+        (λ e. subst (λ (z : ℕ). Begins (map shipped (got_of x z)) (map shipped (got_of (with_in x l (taken_more (in_of x l) looks)) z))) (sym e)
+        (record { rest = shipped p ∷ []; is = ap (λ (z : InLog Contents). map shipped (got z)) (in_here x l (taken_more (in_of x l) looks) inside) ∙ ap (map shipped) more ∙ map-append shipped (got (in_of x l)) (p ∷ []) }))
+        (λ ne. subst (λ (z : InLog Contents). Begins (map shipped (got_of x m)) (map shipped (got z))) (sym (in_there x l (taken_more (in_of x l) looks) m ne)) (one m))
 
 -- what the seat's own lists are after a change of one link
 module _ (v v' : Knowing) (speaks : Speaks v) (l : ℕ) where

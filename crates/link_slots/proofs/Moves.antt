@@ -11,7 +11,7 @@ use lib.ListN.{get_elem?}
 use Rattle.port_bank.specs.Flow.{Begins}
 use Rattle.atomic_table.specs.Table.{State, Act, gives, carried_after, homes_after, Allows}
 use Rattle.atomic_table.proofs.Lists.{set_again, set_else}
-use Rattle.link_slots.specs.Logs.{OutLog, InLog, Lists, no_out, no_in, out_of, in_of, with_out, with_in, got, sent_of, got_of}
+use Rattle.link_slots.specs.Logs.{OutLog, InLog, Lists, no_out, no_in, out_of, in_of, with_out, with_in, got, sent_of, got_of, taken_more}
 use Rattle.link_slots.specs.View.{View, own_logs, logs_or, with_logs, Speaks}
 use Rattle.link_slots.specs.Wiring.{Wiring, IsWired, slot_of, posted_word, released_word, bell_word}
 use Rattle.link_slots.specs.Link.{LinkOk}
@@ -21,7 +21,7 @@ use Rattle.link_slots.specs.Plays.{beyond, found_room, posted, looked_in, releas
 use Rattle.link_slots.proofs.Lookups.{at_there}
 use Rattle.link_slots.proofs.Ring.{same_link}
 use Rattle.link_slots.proofs.OneLink.{link_kept, parcel_posted, parcel_released}
-use Rattle.link_slots.proofs.Bells.{bell_kept, bell_looked}
+use Rattle.link_slots.proofs.Bells.{bell_kept, bell_roomed, bell_released, bell_looked}
 use Rattle.link_slots.proofs.Carried.{fetch, fetched, without}
 use Rattle.link_slots.proofs.Holding.{holds_same, holds_in_front, holds_posted, holds_released}
 use Rattle.link_slots.proofs.Growing.{RoomTo, SeenTo, room_to, seen_to}
@@ -109,17 +109,17 @@ module _ {D T : Type 0} (Blank : T → Type 0) (Good : ℕ → List T → T → 
       let taken = room_to Blank Good w wired v.pick l x s.words s.homes c i (N - o.room) N ok.deep inside mine long link held (own_away Blank Good Law shape w wired s ok id v c at speaks held) (omega arith) (omega arith) in
       let a : Act T = taken.0 in let t : RoomTo Blank Good w wired v.pick l x s.words s.homes c i N a = taken.1 in
       let homes : List (maybe.Option T) = homes_after s.homes c a in
-      let o' : OutLog T = record { sent = o.sent; room = length o.sent + (w.slots - b); offered = o.offered; looks = suc o.looks } in
-      let link' : LinkOk Blank Good w l o' i s.words homes = subst (λ (z : ℕ). LinkOk Blank Good w l (record { sent = o.sent; room = z; offered = o.offered; looks = suc o.looks }) i s.words homes) room_is
-      (link_kept Blank Good w wired l (record { sent = o.sent; room = N; offered = o.offered; looks = o.looks }) i s.words s.words homes homes o.offered (suc o.looks) i.hears i.heard i.look_ins i.marked refl refl (λ _. refl) t.link) in (
+      let o' : OutLog T = record { sent = o.sent; room = length o.sent + (w.slots - b); offered = o.offered; looks = suc o.looks; rung_at = o.rung_at } in
+      let link' : LinkOk Blank Good w l o' i s.words homes = subst (λ (z : ℕ). LinkOk Blank Good w l (record { sent = o.sent; room = z; offered = o.offered; looks = suc o.looks; rung_at = o.rung_at }) i s.words homes) room_is
+      (link_kept Blank Good w wired l (record { sent = o.sent; room = N; offered = o.offered; looks = o.looks; rung_at = o.rung_at }) i s.words s.words homes homes o.offered (suc o.looks) o.rung_at i.hears i.heard i.look_ins i.released_at i.marked refl refl (λ _. refl) t.link) in (
         with_logs v (with_out x l o'),
         a,
         t.valid,
         loaded s (released_word l) homes (set s.views id (with_logs v (with_out x l o')))
             (sender_step Blank Good Law shape w wired s ok id v l o' s.words homes at speaks inside mine refl t.deep
             (λ law. subst (λ (z : ℕ → List T). Law v.pick z (got_of x)) (sym (sent_kept x l o' long refl)) law)
-            (bells_kept w l s.words s.words ok.no_other_bits inside (λ _ _ _. refl)) t.others (λ _. link') (λ bell. bell_kept w l o o' i i s.words s.words refl (omega arith) refl refl refl (omega arith) (λ z. z) bell)),
-        ((let g : b ≤ w.slots = omega arith in g), (let g : b ≤ length o.sent = omega arith in g), refl, holds_own v (with_out x l o') (carried_after c a) speaks (holds_out v.pick l x (record { sent = o.sent; room = N; offered = o.offered; looks = o.looks }) o' (carried_after c a) long refl room_is t.holds)),
+            (bells_kept w l s.words s.words ok.no_other_bits inside (λ _ _ _. refl)) t.others (λ _. link') (λ bell. bell_roomed w l o o' i s.words refl refl (omega arith) (omega arith) (omega arith) bell)),
+        ((let g : b ≤ w.slots = omega arith in g), (let g : b ≤ length o.sent = omega arith in g), refl, holds_own v (with_out x l o') (carried_after c a) speaks (holds_out v.pick l x (record { sent = o.sent; room = N; offered = o.offered; looks = o.looks; rung_at = o.rung_at }) o' (carried_after c a) long refl room_is t.holds)),
       )
 
   -- what was posted, as what the reader saw and the rest
@@ -141,16 +141,16 @@ module _ {D T : Type 0} (Blank : T → Type 0) (Good : ℕ → List T → T → 
       let taken = seen_to Blank Good w wired v.pick l x s.words s.homes c o (N - length i.seen) N ok.deep inside mine long link held (own_away Blank Good Law shape w wired s ok id v c at speaks held) (omega arith) (omega arith) in
       let a : Act T = taken.0 in let t : SeenTo Blank Good w wired v.pick l x s.words s.homes c o N a = taken.1 in
       let homes : List (maybe.Option T) = homes_after s.homes c a in
-      let i' : InLog T = record { seen = o.sent; taken = i.taken; marked = false; hears = i.hears; heard = i.heard; look_ins = suc i.look_ins } in
-      let iN : InLog T = record { seen = take N o.sent; taken = i.taken; marked = i.marked; hears = i.hears; heard = i.heard; look_ins = i.look_ins } in
-      let link' : LinkOk Blank Good w l o i' s.words homes = subst (λ (z : List T). LinkOk Blank Good w l o (record { seen = z; taken = i.taken; marked = false; hears = i.hears; heard = i.heard; look_ins = suc i.look_ins }) s.words homes) all
-      (link_kept Blank Good w wired l o iN s.words s.words homes homes o.offered o.looks i.hears i.heard (suc i.look_ins) false refl refl (λ _. refl) t.link) in
+      let i' : InLog T = record { seen = o.sent; taken = i.taken; marked = false; hears = i.hears; heard = i.heard; look_ins = suc i.look_ins; released_at = i.released_at } in
+      let iN : InLog T = record { seen = take N o.sent; taken = i.taken; marked = i.marked; hears = i.hears; heard = i.heard; look_ins = i.look_ins; released_at = i.released_at } in
+      let link' : LinkOk Blank Good w l o i' s.words homes = subst (λ (z : List T). LinkOk Blank Good w l o (record { seen = z; taken = i.taken; marked = false; hears = i.hears; heard = i.heard; look_ins = suc i.look_ins; released_at = i.released_at }) s.words homes) all
+      (link_kept Blank Good w wired l o iN s.words s.words homes homes o.offered o.looks o.rung_at i.hears i.heard (suc i.look_ins) i.released_at false refl refl (λ _. refl) t.link) in
       let w' : View D T = with_logs v (with_in x l i') in
       let there : in_of (own_logs w') l ≡ i' = ap (λ (z : Lists T). in_of z l) (own_with v (with_in x l i') speaks) ∙ in_here x l i' long in
       let got_is : got i' ≡ got i = sym (ap (take i.taken) (rest_seen i o link.seen_is)) ∙ take-append-le i.taken i.seen (drop (length i.seen) o.sent) h1 in
       let P : InLog T → Type 0 = λ z.
       (length z.seen ≡ length i.seen + b) × (take (length i.seen) z.seen ≡ i.seen) × ((k : ℕ) (p : T) → get_elem? z.seen k ≡ some p → Good l (take k z.seen) p)
-      × (w' ≡ with_logs v (with_in x l (record { seen = z.seen; taken = i.taken; marked = false; hears = i.hears; heard = i.heard; look_ins = suc i.look_ins }))) in
+      × (w' ≡ with_logs v (with_in x l (record { seen = z.seen; taken = i.taken; marked = false; hears = i.hears; heard = i.heard; look_ins = suc i.look_ins; released_at = i.released_at }))) in
       let facts : P (in_of (own_logs w') l) = subst P (sym there) ((let g : length o.sent ≡ length i.seen + b = omega arith in g), sym link.seen_is, link.good, refl) in (
         w',
         a,
@@ -158,7 +158,7 @@ module _ {D T : Type 0} (Blank : T → Type 0) (Good : ℕ → List T → T → 
         loaded s (posted_word l) homes (set s.views id w')
             (reader_step Blank Good Law shape w wired s ok id v l i' s.words homes at speaks inside mine refl t.deep
             (λ law. subst (λ (z : ℕ → List T). Law v.pick (sent_of x) z) (sym (got_kept x l i' long got_is)) law)
-            (bells_kept w l s.words s.words ok.no_other_bits inside (λ _ _ _. refl)) t.others (λ _. link') (λ bell. bell_looked w l o i i' s.words marked refl refl refl (omega arith) bell)),
+            (bells_kept w l s.words s.words ok.no_other_bits inside (λ _ _ _. refl)) t.others (λ _. link') (λ bell. bell_looked w l o i i' s.words marked refl refl refl refl refl refl (omega arith) bell)),
         (
           (let g : b ≤ w.slots = omega arith in g),
           facts.0,
@@ -178,7 +178,7 @@ module _ {D T : Type 0} (Blank : T → Type 0) (Good : ℕ → List T → T → 
 
   pub post : (id l : ℕ) (v : View D T) (c : List (ℕ × T)) (b p : T) → Speaks v → l < w.links → w.from l ≡ v.pick → length (out_of (own_logs v) l).sent < (out_of (own_logs v) l).room
       → Good l (out_of (own_logs v) l).sent p
-      → (Law v.pick (sent_of (own_logs v)) (got_of (own_logs v)) → Law v.pick (sent_of (with_out (own_logs v) l (let o = out_of (own_logs v) l in record { sent = o.sent ++ p ∷ []; room = o.room; offered = o.offered; looks = o.looks }))) (got_of (own_logs v)))
+      → (Law v.pick (sent_of (own_logs v)) (got_of (own_logs v)) → Law v.pick (sent_of (with_out (own_logs v) l (let o = out_of (own_logs v) l in record { sent = o.sent ++ p ∷ []; room = o.room; offered = o.offered; looks = o.looks; rung_at = o.rung_at }))) (got_of (own_logs v)))
       → Holds Blank w v.pick (own_logs v) ((slot_of w l (length (out_of (own_logs v) l).sent), b) ∷ c)
       → Allows Rule (w.slots * w.links) id (v, (slot_of w l (length (out_of (own_logs v) l).sent), p) ∷ c) (posted_word l) (λ n. (n + 1) % 2 ^ 64)
       (λ n m'. posted Blank Good w l (v, (slot_of w l (length (out_of (own_logs v) l).sent), p) ∷ c) m')
@@ -191,7 +191,7 @@ module _ {D T : Type 0} (Blank : T → Type 0) (Good : ℕ → List T → T → 
       let k : ℕ = slot_of w l (length o.sent) in
       let homes : List (maybe.Option T) = set s.homes k (some p) in
       let words : List ℕ = set s.words (posted_word l) ((get_or s.words (posted_word l) 0 + 1) % 2 ^ 64) in
-      let o' : OutLog T = record { sent = o.sent ++ p ∷ []; room = o.room; offered = o.offered; looks = o.looks } in
+      let o' : OutLog T = record { sent = o.sent ++ p ∷ []; room = o.room; offered = o.offered; looks = o.looks; rung_at = o.rung_at } in
       let x' : Lists T = with_out x l o' in
       let longer : length o'.sent ≡ length o.sent + 1 = length-append o.sent (p ∷ []) in
       let here = out_here x l o' long in
@@ -204,12 +204,12 @@ module _ {D T : Type 0} (Blank : T → Type 0) (Good : ℕ → List T → T → 
         sender_step Blank Good Law shape w wired s ok id v l o' words homes at speaks inside mine (length-set s.words (posted_word l) _) (length-set s.homes k (some p)) law
             (bells_kept w l s.words words ok.no_other_bits inside (λ m a q. get_or-set_other s.words (posted_word l) m _ 0 a)) (λ m n ne. set_else s.homes k (slot_of w m n) (some p) (λ e. ne (same_link w wired.some_slots m l n (length o.sent) e)))
             (λ ok_l. parcel_posted Blank Good w wired l o i s.words s.homes p ok.deep inside word ok_l some_left good)
-            (λ bell. bell_kept w l o o' i i s.words words refl (omega arith) refl refl refl (omega arith) (λ t. ap (λ (z : ℕ). bit_at z (w.bit l)) (get_or-set_other s.words (posted_word l) (bell_word w l) _ 0 (λ e. omega arith)) ∙ t) bell),
+            (λ bell. bell_kept w l o o' i i s.words words refl refl refl refl (omega arith) refl refl refl refl refl refl (omega arith) (λ t. ap (λ (z : ℕ). bit_at z (w.bit l)) (get_or-set_other s.words (posted_word l) (bell_word w l) _ 0 (λ e. omega arith)) ∙ t) bell),
         (refl, holds_own v x' c speaks held'),
       )
 
   pub release : (id l : ℕ) (v : View D T) (c : List (ℕ × T)) (b p : T) → Speaks v → l < w.links → w.to l ≡ v.pick → (in_of (own_logs v) l).taken < length (in_of (own_logs v) l).seen → Blank b
-      → (l < length (own_logs v).ins → Law v.pick (sent_of (own_logs v)) (got_of (own_logs v)) → Law v.pick (sent_of (own_logs v)) (got_of (with_in (own_logs v) l (let i = in_of (own_logs v) l in record { seen = i.seen; taken = suc i.taken; marked = i.marked; hears = i.hears; heard = i.heard; look_ins = i.look_ins }))))
+      → ((looks : ℕ) → l < length (own_logs v).ins → Law v.pick (sent_of (own_logs v)) (got_of (own_logs v)) → Law v.pick (sent_of (own_logs v)) (got_of (with_in (own_logs v) l (taken_more (in_of (own_logs v) l) looks))))
       → Holds Blank w v.pick (own_logs v) ((slot_of w l (in_of (own_logs v) l).taken, p) ∷ c)
       → Allows Rule (w.slots * w.links) id (v, (slot_of w l (in_of (own_logs v) l).taken, b) ∷ c) (released_word l) (λ n. (n + 1) % 2 ^ 64)
       (λ n m'. released Blank Good w l (v, (slot_of w l (in_of (own_logs v) l).taken, b) ∷ c) m')
@@ -222,7 +222,7 @@ module _ {D T : Type 0} (Blank : T → Type 0) (Good : ℕ → List T → T → 
       let k : ℕ = slot_of w l i.taken in
       let homes : List (maybe.Option T) = set s.homes k (some b) in
       let words : List ℕ = set s.words (released_word l) ((get_or s.words (released_word l) 0 + 1) % 2 ^ 64) in
-      let i' : InLog T = record { seen = i.seen; taken = suc i.taken; marked = i.marked; hears = i.hears; heard = i.heard; look_ins = i.look_ins } in
+      let i' : InLog T = taken_more i o.looks in
       let x' : Lists T = with_in x l i' in
       let here = in_here x l i' long in
       let held' : Holds Blank w v.pick x' c = holds_released Blank w v.pick x x' c l p inside (record { outs = λ _ _. refl; ins = λ m ne. in_there x l i' m ne })
@@ -231,11 +231,15 @@ module _ {D T : Type 0} (Blank : T → Type 0) (Good : ℕ → List T → T → 
         with_logs v x',
         gives,
         tt,
-        reader_step Blank Good Law shape w wired s ok id v l i' words homes at speaks inside mine (length-set s.words (released_word l) _) (length-set s.homes k (some b)) (law long)
+        reader_step Blank Good Law shape w wired s ok id v l i' words homes at speaks inside mine (length-set s.words (released_word l) _) (length-set s.homes k (some b)) (law o.looks long)
             (bells_kept w l s.words words ok.no_other_bits inside (λ m a q. get_or-set_other s.words (released_word l) m _ 0 q)) (λ m n ne. set_else s.homes k (slot_of w m n) (some b) (λ e. ne (same_link w wired.some_slots m l n i.taken e)))
-            (λ ok_l. parcel_released Blank Good w wired l o i s.words s.homes b ok.deep inside word ok_l some_left blank)
-            (λ bell. bell_kept w l o o i i' s.words words refl (omega arith) refl refl refl (omega arith) (λ t. ap (λ (z : ℕ). bit_at z (w.bit l)) (get_or-set_other s.words (released_word l) (bell_word w l) _ 0 (λ e. omega arith)) ∙ t) bell),
-        (refl, holds_own v x' c speaks held'),
+            (λ ok_l. parcel_released Blank Good w wired l o i s.words s.homes b o.looks ok.deep inside word ok_l some_left blank)
+            (λ bell. bell_released w l o i i' s.words words refl refl refl refl refl refl (λ t. ap (λ (z : ℕ). bit_at z (w.bit l)) (get_or-set_other s.words (released_word l) (bell_word w l) _ 0 (λ e. omega arith)) ∙ t) bell),
+        (
+          let there : in_of (own_logs (with_logs v x')) l ≡ i' = ap (λ (z : Lists T). in_of z l) (own_with v x' speaks) ∙ here in
+              (λ j. (with_logs v (with_in x l (taken_more i ((sym there) j).released_at)), c)),
+          holds_own v x' c speaks held',
+        ),
       )
 
   -- a seat lays down all that it holds and takes it up again, and nothing is changed but the order in its hands

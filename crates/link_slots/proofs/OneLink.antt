@@ -22,11 +22,11 @@ module _ {T : Type 0} (Blank : T → Type 0) (Good : ℕ → List T → T → Ty
   slot = slot_of w
 
   -- a link's facts speak of its own words and slots alone, and not of what is rung and heard
-  pub link_kept : (l : ℕ) (o : OutLog T) (i : InLog T) (ws ws' : List ℕ) (hs hs' : List (Option T)) (offered looks hears heard look_ins : ℕ) (marked : Bool)
+  pub link_kept : (l : ℕ) (o : OutLog T) (i : InLog T) (ws ws' : List ℕ) (hs hs' : List (Option T)) (offered looks rung_at hears heard look_ins released_at : ℕ) (marked : Bool)
       → get_or ws' (posted_word l) 0 ≡ get_or ws (posted_word l) 0 → get_or ws' (released_word l) 0 ≡ get_or ws (released_word l) 0
       → ((n : ℕ) → get_elem? hs' (slot l n) ≡ get_elem? hs (slot l n)) → Ok l o i ws hs
-      → Ok l (record { sent = o.sent; room = o.room; offered = offered; looks = looks }) (record { seen = i.seen; taken = i.taken; marked = marked; hears = hears; heard = heard; look_ins = look_ins }) ws' hs'
-  link_kept l o i ws ws' hs hs' offered looks hears heard look_ins marked p q same ok = record {
+      → Ok l (record { sent = o.sent; room = o.room; offered = offered; looks = looks; rung_at = rung_at }) (record { seen = i.seen; taken = i.taken; marked = marked; hears = hears; heard = heard; look_ins = look_ins; released_at = released_at }) ws' hs'
+  link_kept l o i ws ws' hs hs' offered looks rung_at hears heard look_ins released_at marked p q same ok = record {
     posted = p ∙ ok.posted;
     released = q ∙ ok.released;
     taken_seen = ok.taken_seen;
@@ -121,10 +121,10 @@ module _ {T : Type 0} (Blank : T → Type 0) (Good : ℕ → List T → T → Ty
       }
 
   -- the reader gives the slot of the parcel that it takes back, with an empty one
-  pub parcel_released : (l : ℕ) (o : OutLog T) (i : InLog T) (ws : List ℕ) (hs : List (Option T)) (b : T) → length hs ≡ w.slots * w.links → l < w.links → released_word l < length ws → Ok l o i ws hs
+  pub parcel_released : (l : ℕ) (o : OutLog T) (i : InLog T) (ws : List ℕ) (hs : List (Option T)) (b : T) (looks : ℕ) → length hs ≡ w.slots * w.links → l < w.links → released_word l < length ws → Ok l o i ws hs
       → i.taken < length i.seen → Blank b
-      → Ok l o (record i { taken = suc i.taken }) (set ws (released_word l) ((get_or ws (released_word l) 0 + 1) % 2 ^ 64)) (set hs (slot l i.taken) (some b))
-  parcel_released l o i ws hs b deep inside word ok some_left is_blank =
+      → Ok l o (record i { taken = suc i.taken; released_at = looks }) (set ws (released_word l) ((get_or ws (released_word l) 0 + 1) % 2 ^ 64)) (set hs (slot l i.taken) (some b))
+  parcel_released l o i ws hs b looks deep inside word ok some_left is_blank =
       let o1 = ok.sent_room in let o2 = ok.seen_sent in let o4 = ok.room_slots in
       let G : ℕ = i.taken in
       let else' : (n : ℕ) → G ≤ n → n < G + w.slots → n ≢ G → get_elem? (set hs (slot l G) (some b)) (slot l n) ≡ get_elem? hs (slot l n) =

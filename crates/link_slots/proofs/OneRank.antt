@@ -162,14 +162,14 @@ module _ {D T : Type 0} (Blank : T → Type 0) (Good : ℕ → List T → T → 
       (λ ne. let o = others m (w.from m) ne in let i = others m (w.to m) ne in
       subst (λ (z : OutLog T × InLog T). LinkOk Blank Good w m z.0 z.1 words homes) (λ k. (sym o.0 k, sym i.1 k))
       (let old = ok.each_link m h in let a = out_of (ok.logs (w.from m)) m in let b = in_of (ok.logs (w.to m)) m in
-      link_kept Blank Good w wired m a b s.words words s.homes homes a.offered a.looks b.hears b.heard b.look_ins b.marked
+      link_kept Blank Good w wired m a b s.words words s.homes homes a.offered a.looks a.rung_at b.hears b.heard b.look_ins b.released_at b.marked
       (same_words.counts (posted_word m) (omega arith) (λ z. ne (omega arith)) (λ z. omega arith)) (same_words.counts (released_word m) (omega arith) (λ z. omega arith) (λ z. ne (omega arith))) (λ n. same_homes m n ne) old)))
       (λ m h. dite (ℕ_discrete m l)
       (λ e. subst (λ (z : ℕ). BellOk w z (out_of (put ok.logs v.pick x (w.from z)) z) (in_of (put ok.logs v.pick x (w.to z)) z) words) (sym e) (bell inside))
       (λ ne. let o = others m (w.from m) ne in let i = others m (w.to m) ne in
       subst (λ (z : OutLog T × InLog T). BellOk w m z.0 z.1 words) (λ k. (sym o.0 k, sym i.1 k))
       (let a = out_of (ok.logs (w.from m)) m in let b = in_of (ok.logs (w.to m)) m in
-      bell_kept w m a a b b s.words words refl (omega arith) refl refl refl (omega arith)
+      bell_kept w m a a b b s.words words refl refl refl refl (omega arith) refl refl refl refl refl refl (omega arith)
       (same_words.bits m h ne) (ok.each_bell m h))))
       same_words.no_other_bits
 

@@ -1,5 +1,5 @@
 -- A bank at the start is lawful.
-use Rattle.std.proofs.Common.{◌≡◌, ℕ, zero, suc, ◌+◌, ◌*◌, ◌^◌, ◌<◌, List, [], ◌∷◌, map, take, length, replicate, get_or, sym, refl, ap, ◌∙◌, subst, inr, arith, Some, None}
+use Rattle.std.proofs.Common.{◌≡◌, ℕ, zero, suc, ◌+◌, ◌*◌, ◌^◌, ◌<◌, List, [], ◌∷◌, map, take, length, replicate, get_or, sym, refl, ap, ◌∙◌, subst, inl, inr, arith, Some, None}
 use Rattle.std.proofs.lemmas.Nat.{pow_pos}
 use mathlib.Core.Option as maybe
 use mathlib.Core.Option.{some, some-injective, some-ne-none}
@@ -70,6 +70,10 @@ module _ {D T : Type 0} (Blank : T → Type 0) (Good : ℕ → List T → T → 
           offered_sent = omega arith;
           told = inr (inr (omega arith));
           looked = omega arith;
+          rung = omega arith;
+          answered = inl refl;
+          released = omega arith;
+          found = inl refl;
         });
         no_other_bits = λ b h. subst (λ (z : ℕ). z < 2 ^ w.width b) (sym (zero_at (16 * (2 * w.links + b)))) (pow_pos (w.width b));
         each_rank = λ r. (length-replicate w.links no_out, length-replicate w.links no_in, subst (λ (z : (ℕ → List T) × (ℕ → List T)). Law r z.0 z.1) (λ k. (sym (no_sent T w.links) k, sym (no_got T w.links) k)) (law r));

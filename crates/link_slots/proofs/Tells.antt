@@ -89,7 +89,7 @@ module _ (cap : ℕ) (shape : Shape) (is : IsShape shape) (count : ℕ) (as_many
   -- here a filled parcel lies in the slot in front, in place of the empty one b
   pub post : (v : Knowing) (c : List (ℕ × Contents)) (b p : Contents) → IsManned shape (v, (slot_of (wiring shape) l (length (out_of (own_logs v) l).sent), b) ∷ c) → l < links shape.dims → sender_at shape.dims l ≡ v.pick
       → length (out_of (own_logs v) l).sent < (out_of (own_logs v) l).room → MayFollow shape.dims cap l (out_of (own_logs v) l).sent p
-      → (Law v.pick (sent_of (own_logs v)) (got_of (own_logs v)) → Law v.pick (sent_of (with_out (own_logs v) l (let o = out_of (own_logs v) l in record { sent = o.sent ++ p ∷ []; room = o.room; offered = o.offered; looks = o.looks }))) (got_of (own_logs v)))
+      → (Law v.pick (sent_of (own_logs v)) (got_of (own_logs v)) → Law v.pick (sent_of (with_out (own_logs v) l (let o = out_of (own_logs v) l in record { sent = o.sent ++ p ∷ []; room = o.room; offered = o.offered; looks = o.looks; rung_at = o.rung_at }))) (got_of (own_logs v)))
       → let m : M = (v, (slot_of (wiring shape) l (length (out_of (own_logs v) l).sent), p) ∷ c) in Allows (IsLawful cap shape) count id m (posted_word l) (λ n. (n + 1) % 2 ^ 64) (post_told cap (step count (posted_word l) 1 0 none) m)
   post v c b p manned inside mine some_left good law =
       let m : M = (v, (slot_of (wiring shape) l (length (out_of (own_logs v) l).sent), p) ∷ c) in
@@ -105,7 +105,7 @@ module _ (cap : ℕ) (shape : Shape) (is : IsShape shape) (count : ℕ) (as_many
       let m : M = (v, (slot_of (wiring shape) l (in_of (own_logs v) l).taken, b) ∷ c) in
       may m (released_word l) (λ n. (n + 1) % 2 ^ 64) (λ n. released cap shape l m) (release_told cap (step count (released_word l) 1 0 none) m)
       (λ n m' t q e. subst (λ (z : Shape × ℕ). released cap z.0 z.1 m m') (λ k. (sym manned.of k, (let same : l ≡ q = omega arith in same) k)) t)
-      (moves.release IsBlank Good Law shape (wiring shape) (wired shape is) id l v c b p manned.speaks inside mine some_left blank (λ long. law_taken shape.dims v.pick l (own_logs v) is.grid long some_left) manned.holds)
+      (moves.release IsBlank Good Law shape (wiring shape) (wired shape is) id l v c b p manned.speaks inside mine some_left blank (λ looks long. law_taken shape.dims v.pick l (own_logs v) looks is.grid long some_left) manned.holds)
 
   pub look_before_ring : (m : M) (word : ℕ) → word ≡ bell_word (wiring shape) l → IsManned shape m → l < links shape.dims → sender_at shape.dims l ≡ m.0.pick
       → Allows (IsLawful cap shape) count id m word (λ n. n) (ring_look_told cap (step count word 0 0 none) m)

@@ -22,7 +22,8 @@ module _ {D T : Type 0} (Blank : T → Type 0) (Good : ℕ → List T → T → 
   -- (v)   a rank's lists stand in the view of one seat, its owner, and in no other (`each_seat`, `owned`);
   -- (vi)  where a link's bit isn't set and the link isn't marked, all that was offered is seen, and
   -- each look in answers one bit that was
-  --       heard (`each_bell`); a doorbell has no other bits (`no_other_bits`).
+  --       heard; a hear, and a look for room, that is counted was made (`each_bell`); a doorbell has
+  -- no other bits (`no_other_bits`).
   -- `wide` and `deep` say how many words and slots there are.
   pub record Lawful (s : State T (View D T)) : Type 0 where
     pub logs : ℕ → Lists T

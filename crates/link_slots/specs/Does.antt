@@ -31,7 +31,8 @@ pub record DidCollect (s s' : Manning) (l : ℕ) (r : Collected) : Type 0 where
   pub here : s' ≡ record s { lists = s'.lists; noted = s'.noted; ended = s'.ended }
   pub outs : s'.lists.outs ≡ s.lists.outs
   pub at_hand : length (collected_from s l) < known s l → r ≡ Got
-  pub no_looking : length (collected_from s l) < known s l → s'.lists ≡ with_in s.lists l (taken_more (in_of s.lists l))
+  pub no_looking : length (collected_from s l) < known s l
+      → s'.lists ≡ with_in s.lists l (taken_more (in_of s.lists l) (in_of s'.lists l).released_at)
   pub heard_beside : length (collected_from s l) ≡ known s l → (m : ℕ) → m < links s.shape.dims
       → reader_at s.shape.dims m ≡ s.rank → hop_at s.shape.dims m ≡ hop_at s.shape.dims l → m ≢ l
       → HeardWhere (is_due (hears_noted s l) (in_of s.lists l)) (in_of s.lists m) (in_of s'.lists m)

@@ -22,14 +22,7 @@ module _ {T : Type 0} where
   -- What a link in becomes by a look in, where it was marked: what is seen then is `seen`, and the mark is taken away.
   abbrev pub looked_where_marked : List T → InLog T → InLog T
   looked_where_marked seen i =
-      record {
-        seen = seen;
-        taken = i.taken;
-        marked = false;
-        hears = i.hears;
-        heard = i.heard;
-        look_ins = i.look_ins + one_where i.marked;
-      }
+      record i { seen = seen; marked = false; look_ins = i.look_ins + one_where i.marked }
 
   -- A link of which no parcel was known, after a collect: its doorbell was heard where a hear was
   -- due and not else, and the link was looked in where it was then marked and not else.

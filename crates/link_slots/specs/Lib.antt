@@ -17,4 +17,5 @@ pub mod Offered
 pub mod Gathering
 pub mod Does
 pub mod Reading
+pub mod Room
 pub mod Writing

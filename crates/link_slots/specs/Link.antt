@@ -37,10 +37,17 @@ module _ {T : Type 0} (Blank : T → Type 0) (Good : ℕ → List T → T → Ty
 
 module _ {T : Type 0} (w : Wiring) where
   -- Part (vi) for a link l: no parcel is offered that was not posted; where the doorbell's bit is
-  -- not set and the link is not marked, all offered parcels are seen; and each look in answers one
-  -- bit that was heard.
+  -- not set and the link is not marked, all offered parcels are seen; each look in answers one bit
+  -- that was heard; and where the reader has heard the doorbell since the sender last rang, and the
+  -- link is not marked, all offered parcels are seen: no hear is counted that passes over a ring. And
+  -- where the sender has looked for room since the latest release, it may use every slot that is free:
+  -- no look is counted that passes over a release.
   pub record BellOk (l : ℕ) (o : OutLog T) (i : InLog T) (words : List ℕ) : Type 0 where
     pub offered_sent : o.offered ≤ length o.sent
     pub told : (bit_at (slice_index_or words (bell_word w l) 0) (w.bit l) ≡ 1) ⊎ (i.marked ≡ true)
         ⊎ (o.offered ≤ length i.seen)
     pub looked : i.look_ins + one_where i.marked ≤ i.heard
+    pub rung : o.rung_at ≤ i.hears
+    pub released : i.released_at ≤ o.looks
+    pub found : (i.released_at ≡ o.looks) ⊎ (i.taken + w.slots ≤ o.room)
+    pub answered : (o.rung_at ≡ i.hears) ⊎ (i.marked ≡ true) ⊎ (o.offered ≤ length i.seen)

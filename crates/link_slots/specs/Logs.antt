@@ -3,17 +3,21 @@
 use Rattle.std.specs.Prelude.{ℕ, suc, ◌+◌, ◌∷◌, ◌++◌, Bool, false, List, [], take, length, slice_index_or, slice_set}
 
 -- The sender's side of a link: the parcels that it posted, in order; the numbers below which it may
--- post; how many parcels had been posted when it last rang; how often it looked for room.
--- Example: with 2 slots, after two posts and a third that found no room, `sent` has two parcels, and `room` is 2.
+-- post; how many parcels had been posted when it last rang; how often it looked for room; and how
+-- often its reader had heard the doorbell when it last rang.
+-- Example: with 2 slots, after two posts and a third that found no room, `sent` has two parcels, and
+-- `room` is 2.
 pub record OutLog (T : Type 0) : Type 0 where
   pub sent : List T
   pub room : ℕ
   pub offered : ℕ
   pub looks : ℕ
+  pub rung_at : ℕ
 
 -- The reader's side of a link: the parcels that it saw posted, in order, and how many of them it
 -- has taken; whether the link is marked as rung; how often the reader heard the link's doorbell,
--- how often it then found the link's bit, and how often it looked in.
+-- how often it then found the link's bit, and how often it looked in; and how often the sender had
+-- looked for room when the latest parcel was released.
 pub record InLog (T : Type 0) : Type 0 where
   pub seen : List T
   pub taken : ℕ
@@ -21,6 +25,7 @@ pub record InLog (T : Type 0) : Type 0 where
   pub hears : ℕ
   pub heard : ℕ
   pub look_ins : ℕ
+  pub released_at : ℕ
 
 module _ {T : Type 0} where
   -- All that the reader collected, in order: the first of those that it saw.
@@ -32,27 +37,20 @@ module _ {T : Type 0} where
   listens i = i.hears + i.look_ins
 
 module _ {T : Type 0} where
-  -- one parcel more is posted; all that are posted are offered; one parcel more is taken
+  -- One parcel more is posted; all that are posted are offered, where the reader had heard the doorbell
+  -- so often; one parcel more is taken, where the sender had looked for room so often.
   abbrev pub sent_more : OutLog T → T → OutLog T
-  sent_more o p = record { sent = o.sent ++ p ∷ []; room = o.room; offered = o.offered; looks = o.looks }
+  sent_more o p = record o { sent = o.sent ++ p ∷ [] }
 
-  abbrev pub all_offered : OutLog T → OutLog T
-  all_offered o = record { sent = o.sent; room = o.room; offered = length o.sent; looks = o.looks }
+  abbrev pub all_offered : OutLog T → ℕ → OutLog T
+  all_offered o hears = record o { offered = length o.sent; rung_at = hears }
 
-  abbrev pub taken_more : InLog T → InLog T
-  taken_more i =
-      record {
-        seen = i.seen;
-        taken = suc i.taken;
-        marked = i.marked;
-        hears = i.hears;
-        heard = i.heard;
-        look_ins = i.look_ins;
-      }
+  abbrev pub taken_more : InLog T → ℕ → InLog T
+  taken_more i looks = record i { taken = suc i.taken; released_at = looks }
 
   -- A look for room found every slot taken: the sender may post no more, and nothing else is changed.
   abbrev pub found_full : OutLog T → OutLog T
-  found_full o = record { sent = o.sent; room = length o.sent; offered = o.offered; looks = suc o.looks }
+  found_full o = record o { room = length o.sent; looks = suc o.looks }
 
 pub record Lists (T : Type 0) : Type 0 where
   pub outs : List (OutLog T)
@@ -60,10 +58,11 @@ pub record Lists (T : Type 0) : Type 0 where
 
 module _ {T : Type 0} where
   abbrev pub no_out : OutLog T
-  no_out = record { sent = []; room = 0; offered = 0; looks = 0 }
+  no_out = record { sent = []; room = 0; offered = 0; looks = 0; rung_at = 0 }
 
   abbrev pub no_in : InLog T
-  no_in = record { seen = []; taken = 0; marked = false; hears = 0; heard = 0; look_ins = 0 }
+  no_in =
+      record { seen = []; taken = 0; marked = false; hears = 0; heard = 0; look_ins = 0; released_at = 0 }
 
   abbrev pub out_of : Lists T → ℕ → OutLog T
   out_of x l = slice_index_or x.outs l no_out

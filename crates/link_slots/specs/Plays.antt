@@ -6,7 +6,7 @@ use mathlib.Core.Option.{some}
 use lib.ListN.{get_elem?}
 use Rattle.atomic_table.specs.Table.{Me, rest}
 use Rattle.port_bank.specs.Flow.{Begins}
-use Rattle.link_slots.specs.Logs.{InLog, Lists, out_of, in_of, with_out, with_in}
+use Rattle.link_slots.specs.Logs.{InLog, Lists, out_of, in_of, with_out, with_in, all_offered, taken_more}
 use Rattle.link_slots.specs.View.{View, own_logs, with_logs}
 use Rattle.link_slots.specs.Wiring.{Wiring, slot_of}
 use Rattle.link_slots.specs.Hands.{Holds}
@@ -28,15 +28,7 @@ map_from f n (a ∷ l) = f n a ∷ map_from f (suc n) l
 
 module _ {T : Type 0} where
   abbrev pub heard_by : ℕ → InLog T → InLog T
-  heard_by b i =
-      record {
-        seen = i.seen;
-        taken = i.taken;
-        marked = marked_by b i.marked;
-        hears = suc i.hears;
-        heard = i.heard + b;
-        look_ins = i.look_ins;
-      }
+  heard_by b i = record i { marked = marked_by b i.marked; hears = suc i.hears; heard = i.heard + b }
 
   -- the value of the slot in front, as a list
   abbrev pub in_front : List (ℕ × T) → List T
@@ -65,12 +57,7 @@ module _ {D T : Type 0} (Blank : T → Type 0) (Good : ℕ → List T → T → 
       (beyond (length o.sent) n ≤ w.slots) × (beyond (length o.sent) n ≤ length o.sent)
       × (m'.0 ≡ with_logs m.0
       (with_out x l
-      (record {
-        sent = o.sent;
-        room = length o.sent + (w.slots - beyond (length o.sent) n);
-        offered = o.offered;
-        looks = suc o.looks;
-      })))
+      (record o { room = length o.sent + (w.slots - beyond (length o.sent) n); looks = suc o.looks })))
       × Holds Blank w m.0.pick (own_logs m'.0) m'.1
 
   -- Post: the parcel in front is appended, and its slot goes home.
@@ -80,7 +67,7 @@ module _ {D T : Type 0} (Blank : T → Type 0) (Good : ℕ → List T → T → 
       (m' ≡ (
         with_logs m.0
             (with_out x l
-            (record { sent = o.sent ++ in_front m.1; room = o.room; offered = o.offered; looks = o.looks })),
+            (record o { sent = o.sent ++ in_front m.1 })),
         rest m.1,
       ))
       × Holds Blank w m.0.pick (own_logs m'.0) m'.1
@@ -94,31 +81,17 @@ module _ {D T : Type 0} (Blank : T → Type 0) (Good : ℕ → List T → T → 
       × ((k : ℕ) (p : T) → get_elem? i'.seen k ≡ some p → Good l (take k i'.seen) p)
       × (m'.0 ≡ with_logs m.0
       (with_in x l
-      (record {
-        seen = i'.seen;
-        taken = i.taken;
-        marked = false;
-        hears = i.hears;
-        heard = i.heard;
-        look_ins = suc i.look_ins;
-      })))
+      (record i { seen = i'.seen; marked = false; look_ins = suc i.look_ins })))
       × Holds Blank w m.0.pick (own_logs m'.0) m'.1
 
-  -- Release: one parcel more is taken, and its slot goes home.
+  -- Release: one parcel more is taken, and its slot goes home; the bank keeps how often the sender had
+  -- looked for room then.
   abbrev pub released : ℕ → Me T (View D T) → Me T (View D T) → Type 0
   released l m m' =
       let x = own_logs m.0 in let i = in_of x l in
       (m' ≡ (
         with_logs m.0
-            (with_in x l
-            (record {
-              seen = i.seen;
-              taken = suc i.taken;
-              marked = i.marked;
-              hears = i.hears;
-              heard = i.heard;
-              look_ins = i.look_ins;
-            })),
+            (with_in x l (taken_more i (in_of (own_logs m'.0) l).released_at)),
         rest m.1,
       ))
       × Holds Blank w m.0.pick (own_logs m'.0) m'.1
@@ -139,13 +112,14 @@ module _ {D T : Type 0} (Blank : T → Type 0) (Good : ℕ → List T → T → 
       × Holds Blank w m.0.pick x m'.1
       × (w.from l ≡ m.0.pick → Begins i.seen (out_of x l).sent)
 
-  -- Ring: all parcels posted so far are offered.
+  -- Ring: all parcels posted so far are offered, and the bank keeps how often their reader had heard
+  -- the doorbell then.
   abbrev pub rung : ℕ → Me T (View D T) → Me T (View D T) → Type 0
   rung l m m' =
       let x = own_logs m.0 in let o = out_of x l in
       (m' ≡ (
         with_logs m.0
-            (with_out x l (record { sent = o.sent; room = o.room; offered = length o.sent; looks = o.looks })),
+            (with_out x l (all_offered o (out_of (own_logs m'.0) l).rung_at)),
         m.1,
       ))
       × Holds Blank w m.0.pick (own_logs m'.0) m'.1

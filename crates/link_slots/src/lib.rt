@@ -13,12 +13,14 @@
 //! | `SlotBank::port`, `SlotPort::into_seat` | the rank's port, by the trait of port_bank, and its seat back |
 //! | `SlotBank::gather` | the gathering seat knows what the rank sent and got |
 //! | `SlotBank::close` | a closed round, on which what each rank pulled is what the others pushed |
+//! | `SlotBank::table` | the table of the bank, whose type names the rule that it keeps |
 //! | `rule_law`, `live_law` | between any two steps the bank is lawful, and its lists keep the laws of a closed round |
-//! | `bell_law` | a collect that answers Nothing right after a hear has left no offered parcel |
+//! | `bell_law` | a collect that answers Nothing after a hear has left no offered parcel |
+//! | `room_law` | a post that answers NoRoom after a look found every slot taken |
 //! | `SlotRound::ranks`, `SlotRound::epochs` | the number of ranks; how many epochs every link has ended |
 //!
 //! The definitions, in the order in which to read them: `Logs` (what a rank knows of its links), `Shape` (grid and slots), `Seen` (a bank and
-//! a seat, as contracts see them), `Doorbell` (when a collect hears and looks), `Offered` (what Nothing says), `Does` (a call on a port), `Closed` (a closed round) and
+//! a seat, as contracts see them), `Doorbell` (when a collect hears and looks), `Offered` and `Room` (what Nothing and NoRoom say), `Does` (a call on a port), `Closed` (a closed round) and
 //! `Gathering` (a gathering seat, as contracts see it).
 //! `Wiring`, `View`, `Link`, `Bank`, `Told` and `Plays` are the rule of the table and its steps; the others are the code's own.
 #![tactic(auto)]
@@ -32,5 +34,5 @@ pub use port::SlotPort;
 pub use seat::SlotSeat;
 pub use slot_bank::SlotBank;
 pub use slot_bank::gather::GatherSeat;
-pub use slot_bank::live::{bell_law, live_law, rule_law};
+pub use slot_bank::live::{bell_law, live_law, room_law, rule_law};
 pub use slot_bank::round::SlotRound;

@@ -108,6 +108,7 @@ impl<'a, const CAP: usize> Port<CAP> for SlotPort<'a, CAP> {
         Ok(self.seat.post(self.bank, link, p))
     }
 
+    #[inline]
     fn collect(&mut self, link: u32, p: &mut Parcel<CAP>) -> Collected {
         note_collect(&mut self.calls, link);
         self.seat.collect(self.bank, link, p)

@@ -117,6 +117,7 @@ impl<const CAP: usize> SlotSeat<CAP> {
     ///
     /// Where the rank knows of a parcel, that is all. Else it hears the doorbell of the link's hop where a hear is due, which marks every link
     /// whose bit it finds; and then it looks in where the link is marked.
+    #[inline]
     pub fn collect(
         &mut self,
         bank: &SlotBank<CAP>,
@@ -151,7 +152,8 @@ impl<const CAP: usize> SlotSeat<CAP> {
         ensures known_elsewhere { (l : ℕ) → l ≢ link → known self.new l ≡ known self.old l }
         ensures at_hand { length (collected_from self.old link) < known self.old link → result ≡ Collected.Got }
         ensures no_looking { length (collected_from self.old link) < known self.old link
-            → self.new.lists ≡ with_in self.old.lists link (taken_more (in_of self.old.lists link)) }
+            → self.new.lists ≡ with_in self.old.lists link (taken_more (in_of self.old.lists link)
+            (in_of self.new.lists link).released_at) }
         ensures heard_beside { length (collected_from self.old link) ≡ known self.old link → (m : ℕ)
             → m < links self.old.shape.dims → reader_at self.old.shape.dims m ≡ self.old.rank
             → hop_at self.old.shape.dims m ≡ hop_at self.old.shape.dims link → m ≢ link
@@ -182,6 +184,7 @@ impl<const CAP: usize> SlotSeat<CAP> {
 }
 
 /// Counts an epoch that the link has ended, where the collect gave a parcel marked last.
+#[inline]
 fn note_last(ended: &mut Vec<u64>, link: u32, answer: Collected, last: bool)
     requires { link < length ended.old.items }
     ensures { ended.new.items

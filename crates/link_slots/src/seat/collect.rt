@@ -139,7 +139,8 @@ fn find_parcel<const CAP: usize>(
 /// Collects the link's next parcel for the empty one at hand, if one is found.
 ///
 /// Most collects in vain are of a link that isn't marked and for which no hear is due: that is told
-/// at once, by what the seat counts.
+/// where the call stands, by what the seat counts, and the rest is a call.
+#[inline]
 pub(crate) fn collect_on<const CAP: usize>(
     top: &Top<CAP>,
     place: &mut Place<CAP>,
@@ -178,7 +179,8 @@ pub(crate) fn collect_on<const CAP: usize>(
     // A parcel that is at hand is taken without a step of looking.
     ensures at_hand { end.old.waiting ≢ 0 → result ≡ Collected.Got }
     ensures no_looking { end.old.waiting ≢ 0 → own_logs place.new.me.0
-        ≡ with_in (own_logs place.old.me.0) link (taken_more (in_of (own_logs place.old.me.0) link)) }
+        ≡ with_in (own_logs place.old.me.0) link (taken_more (in_of (own_logs place.old.me.0) link)
+        (in_of (own_logs place.new.me.0) link).released_at) }
     // Else the doorbell is heard where a hear is due, and the link is looked in where it is then marked.
     ensures heard { end.old.waiting ≡ 0 → (m : ℕ) → m < links top.now.key.dims
         → reader_at top.now.key.dims m ≡ place.old.me.0.pick → hop_at top.now.key.dims m ≡ hop_at top.now.key.dims link
@@ -195,6 +197,63 @@ pub(crate) fn collect_on<const CAP: usize>(
         end.noted = ear.hears;
         return Collected::Nothing;
     }
+    collect_now(top, place, end, ear, wire, slots, link, parcel)
+}
+
+/// The same, where the seat's counts don't tell it.
+#[inline(never)]
+fn collect_now<const CAP: usize>(
+    top: &Top<CAP>,
+    place: &mut Place<CAP>,
+    end: &mut InEnd,
+    ear: &mut Ear,
+    wire: &Wire,
+    slots: u32,
+    link: u32,
+    parcel: &mut Parcel<CAP>,
+) -> Collected
+    requires reads { ReadsLink top.now.key top.now.table_id place.old.table_id place.old.me link end.old wire.now
+        ear.old }
+    requires slots { slots ≡ top.now.key.slots }
+    requires good { AreGood CAP top.now.key link (in_of (own_logs place.old.me.0) link) }
+    requires empty { IsBlank parcel.old }
+    ensures left { HasRead top.now.key place.old.table_id place.new.table_id place.old.me place.new.me link end.new
+        ear.new }
+    ensures good { AreGood CAP top.now.key link (in_of (own_logs place.new.me.0) link) }
+    ensures seen { take (length (in_of (own_logs place.old.me.0) link).seen) (in_of (own_logs place.new.me.0) link).seen
+        ≡ (in_of (own_logs place.old.me.0) link).seen }
+    ensures noted { end.new.noted ≡ counted (in_of (own_logs place.new.me.0) link).hears }
+    ensures more { listens (in_of (own_logs place.old.me.0) link) ≤ listens (in_of (own_logs place.new.me.0) link) }
+    ensures taken { result ≡ Collected.Got → (in_of (own_logs place.new.me.0) link).taken
+        ≡ suc (in_of (own_logs place.old.me.0) link).taken }
+    ensures parcel { result ≡ Collected.Got → get_elem? (in_of (own_logs place.new.me.0) link).seen
+        (in_of (own_logs place.old.me.0) link).taken ≡ some parcel.new }
+    ensures not_taken { result ≡ Collected.Nothing → (in_of (own_logs place.new.me.0) link).taken
+        ≡ (in_of (own_logs place.old.me.0) link).taken }
+    ensures none_known { result ≡ Collected.Nothing → length (in_of (own_logs place.new.me.0) link).seen
+        ≡ (in_of (own_logs place.old.me.0) link).taken }
+    ensures unmarked { result ≡ Collected.Nothing → (in_of (own_logs place.new.me.0) link).marked ≡ false }
+    ensures listened { result ≡ Collected.Nothing
+        → RoseOrFull (noted_by end.old.noted (in_of (own_logs place.old.me.0) link))
+        (counted (listens (in_of (own_logs place.new.me.0) link))) }
+    ensures kept { result ≡ Collected.Nothing → parcel.new ≡ parcel.old }
+    // A parcel that is at hand is taken without a step of looking.
+    ensures at_hand { end.old.waiting ≢ 0 → result ≡ Collected.Got }
+    ensures no_looking { end.old.waiting ≢ 0 → own_logs place.new.me.0
+        ≡ with_in (own_logs place.old.me.0) link (taken_more (in_of (own_logs place.old.me.0) link)
+        (in_of (own_logs place.new.me.0) link).released_at) }
+    // Else the doorbell is heard where a hear is due, and the link is looked in where it is then marked.
+    ensures heard { end.old.waiting ≡ 0 → (m : ℕ) → m < links top.now.key.dims
+        → reader_at top.now.key.dims m ≡ place.old.me.0.pick → hop_at top.now.key.dims m ≡ hop_at top.now.key.dims link
+        → m ≢ link
+        → HeardWhere (is_due end.old.noted (in_of (own_logs place.old.me.0) link)) (in_of (own_logs place.old.me.0) m)
+        (in_of (own_logs place.new.me.0) m) }
+    ensures looked { end.old.waiting ≡ 0 → LookedFor end.old.noted (in_of (own_logs place.old.me.0) link)
+        (in_of (own_logs place.new.me.0) link) }
+    // On a link from the rank to itself, what it saw is the front of what it posted.
+    ensures own { result ≡ Collected.Got → sender_at top.now.key.dims link ≡ place.old.me.0.pick
+        → Begins (in_of (own_logs place.new.me.0) link).seen (out_of (own_logs place.new.me.0) link).sent }
+{
     if find_parcel(top, place, end, ear, wire, link) == 0 {
         end.noted = ear.hears;
         return Collected::Nothing;

@@ -49,11 +49,27 @@ pub(crate) fn new_ends(alloc: Global, links: usize) -> Result<RankEnds, NoMemory
     };
     let ear = Ear { marks: 0, hears: 0 };
     Ok(RankEnds {
-        outs: vec![in alloc; out_end; links]?,
-        ins: vec![in alloc; in_end; links]?,
+        outs: list_apart(alloc, out_end, links, 8)?,
+        ins: list_apart(alloc, in_end, links, 4)?,
         ears: [ear; 3],
-        ended: vec![in alloc; 0; links]?,
+        ended: list_apart(alloc, 0, links, 16)?,
     })
+}
+
+/// A list of so many equal elements, with room for some more behind them. One thread makes the lists of all ranks, side
+/// by side, and each is changed by a thread of its own: with 128 unused bytes between them no two share a cache line,
+/// nor a pair of lines.
+fn list_apart<A: Copy + Drop>(
+    alloc: Global,
+    each: A,
+    count: usize,
+    beyond: usize,
+) -> Result<Vec<A>, NoMemory>
+    ensures { IfOk result (λ v. v.items ≡ replicate count each) }
+{
+    let mut list = Vec::with_capacity(alloc, count.saturating_add(beyond))?;
+    list.resize(count, each)?;
+    Ok(list)
 }
 
 /// The counts of all ranks, none of which did anything yet.

@@ -99,7 +99,8 @@ pub(crate) fn ring<const CAP: usize>(
     requires bell { (word ≡ bell_word (wiring top.now.key) link) × (mask ≡ 2 ^ (wiring top.now.key).bit link) }
     ensures stays { StaysSeated top.now.key place.old.table_id place.new.table_id place.new.me }
     ensures rung { place.new.me.0 ≡ with_logs place.old.me.0
-        (with_out (own_logs place.old.me.0) link (all_offered (out_of (own_logs place.old.me.0) link))) }
+        (with_out (own_logs place.old.me.0) link (all_offered (out_of (own_logs place.old.me.0) link)
+        (out_of (own_logs place.new.me.0) link).rung_at)) }
 {
     if top.load::<LookBeforeRing>(place, word) & mask == 0 {
         top.fetch_or::<Ring>(place, word, mask);
@@ -160,7 +161,8 @@ pub(crate) fn receive<const CAP: usize>(
     requires empty { IsBlank parcel.old }
     ensures stays { StaysSeated top.now.key place.old.table_id place.new.table_id place.new.me }
     ensures released { place.new.me.0 ≡ with_logs place.old.me.0
-        (with_in (own_logs place.old.me.0) link (taken_more (in_of (own_logs place.old.me.0) link))) }
+        (with_in (own_logs place.old.me.0) link (taken_more (in_of (own_logs place.old.me.0) link)
+        (in_of (own_logs place.new.me.0) link).released_at)) }
     ensures parcel { get_elem? (in_of (own_logs place.old.me.0) link).seen (in_of (own_logs place.old.me.0) link).taken
         ≡ some parcel.new }
     ensures own { sender_at top.now.key.dims link ≡ place.old.me.0.pick

@@ -16,77 +16,6 @@ use Rattle.link_slots.proofs.Due.{not_due_heard, heard_nowhere, looked_for, unma
 use Rattle.link_slots.proofs.Hearing.{bit_unset, else_kept, in_elsewhere, good_same, heard_same}
 use Rattle.link_slots.proofs.seat.collect.collect_on.Goals as goal
 
--- the seat's lists after the release, and the link's own part of them
-module _ (v2 v3 : Knowing) (l : ℕ) (e : v3 ≡ with_logs v2 (with_in (own_logs v2) l (taken_more (in_of (own_logs v2) l)))) (speaks : Speaks v2) where
-  own : own_logs v3 ≡ with_in (own_logs v2) l (taken_more (in_of (own_logs v2) l))
-  own = ap own_logs e ∙ own_with v2 (with_in (own_logs v2) l (taken_more (in_of (own_logs v2) l))) speaks
-
-  at : l < length (own_logs v2).ins → in_of (own_logs v3) l ≡ taken_more (in_of (own_logs v2) l)
-  at h = ap (λ (z : Lists Contents). in_of z l) own ∙ in_here (own_logs v2) l (taken_more (in_of (own_logs v2) l)) h
-
-pub returns-clause-left : goal.returns-clause-left
-returns-clause-left g c =
-    record {
-      stays = record { table = c.receive.ensures.stays.table ∙ c.find_parcel.ensures.left.stays.table; seat = c.receive.ensures.stays.seat };
-      end = (let key : Shape = c.args.top.now.key in let f = c.find_parcel.ensures in let v2 : Knowing = c.find_parcel.new.place.me.0 in let v3 : Knowing = c.receive.new.place.me.0 in let l : ℕ = c.args.link in
-          let i2 : InLog Contents = in_of (own_logs v2) l in
-          let a = at v2 v3 l c.receive.ensures.released f.left.stays.seat.speaks (let w = f.left.others.long in let u = c.requires.reads.long in let h = c.requires.reads.at.below in omega arith) in
-          let k : ℕ = c.find_parcel.new.end.waiting - 1 in
-          let more : c.find_parcel.new.end.waiting ≡ suc k = (let n = c.if-find_parcel-eq0.false in let w = c.find_parcel.ensures.waiting in omega arith) in
-          let hs : c.find_parcel.new.ear.hears ≡ counted i2.hears = f.left.ear.heard l c.requires.reads.at.below c.requires.reads.at.own refl in
-          end_taken key.slots i2 (in_of (own_logs v3) l) c.find_parcel.new.end.taken k c.find_parcel.new.end.noted _ _
-          (subst (λ (z : ℕ). IsInEnd key.slots i2 c.find_parcel.new.end.taken z c.find_parcel.new.end.noted) more f.left.end)
-          (ap (λ (z : InLog Contents). z.seen) a) (ap (λ (z : InLog Contents). z.taken) a)
-          refl
-          (hs ∙ sym (ap (λ (z : InLog Contents). counted z.hears) a)));
-      ear = (let key : Shape = c.args.top.now.key in let f = c.find_parcel.ensures in let v : Knowing = c.args.place.now.me.0 in let v2 : Knowing = c.find_parcel.new.place.me.0 in let v3 : Knowing = c.receive.new.place.me.0 in let l : ℕ = c.args.link in
-          let i : InLog Contents = taken_more (in_of (own_logs v2) l) in
-          let o = own v2 v3 l c.receive.ensures.released f.left.stays.seat.speaks in
-          let long : l < length (own_logs v2).ins = (let w = f.left.others.long in let u = c.requires.reads.long in let h = c.requires.reads.at.below in omega arith) in
-          subst (λ (z : Lists Contents). IsHeard key v.pick (hop_at key.dims l) z c.find_parcel.new.ear.marks c.find_parcel.new.ear.hears) (sym o)
-          (heard_same key v.pick (hop_at key.dims l) (own_logs v2) (with_in (own_logs v2) l i) c.find_parcel.new.ear.marks c.find_parcel.new.ear.hears
-          (in_same (own_logs v2) l (λ (z : InLog Contents). z.marked) i (λ m. (in_of (own_logs v2) m).marked) long refl (λ _ _. refl))
-          (in_same (own_logs v2) l (λ (z : InLog Contents). z.hears) i (λ m. (in_of (own_logs v2) m).hears) long refl (λ _ _. refl)) f.left.ear));
-      here = (let f = c.find_parcel.ensures in let v : Knowing = c.args.place.now.me.0 in let v2 : Knowing = c.find_parcel.new.place.me.0 in let v3 : Knowing = c.receive.new.place.me.0 in let l : ℕ = c.args.link in
-          let y : Lists Contents = with_in (own_logs v2) l (taken_more (in_of (own_logs v2) l)) in
-          c.receive.ensures.released ∙ ap (λ (z : Knowing). with_logs z y) f.left.here ∙ with_twice v (own_logs v2) y ∙ ap (with_logs v) (sym (own v2 v3 l c.receive.ensures.released f.left.stays.seat.speaks)));
-      others = (let key : Shape = c.args.top.now.key in let f = c.find_parcel.ensures in let v : Knowing = c.args.place.now.me.0 in let v2 : Knowing = c.find_parcel.new.place.me.0 in let v3 : Knowing = c.receive.new.place.me.0 in let l : ℕ = c.args.link in
-          let o = own v2 v3 l c.receive.ensures.released f.left.stays.seat.speaks in
-          else_kept key v.pick l (own_logs v) (own_logs v2) (own_logs v3) f.left.others
-          (subst (ElseKept key v.pick l (own_logs v2)) (sym o) (in_elsewhere key c.requires.reads.at.board.shape v.pick l c.requires.reads.at.below c.requires.reads.at.own (own_logs v2) (f.left.others.long ∙ c.requires.reads.long) (taken_more (in_of (own_logs v2) l)))));
-    }
-
-pub returns-clause-good : goal.returns-clause-good
-returns-clause-good g c =
-    let key : Shape = c.args.top.now.key in let f = c.find_parcel.ensures in let v2 : Knowing = c.find_parcel.new.place.me.0 in let v3 : Knowing = c.receive.new.place.me.0 in let l : ℕ = c.args.link in
-    let a = at v2 v3 l c.receive.ensures.released f.left.stays.seat.speaks (let w = f.left.others.long in let u = c.requires.reads.long in let h = c.requires.reads.at.below in omega arith) in
-    good_same g.row.CAP key l (in_of (own_logs v2) l) (in_of (own_logs v3) l) (ap (λ (z : InLog Contents). z.seen) a) f.good
-
-pub returns-clause-own : goal.returns-clause-own
-returns-clause-own g c _ from =
-    let f = c.find_parcel.ensures in let v2 : Knowing = c.find_parcel.new.place.me.0 in let v3 : Knowing = c.receive.new.place.me.0 in let l : ℕ = c.args.link in
-    let o = own v2 v3 l c.receive.ensures.released f.left.stays.seat.speaks in
-    let a = at v2 v3 l c.receive.ensures.released f.left.stays.seat.speaks (let w = f.left.others.long in let u = c.requires.reads.long in let h = c.requires.reads.at.below in omega arith) in
-    let p : v2.pick ≡ c.args.place.now.me.0.pick = ap (λ (z : Knowing). z.pick) f.left.here in
-    subst (λ (z : InLog Contents × Lists Contents). Begins z.0.seen (out_of z.1 l).sent) (λ k. (sym a k, sym o k)) (c.receive.ensures.own (from ∙ sym p))
-
-pub returns-clause-no_looking : goal.returns-clause-no_looking
-returns-clause-no_looking g c some =
-    let v2 : Knowing = c.find_parcel.new.place.me.0 in let v3 : Knowing = c.receive.new.place.me.0 in let l : ℕ = c.args.link in
-    own v2 v3 l c.receive.ensures.released c.find_parcel.ensures.left.stays.seat.speaks ∙ ap (λ (z : Knowing). with_in (own_logs z) l (taken_more (in_of (own_logs z) l))) (c.find_parcel.ensures.at_hand some)
-
-pub returns-clause-heard : goal.returns-clause-heard
-returns-clause-heard g c none m inside mine hop ne =
-    let v : Knowing = c.args.place.now.me.0 in let v2 : Knowing = c.find_parcel.new.place.me.0 in let v3 : Knowing = c.receive.new.place.me.0 in let l : ℕ = c.args.link in
-    let same : in_of (own_logs v3) m ≡ in_of (own_logs v2) m = ap (λ (z : Lists Contents). in_of z m) (own v2 v3 l c.receive.ensures.released c.find_parcel.ensures.left.stays.seat.speaks) ∙ in_there (own_logs v2) l (taken_more (in_of (own_logs v2) l)) m ne in
-    subst (HeardWhere (is_due c.args.end.now.noted (in_of (own_logs v) l)) (in_of (own_logs v) m)) (sym same) (c.find_parcel.ensures.heard none m inside mine hop ne)
-
-pub returns-clause-looked : goal.returns-clause-looked
-returns-clause-looked g c none =
-    let f = c.find_parcel.ensures in let v : Knowing = c.args.place.now.me.0 in let v2 : Knowing = c.find_parcel.new.place.me.0 in let v3 : Knowing = c.receive.new.place.me.0 in let l : ℕ = c.args.link in
-    looked_then_taken c.args.end.now.noted (in_of (own_logs v) l) (in_of (own_logs v2) l) (in_of (own_logs v3) l)
-    (at v2 v3 l c.receive.ensures.released f.left.stays.seat.speaks (let w = f.left.others.long in let u = c.requires.reads.long in let h = c.requires.reads.at.below in omega arith)) (f.looked none)
-
 pub returns-then-ear-end-clause-unmarked : goal.returns-then-ear-end-clause-unmarked
 returns-then-ear-end-clause-unmarked g c _ =
     let none = bit_unset c.args.ear.now.marks ((wiring c.args.top.now.key).bit c.args.link) c.args.wire.now.mask c.requires.reads.wire.mask_is c.if-ear-wire-eq0.true in
@@ -101,11 +30,3 @@ returns-then-ear-end-clause-looked g c _ =
     looked_for c.args.end.now.noted i i i i.seen
     (heard_nowhere i i (is_due c.args.end.now.noted i) (not_due_heard c.args.end.now.noted i (let t = c.if-ear-end.true in omega arith)) refl)
     (sym (unmarked_same i unmarked))
-
-pub returns-clause-noted : goal.returns-clause-noted
-returns-clause-noted g c =
-    let f = c.find_parcel.ensures in let v2 : Knowing = c.find_parcel.new.place.me.0 in let v3 : Knowing = c.receive.new.place.me.0 in let l : ℕ = c.args.link in
-    let i2 : InLog Contents = in_of (own_logs v2) l in
-    let a = at v2 v3 l c.receive.ensures.released f.left.stays.seat.speaks (let w = f.left.others.long in let u = c.requires.reads.long in let h = c.requires.reads.at.below in omega arith) in
-    let hs : c.find_parcel.new.ear.hears ≡ counted i2.hears = f.left.ear.heard l c.requires.reads.at.below c.requires.reads.at.own refl in
-    hs ∙ sym (ap (λ (z : InLog Contents). counted z.hears) a)

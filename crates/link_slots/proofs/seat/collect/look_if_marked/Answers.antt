@@ -25,7 +25,7 @@ returns-then-ear-mask-ne0-clause-left g c =
     let key : Shape = c.args.top.now.key in let v : Knowing = c.args.place.now.me.0 in let v' : Knowing = c.look_in-found.new.place.me.0 in let l : ℕ = c.args.link in
     let f = c.look_in-found.ensures.found in
     let i : InLog Contents = in_of (own_logs v) l in
-    let i' : InLog Contents = record { seen = (in_of (own_logs v') l).seen; taken = i.taken; marked = false; hears = i.hears; heard = i.heard; look_ins = suc i.look_ins } in
+    let i' : InLog Contents = record { seen = (in_of (own_logs v') l).seen; taken = i.taken; marked = false; hears = i.hears; heard = i.heard; look_ins = suc i.look_ins; released_at = i.released_at } in
     let own : own_logs v' ≡ with_in (own_logs v) l i' = ap own_logs f.4 ∙ own_with v (with_in (own_logs v) l i') c.requires.reads.at.manned.speaks in
     record {
       stays = c.look_in-found.ensures.stays;
@@ -38,7 +38,7 @@ returns-then-ear-mask-ne0-clause-left g c =
       ear = (let key : Shape = c.args.top.now.key in let v : Knowing = c.args.place.now.me.0 in let v' : Knowing = c.look_in-found.new.place.me.0 in let l : ℕ = c.args.link in
           let f = c.look_in-found.ensures.found in
           let i : InLog Contents = in_of (own_logs v) l in
-          let i' : InLog Contents = record { seen = (in_of (own_logs v') l).seen; taken = i.taken; marked = false; hears = i.hears; heard = i.heard; look_ins = suc i.look_ins } in
+          let i' : InLog Contents = record { seen = (in_of (own_logs v') l).seen; taken = i.taken; marked = false; hears = i.hears; heard = i.heard; look_ins = suc i.look_ins; released_at = i.released_at } in
           let own : own_logs v' ≡ with_in (own_logs v) l i' = ap own_logs f.4 ∙ own_with v (with_in (own_logs v) l i') c.requires.reads.at.manned.speaks in
           let one = bit_set c.args.ear.now.marks ((wiring key).bit l) c.args.wire.now.mask c.requires.reads.wire.mask_is c.if-ear-mask-ne0.true in
           let marked : i.marked ≡ true = c.requires.reads.ear.marked l c.requires.reads.at.below c.requires.reads.at.own refl ∙ eq-eqb _ 1 one in
@@ -48,7 +48,7 @@ returns-then-ear-mask-ne0-clause-left g c =
       others = (let key : Shape = c.args.top.now.key in let v : Knowing = c.args.place.now.me.0 in let v' : Knowing = c.look_in-found.new.place.me.0 in let l : ℕ = c.args.link in
           let f = c.look_in-found.ensures.found in
           let i : InLog Contents = in_of (own_logs v) l in
-          let i' : InLog Contents = record { seen = (in_of (own_logs v') l).seen; taken = i.taken; marked = false; hears = i.hears; heard = i.heard; look_ins = suc i.look_ins } in
+          let i' : InLog Contents = record { seen = (in_of (own_logs v') l).seen; taken = i.taken; marked = false; hears = i.hears; heard = i.heard; look_ins = suc i.look_ins; released_at = i.released_at } in
           let own : own_logs v' ≡ with_in (own_logs v) l i' = ap own_logs f.4 ∙ own_with v (with_in (own_logs v) l i') c.requires.reads.at.manned.speaks in
           subst (ElseKept key v.pick l (own_logs v)) (sym own) (in_elsewhere key c.requires.reads.at.board.shape v.pick l c.requires.reads.at.below c.requires.reads.at.own (own_logs v) c.requires.reads.long i'));
     }
@@ -57,7 +57,7 @@ pub returns-then-ear-mask-ne0-clause-looked : goal.returns-then-ear-mask-ne0-cla
 returns-then-ear-mask-ne0-clause-looked g c =
     let v : Knowing = c.args.place.now.me.0 in let v' : Knowing = c.look_in-found.new.place.me.0 in let l : ℕ = c.args.link in
     let i : InLog Contents = in_of (own_logs v) l in
-    let i' : InLog Contents = record { seen = (in_of (own_logs v') l).seen; taken = i.taken; marked = false; hears = i.hears; heard = i.heard; look_ins = suc i.look_ins } in
+    let i' : InLog Contents = record { seen = (in_of (own_logs v') l).seen; taken = i.taken; marked = false; hears = i.hears; heard = i.heard; look_ins = suc i.look_ins; released_at = i.released_at } in
     let one = bit_set c.args.ear.now.marks ((wiring c.args.top.now.key).bit l) c.args.wire.now.mask c.requires.reads.wire.mask_is c.if-ear-mask-ne0.true in
     let marked : i.marked ≡ true = c.requires.reads.ear.marked l c.requires.reads.at.below c.requires.reads.at.own refl ∙ eq-eqb _ 1 one in
     ap own_logs c.look_in-found.ensures.found.4 ∙ own_with v (with_in (own_logs v) l i') c.requires.reads.at.manned.speaks

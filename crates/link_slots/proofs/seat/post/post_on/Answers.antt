@@ -52,8 +52,8 @@ returns-clause-left g c =
           let e2 = then_out v speaks l long v1 v2 _ _ e1 c.send.ensures.posted in
           let o1 : OutLog Contents = out_of (own_logs v1) l in
           let at2 : out_of (own_logs v2) l ≡ sent_more o1 c.args.parcel.now = out_after v1 v2 (speaks_after v speaks l long v1 _ e1) l (own_logs v1) _ c.send.ensures.posted (long_after v speaks l long v1 _ e1) in
-          let at3 : out_of (own_logs v3) l ≡ all_offered (out_of (own_logs v2) l) = out_after v2 v3 (speaks_after v speaks l long v2 _ e2) l (own_logs v2) _ c.ring.ensures.rung (long_after v speaks l long v2 _ e2) in
-          let at : out_of (own_logs v3) l ≡ all_offered (sent_more o1 c.args.parcel.now) = at3 ∙ ap all_offered at2 in
+          let at3 : out_of (own_logs v3) l ≡ all_offered (out_of (own_logs v2) l) (out_of (own_logs v3) l).rung_at = out_after v2 v3 (speaks_after v speaks l long v2 _ e2) l (own_logs v2) _ c.ring.ensures.rung (long_after v speaks l long v2 _ e2) in
+          let at : out_of (own_logs v3) l ≡ all_offered (sent_more o1 c.args.parcel.now) (out_of (own_logs v3) l).rung_at = at3 ∙ ap (λ (z : OutLog Contents). all_offered z (out_of (own_logs v3) l).rung_at) at2 in
           let k : ℕ = c.make_room.new.end.spare - 1 in
           let more : c.make_room.new.end.spare ≡ suc k = (let n = c.if-end-eq0.false in omega arith) in
           end_posted key.slots o1 (out_of (own_logs v3) l) c.args.parcel.now c.make_room.new.end.sent k _
@@ -73,8 +73,8 @@ returns-clause-link g c =
     let e1 = c.make_room.ensures.left.here in
     let e2 = then_out v speaks l long v1 v2 _ _ e1 c.send.ensures.posted in
     let at2 : out_of (own_logs v2) l ≡ sent_more (out_of (own_logs v1) l) c.args.parcel.now = out_after v1 v2 (speaks_after v speaks l long v1 _ e1) l (own_logs v1) _ c.send.ensures.posted (long_after v speaks l long v1 _ e1) in
-    let at3 : out_of (own_logs v3) l ≡ all_offered (out_of (own_logs v2) l) = out_after v2 v3 (speaks_after v speaks l long v2 _ e2) l (own_logs v2) _ c.ring.ensures.rung (long_after v speaks l long v2 _ e2) in
-    let at : out_of (own_logs v3) l ≡ all_offered (sent_more (out_of (own_logs v1) l) c.args.parcel.now) = at3 ∙ ap all_offered at2 in
+    let at3 : out_of (own_logs v3) l ≡ all_offered (out_of (own_logs v2) l) (out_of (own_logs v3) l).rung_at = out_after v2 v3 (speaks_after v speaks l long v2 _ e2) l (own_logs v2) _ c.ring.ensures.rung (long_after v speaks l long v2 _ e2) in
+    let at : out_of (own_logs v3) l ≡ all_offered (sent_more (out_of (own_logs v1) l) c.args.parcel.now) (out_of (own_logs v3) l).rung_at = at3 ∙ ap (λ (z : OutLog Contents). all_offered z (out_of (own_logs v3) l).rung_at) at2 in
     let looks = ap (λ (z : OutLog Contents). z.looks) at in
     let once = c.make_room.ensures.once in
     let more = c.make_room.ensures.looks in

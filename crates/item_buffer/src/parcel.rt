@@ -28,8 +28,11 @@ pub struct Parcel<const CAP: usize> {
 /// What a move of the parcel leaves where it is.
 #[derive(Drop)]
 struct Held<const CAP: usize> {
+    /// With the bytes of `after`, these keep other values off the cache lines of the entries.
+    before: [u64; 8],
     /// `CAP` places, always full, so that a clear writes no place.
     places: ArrayVec<Entry, CAP>,
+    after: [u64; 8],
 }
 
 impl<const CAP: usize> Model for Parcel<CAP> {
@@ -59,7 +62,11 @@ impl<const CAP: usize> Parcel<CAP> {
         ensures { IfOk result (λ p. p ≡ blank 0) }
     {
         let places = ArrayVec::from_array_in((), [Entry::default(); CAP]);
-        let held = Held { places };
+        let held = Held {
+            before: [0; 8],
+            places,
+            after: [0; 8],
+        };
         Ok(Parcel {
             held: Box::new(alloc, held)?,
             epoch: 0,

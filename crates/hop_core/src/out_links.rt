@@ -18,8 +18,6 @@ pub struct OutLink<const CAP: usize> {
     parcel: Parcel<CAP>,
     /// Whether the last parcel of this epoch was sent.
     closed: bool,
-    /// Fills a link up to 32 bytes: its place in a list is a shift of its number.
-    _filler: u64,
 }
 
 impl<const CAP: usize> Model for OutLink<CAP> {
@@ -39,7 +37,6 @@ impl<const CAP: usize> OutLink<CAP> {
         Ok(OutLink {
             parcel: Parcel::new(alloc)?,
             closed: false,
-            _filler: 0,
         })
     }
 

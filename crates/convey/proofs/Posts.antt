@@ -168,22 +168,23 @@ not_due st number l b s h n is fails d =
     (subst (λ i. is_due st.cap st.steady (at_end st.dims st.ins st.done (hop_at st.dims l)) (out_at st i) ≡ true) (sym n) d) in
     false≢true (sym fails ∙ (is ∙ due))
 
--- an empty parcel stands in its place
-pub place_empty : (st mid : State) (number : ℕ) (o : Out) → IsState st → number < sum st.dims → mid ≡ record st { outs = slice_set st.outs number o; pulled = None } → o.parcel ≡ blank st.epoch
-    → (out_at mid number).parcel ≡ blank mid.epoch
-place_empty st mid number o s q e b =
-    subst (λ (u : State). (out_at u number).parcel ≡ blank u.epoch) (sym e) (ap (λ y. y.parcel) (get_or-set_same st.outs number o no_out (omega (arith, q, s.all_outs))) ∙ b)
-
 -- the state where it was sent, and where it was put back
 pub opened : (st new : State) (number l : ℕ) (o : Out) → number ≡ out_index st.dims l → new ≡ record st { outs = slice_set st.outs number o; pulled = None } → new ≡ with_open st (out_index st.dims l) o
 opened st new number l o n e = e ∙ ap (λ i. with_open st i o) n
 
-pub reopened : (st mid new : State) (number l : ℕ) (y o : Out) → number ≡ out_index st.dims l → mid ≡ record st { outs = slice_set st.outs number y; pulled = None }
-    → new ≡ record mid { outs = slice_set mid.outs number o; pulled = None } → new ≡ with_open st (out_index st.dims l) o
-reopened st mid new number l y o n p q =
+pub sent_from : (st mid new : State) (number j l : ℕ) (y o : Out) → number ≡ out_index st.dims l → j ≡ number → mid ≡ record st { outs = slice_set st.outs number y; pulled = None }
+    → new ≡ record mid { outs = slice_set mid.outs j o } → new ≡ with_open st (out_index st.dims l) o
+sent_from st mid new number j l y o n same p q =
+    let back : State → State = λ u. record u { outs = slice_set u.outs number o } in
+    let put : List Out → State = λ outs. record st { outs = outs; pulled = None } in
+    opened st new number l o n (q ∙ (ap (λ i. record mid { outs = slice_set mid.outs i o }) same ∙ (ap back p ∙ ap put (set-set st.outs number y o))))
+
+pub reopened : (st mid new : State) (number j l : ℕ) (y o : Out) → number ≡ out_index st.dims l → j ≡ number → mid ≡ record st { outs = slice_set st.outs number y; pulled = None }
+    → new ≡ record mid { outs = slice_set mid.outs j o; pulled = None } → new ≡ with_open st (out_index st.dims l) o
+reopened st mid new number j l y o n same p q =
     let back : State → State = λ u. record u { outs = slice_set u.outs number o; pulled = None } in
     let put : List Out → State = λ outs. record st { outs = outs; pulled = None } in
-    opened st new number l o n (q ∙ (ap back p ∙ ap put (set-set st.outs number y o)))
+    opened st new number l o n (q ∙ (ap (λ i. record mid { outs = slice_set mid.outs i o; pulled = None }) same ∙ (ap back p ∙ ap put (set-set st.outs number y o))))
 
 -- all that a post leaves
 pub record Served (dims : List ℕ) (rank : ℕ) (st new : State) (link : ℕ) (sent sent' got got' : Logs) : Type 0 where

@@ -86,15 +86,18 @@ pub(crate) fn post_one<const CAP: usize, const HOPS: usize, P: Port<CAP>>(
     if !state.due_to(number) {
         return Ok(());
     }
-    state.take_out(number, spare);
+    let outgoing = state.take_out(number, spare);
     match port.post(link, spare) {
-        Ok(Posted::Sent) => Ok(()),
+        Ok(Posted::Sent) => {
+            outgoing.sent();
+            Ok(())
+        }
         Ok(Posted::NoRoom) => {
-            state.put_back(number, spare);
+            outgoing.put_back(spare);
             Ok(())
         }
         Err(fault) => {
-            state.put_back(number, spare);
+            outgoing.put_back(spare);
             Err(fault)
         }
     }

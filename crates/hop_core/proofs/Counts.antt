@@ -37,12 +37,6 @@ module _ {X : Type 0} (test : X → Bool) where
       let n : from_bool (not (test x)) ≡ from_bool (not b) = ap (λ b. from_bool (not b)) now in
       omega (arith, written xs i x d q, w, n, as_one b)
 
-  -- an element fails from then on
-  pub fails_now : (xs : List X) (i : ℕ) (x d : X) → i < length xs → test x ≡ false → failing test (set xs i x) ≡ failing test xs + from_bool (test (get_or xs i d))
-  fails_now xs i x d q now =
-      let n : from_bool (not (test x)) ≡ 1 = ap (λ b. from_bool (not b)) now in
-      omega (arith, written xs i x d q, n, as_one (test (get_or xs i d)))
-
   -- an element passes or fails as before
   pub as_before : (xs : List X) (i : ℕ) (x d : X) → i < length xs → test x ≡ test (get_or xs i d) → failing test (set xs i x) ≡ failing test xs
   as_before xs i x d q same =
@@ -53,10 +47,6 @@ module _ {X : Type 0} (test : X → Bool) where
   some_fails xs i d q was =
       let w : from_bool (not (test (get_or xs i d))) ≡ 1 = ap (λ b. from_bool (not b)) was in
       omega (arith, get_or-le-sum_by (λ y. from_bool (not (test y))) xs i d q, w)
-
-  pub most_fail : (xs : List X) → failing test xs < length xs + 1
-  most_fail [] = omega arith
-  most_fail (x ∷ xs) = omega (arith, more x xs, one_each (not (test x)), most_fail xs)
 
   pub all_fail : (xs : List X) (d : X) → ((i : ℕ) → i < length xs → test (get_or xs i d) ≡ false) → failing test xs ≡ length xs
   all_fail [] d each = refl

@@ -15,8 +15,8 @@ use Rattle.hop_core.specs.Link.{Out, In, no_out, no_in, is_empty, is_wanted, is_
 use Rattle.hop_core.specs.State.{State, out_at, in_at, at_end, ins_of_hop}
 use Rattle.hop_core.specs.Standing.{IsOut, IsState, IsKept, failing}
 use Rattle.hop_core.proofs.Marks.{at_end_other}
-use Rattle.hop_core.proofs.Counts.{as_before, passes_if, fails_now}
-use Rattle.hop_core.proofs.Standing.{out_written, in_written, state_out, state_in, kept_out, none_some, none_entry, wanted_open, open_unfinished, ends_open, ends_marked, not_last, ins_before, coming_less}
+use Rattle.hop_core.proofs.Counts.{as_before, passes_if}
+use Rattle.hop_core.proofs.Standing.{out_here, out_of, out_written, in_written, state_out, state_in, kept_out, none_some, none_entry, wanted_open, open_unfinished, ends_open, ends_marked, not_last, ins_before, coming_less}
 
 -- an empty parcel of any epoch
 empty_out : (dims : List ℕ) (cap h e : ℕ) (o : Out) → o.parcel ≡ blank e → IsOut dims cap h o
@@ -26,6 +26,11 @@ empty_out dims cap h n o e = record {
   fair = λ k d l. absurd (omega (arith, l, ap (λ c. length c.untaken) e));
   closed_empty = λ _. ap (λ c. c.untaken) e;
 }
+
+-- the parcel of an open link was exchanged
+pub exchanged : (st : State) (i : ℕ) (o o' : Out) (p : Contents) → IsState st → i < sum st.dims → o ≡ get_or st.outs i o → o' ≡ record o { parcel = p } → (out_at st i).closed ≡ false
+    → o' ≡ record { parcel = p; closed = false }
+exchanged st i o o' p k q here wrote open' = wrote ∙ ap (out_of p) (ap (λ y. y.closed) (out_here st i o k q here) ∙ open')
 
 -- an open parcel was taken out for an empty one
 pub out_taken_kept : (st : State) (ends : List Bool) (from count count' coming i e : ℕ) (o : Out) (p : Contents) (last : Bool) → IsKept st ends from count coming → i < sum st.dims →
@@ -37,6 +42,13 @@ out_taken_kept st ends from count count' coming i e o p last k q b l wrote open'
     (empty_out st.dims st.cap (hop_to st.dims i) e o (ap (λ y. y.parcel) wrote ∙ b))
     (λ z. sym l ∙ (sym (ap (λ y. y.closed) wrote) ∙ z)))
     (omega (arith, less, k.open_is, passes_if (λ (y : Out). y.closed) st.outs i o no_out last (omega (arith, q, k.standing.all_outs)) open' (ap (λ y. y.closed) wrote)))
+
+-- the last parcel of a link was sent
+pub closed_kept : (st : State) (ends : List Bool) (from count coming i : ℕ) (o : Out) → IsKept st ends from count coming → i < sum st.dims → out_at st i ≡ out_of (blank st.epoch) false →
+    at_end st.dims st.ins st.done (hop_to st.dims i) ≡ true → st.pulled ≡ None → o ≡ record (out_at st i) { closed = true } → IsKept (record st { outs = set st.outs i o }) ends from (count - 1) coming
+closed_kept st ends from count coming i o k q place ended none wrote =
+    subst (λ p. IsKept (record st { outs = set st.outs i o; pulled = p }) ends from (count - 1) coming) (sym none)
+    (out_taken_kept st ends from count (count - 1) coming i st.epoch o (out_at st i).parcel true k q (ap (λ y. y.parcel) place) (sym ended) wrote (ap (λ y. y.closed) place) refl)
 
 -- another parcel is lent, or none
 pub lent_kept : (st : State) (ends : List Bool) (from count coming : ℕ) (l : Lent) → IsKept st ends from count coming → IsKept (record st { lent = l }) ends from count coming
@@ -75,13 +87,13 @@ out_lent_kept st ends from count coming i e o p l k q b wrote open' =
     (k.open_is ∙ sym (as_before (λ (y : Out). y.closed) st.outs i o no_out (omega (arith, q, k.standing.all_outs)) (still ∙ sym open'))))
 
 -- one was put back
-pub out_back_kept : (st : State) (ends : List Bool) (from count count' coming i : ℕ) (o : Out) (p : Contents) → IsKept st ends from count coming → i < sum st.dims →
+pub out_back_kept : (st : State) (ends : List Bool) (from count coming i : ℕ) (o : Out) (p : Contents) → IsKept st ends from count coming → i < sum st.dims →
     IsFresh p → length p.untaken + p.taken ≤ st.cap → All (λ e. IsFair st.dims (hop_to st.dims i) e.tag) p.untaken → o ≡ record { parcel = p; closed = false } →
-    count' ≡ count + from_bool (out_at st i).closed → IsKept (out_written st i o) ends from count' coming
-out_back_kept st ends from count count' coming i o p k q fresh fits fair wrote more =
+    (out_at st i).closed ≡ false → IsKept (out_written st i o) ends from count coming
+out_back_kept st ends from count coming i o p k q fresh fits fair wrote was =
     let e : o.parcel ≡ p = ap (λ y. y.parcel) wrote in
     let open' : o.closed ≡ false = ap (λ y. y.closed) wrote in
-    kept_out st ends from count count' coming i o k
+    kept_out st ends from count count coming i o k
     (state_out st i o k.standing q
     (record {
       fresh = subst IsFresh (sym e) fresh;
@@ -90,7 +102,7 @@ out_back_kept st ends from count count' coming i o p k q fresh fits fair wrote m
       closed_empty = λ c. absurd (false≢true (sym open' ∙ c));
     })
     (λ c. absurd (false≢true (sym open' ∙ c))))
-    (omega (arith, more, k.open_is, fails_now (λ (y : Out). y.closed) st.outs i o no_out (omega (arith, q, k.standing.all_outs)) open'))
+    (k.open_is ∙ sym (as_before (λ (y : Out). y.closed) st.outs i o no_out (omega (arith, q, k.standing.all_outs)) (open' ∙ sym was)))
 
 -- an inbox that was wanted was filled
 module _ (st : State) (ends : List Bool) (from count coming i : ℕ) (x : In) (p : Contents) (k : IsKept st ends from count coming) (q : i < sum st.dims)

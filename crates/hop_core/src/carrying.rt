@@ -8,13 +8,16 @@ ghost use Rattle.route_tensor.specs.Link.{links};
 ghost use Rattle.route_tensor.specs.Ends.{hop_at, sender_at, reader_at};
 ghost use Rattle.route_tensor.specs.Neighbour.{hop_to, out_index, in_index};
 ghost use Rattle.route_tensor.specs.Tag.{IsFair};
+ghost use Rattle.hop_core.specs.Lending.{IsTakenOut};
 ghost use Rattle.hop_core.specs.Link.{is_due, is_wanted};
 ghost use Rattle.hop_core.specs.State.{out_at, in_at, at_end};
 
 use crate::in_links::hop_finished;
+use crate::outgoing::Outgoing;
 use crate::state::RankState;
 use item_buffer::Parcel;
 use route_tensor::Routes;
+use std::snapshot::Snapshot;
 
 impl<const CAP: usize, const HOPS: usize> RankState<CAP, HOPS> {
     /// Whether the open parcel of this link out is to be sent.
@@ -60,10 +63,10 @@ impl<const CAP: usize, const HOPS: usize> RankState<CAP, HOPS> {
         self.ins[number as usize].is_wanted()
     }
 
-    /// Takes the open parcel toward this neighbour out, which is due, for the empty one at hand. It counts as sent: it is
-    /// marked last exactly where its hop has reached its end, and then the link is closed. `put_back` undoes that.
+    /// Takes the open parcel toward this neighbour out, which is due, for the empty one at hand. It is marked last if and
+    /// only if its hop has reached its end. The state is borrowed until the parcel is noted as sent or put back.
     #[inline]
-    pub fn take_out(&mut self, number: u32, parcel: &mut Parcel<CAP>)
+    pub fn take_out(&mut self, number: u32, parcel: &mut Parcel<CAP>) -> Outgoing<'_, CAP, HOPS>
         requires number { number < sum self.old.dims }
         requires due { is_due self.old.cap self.old.steady
             (at_end self.old.dims self.old.ins self.old.done (hop_to self.old.dims number)) (out_at self.old number)
@@ -75,29 +78,35 @@ impl<const CAP: usize, const HOPS: usize> RankState<CAP, HOPS> {
                   (hop_to self.old.dims number);
               epoch = self.old.epoch;
             } }
-        ensures fresh { IsFresh parcel.new }
-        ensures fair { All (λ e. IsFair self.old.dims (hop_to self.old.dims number) e.tag) parcel.new.untaken }
-        ensures state { self.new ≡ record self.old {
-          outs = slice_set self.old.outs number (record {
-            parcel = blank self.old.epoch;
-            closed = at_end self.old.dims self.old.ins self.old.done (hop_to self.old.dims number);
-          });
+        ensures borrowed { result.state.ghost_name ≡ self.entry.ghost_name }
+        ensures number { result.number ≡ number }
+        ensures lent { result.lent.value ≡ parcel.new }
+        ensures marked { result.last ≡ parcel.new.last }
+        ensures taken { IsTakenOut result.state.now number parcel.new }
+        ensures state { result.state.now ≡ record self.old {
+          outs = slice_set self.old.outs number (record { parcel = blank self.old.epoch; closed = false });
           pulled = None;
         } }
     {
         self.pulled = None;
         let last = self.at_end(number);
-        self.outs[number as usize].exchange(parcel, last);
-        self.still_open -= u32::from(last);
+        self.outs[number as usize].exchange(parcel);
         parcel.set_last(last);
         parcel.set_epoch(self.epoch);
+        let lent = Snapshot::of(parcel);
+        Outgoing {
+            state: self,
+            number,
+            last,
+            lent,
+        }
     }
 
-    /// Puts an open parcel back that was taken out and could not be sent, for the empty one in its place. The link is open.
+    /// Puts an open parcel back into its place, for the empty one there.
     #[inline]
-    pub fn put_back(&mut self, number: u32, parcel: &mut Parcel<CAP>)
+    pub(crate) fn put_in_place(&mut self, number: u32, parcel: &mut Parcel<CAP>)
         requires number { number < sum self.old.dims }
-        requires empty { (out_at self.old number).parcel ≡ blank self.old.epoch }
+        requires place { out_at self.old number ≡ record { parcel = blank self.old.epoch; closed = false } }
         requires fresh { IsFresh parcel.old }
         requires fair { All (λ e. IsFair self.old.dims (hop_to self.old.dims number) e.tag) parcel.old.untaken }
         ensures parcel { parcel.new ≡ blank self.old.epoch }
@@ -108,8 +117,22 @@ impl<const CAP: usize, const HOPS: usize> RankState<CAP, HOPS> {
     {
         self.pulled = None;
         parcel.known();
-        let closed = self.outs[number as usize].exchange(parcel, false);
-        self.still_open += u32::from(closed);
+        self.outs[number as usize].exchange(parcel);
+    }
+
+    /// The link to this neighbour is closed: its last parcel was sent.
+    #[inline]
+    pub(crate) fn close(&mut self, number: u32)
+        requires number { number < sum self.old.dims }
+        requires place { out_at self.old number ≡ record { parcel = blank self.old.epoch; closed = false } }
+        requires pulled { self.old.pulled ≡ None }
+        requires ended { at_end self.old.dims self.old.ins self.old.done (hop_to self.old.dims number) ≡ true }
+        ensures { self.new ≡ record self.old {
+          outs = slice_set self.old.outs number (record { parcel = blank self.old.epoch; closed = true });
+        } }
+    {
+        self.outs[number as usize].close();
+        self.still_open -= 1;
     }
 
     /// Takes a parcel that came from this neighbour into the inbox, which is wanted, for the empty one there. The link has

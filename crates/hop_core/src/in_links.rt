@@ -19,8 +19,6 @@ pub struct InLink<const CAP: usize> {
     parcel: Parcel<CAP>,
     /// Whether the last parcel of this epoch was got.
     ended: bool,
-    /// Fills a link up to 32 bytes: its place in a list is a shift of its number.
-    _filler: u64,
 }
 
 impl<const CAP: usize> Model for InLink<CAP> {
@@ -40,7 +38,6 @@ impl<const CAP: usize> InLink<CAP> {
         Ok(InLink {
             parcel: Parcel::new(alloc)?,
             ended: false,
-            _filler: 0,
         })
     }
 

@@ -59,7 +59,7 @@ impl<const CAP: usize, const HOPS: usize> RankState<CAP, HOPS> {
         let last = self.at_end(number);
         let mut parcel = self.take_spare();
         self.pulled = None;
-        self.outs[number as usize].exchange(&mut parcel, false);
+        self.outs[number as usize].exchange(&mut parcel);
         parcel.set_last(last);
         parcel.set_epoch(self.epoch);
         self.loan = Loan::ToSend(number, last, Snapshot::of(&parcel));
@@ -85,10 +85,9 @@ impl<const CAP: usize, const HOPS: usize> RankState<CAP, HOPS> {
     {
         let number = self.routes.number_to(link);
         let mut parcel = p;
+        self.put_in_place(number, &mut parcel);
         if sent && self.loan.is_last() {
-            self.take_out(number, &mut parcel);
-        } else {
-            self.put_back(number, &mut parcel);
+            self.close(number);
         }
         self.loan = Loan::Nothing(parcel);
     }

@@ -2,8 +2,8 @@
 //!
 //! A rank has one *open parcel* for each link that starts there, which `push` and `relay` fill, and one
 //! *inbox* for each link that ends there, which `relay` and `pull` empty. Whoever carries parcels between
-//! ranks exchanges them for an empty one: `take_out` for an open parcel that is due, and `put_back` where it
-//! could not be sent; `take_in` for an inbox that is wanted. Or they borrow them: `lend_out` and `note_sent`,
+//! ranks exchanges them for an empty one: `take_out` for an open parcel that is due, which borrows the state until
+//! the parcel is noted as `sent` or `put_back`; `take_in` for an inbox that is wanted. Or they borrow them: `lend_out` and `note_sent`,
 //! `lend_in` and `note_got`. A lent parcel leaves the state by a move, and the rank's spare one is in its place
 //! until it comes back. No entry is copied.
 //!
@@ -22,7 +22,8 @@
 //! | Call | What it does |
 //! |---|---|
 //! | `push` | appends an item to the open parcel toward its destination, or finds it full |
-//! | `due`, `due_to`, `take_out`, `put_back` | whether an open parcel is to be sent; exchanges it, and back where it was not sent |
+//! | `due`, `due_to`, `take_out` | whether an open parcel is to be sent; exchanges it for an empty one |
+//! | `Outgoing::sent`, `Outgoing::put_back` | what became of the open parcel that was taken out |
 //! | `wants`, `wants_from`, `take_in` | whether an inbox is to be filled; exchanges it for a parcel that came |
 //! | `lend_out`, `note_sent` | lends an open parcel that is due; takes it back, sent or not |
 //! | `lend_in`, `note_got` | lends an inbox that is wanted; takes it back, filled or not |
@@ -47,11 +48,13 @@ mod in_links;
 mod lending;
 mod loan;
 mod out_links;
+mod outgoing;
 mod phase;
 mod phases;
 mod pulling;
 mod relay;
 mod state;
 
+pub use outgoing::Outgoing;
 pub use phase::{Phase, Pushed};
 pub use state::RankState;

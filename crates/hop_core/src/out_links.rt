@@ -18,8 +18,6 @@ pub struct OutLink<const CAP: usize> {
     parcel: Parcel<CAP>,
     /// Whether the last parcel of this epoch was sent.
     closed: bool,
-    /// Fills a link up to 32 bytes: its place in a list is a shift of its number.
-    _filler: u64,
 }
 
 impl<const CAP: usize> Model for OutLink<CAP> {
@@ -39,7 +37,6 @@ impl<const CAP: usize> OutLink<CAP> {
         Ok(OutLink {
             parcel: Parcel::new(alloc)?,
             closed: false,
-            _filler: 0,
         })
     }
 
@@ -68,16 +65,21 @@ impl<const CAP: usize> OutLink<CAP> {
         self.parcel.len() >= least
     }
 
-    /// Exchanges the parcel at hand for the link's. The link is closed from now on, or open, as told. Answers whether it was
-    /// closed.
+    /// Exchanges the parcel at hand for the link's.
     #[inline]
-    pub fn exchange(&mut self, parcel: &mut Parcel<CAP>, closed: bool) -> bool
-        ensures value { result ≡ self.old.closed }
+    pub fn exchange(&mut self, parcel: &mut Parcel<CAP>)
         ensures parcel { parcel.new ≡ self.old.parcel }
-        ensures state { self.new ≡ record { parcel = parcel.old; closed = closed } }
+        ensures state { self.new ≡ record self.old { parcel = parcel.old } }
     {
         mem::swap(&mut self.parcel, parcel);
-        mem::replace(&mut self.closed, closed)
+    }
+
+    /// The last parcel of this epoch was sent.
+    #[inline]
+    pub fn close(&mut self)
+        ensures { self.new ≡ record self.old { closed = true } }
+    {
+        self.closed = true;
     }
 
     /// A new epoch begins.

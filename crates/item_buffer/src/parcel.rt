@@ -13,6 +13,8 @@ use std::marker::Model;
 #[derive(Drop)]
 pub struct Parcel<const CAP: usize> {
     held: Box<Held<CAP>>,
+    /// Counts from 0. It is beside the counts so that a reader of the entries writes none of their memory.
+    epoch: u64,
     /// How many of the places, from the first one on, hold an entry pushed since the last clear.
     pushed: u16,
     /// How many of those entries are taken.
@@ -26,10 +28,11 @@ pub struct Parcel<const CAP: usize> {
 /// What a move of the parcel leaves where it is.
 #[derive(Drop)]
 struct Held<const CAP: usize> {
-    /// Counts from 0.
-    epoch: u64,
+    /// With the bytes of `after`, these keep other values off the cache lines of the entries.
+    before: [u64; 8],
     /// `CAP` places, always full, so that a clear writes no place.
     places: ArrayVec<Entry, CAP>,
+    after: [u64; 8],
 }
 
 impl<const CAP: usize> Model for Parcel<CAP> {
@@ -42,7 +45,7 @@ impl<const CAP: usize> Model for Parcel<CAP> {
     ghost view = { λ p. record {
       untaken = drop p.taken (take p.pushed p.held.value.places.items);
       last = p.last;
-      epoch = p.held.value.epoch;
+      epoch = p.epoch;
       back = (if p.can_untake then slice_get (take p.pushed p.held.value.places.items) (p.taken - 1) else None);
       taken = p.taken;
     } };
@@ -59,9 +62,14 @@ impl<const CAP: usize> Parcel<CAP> {
         ensures { IfOk result (λ p. p ≡ blank 0) }
     {
         let places = ArrayVec::from_array_in((), [Entry::default(); CAP]);
-        let held = Held { epoch: 0, places };
+        let held = Held {
+            before: [0; 8],
+            places,
+            after: [0; 8],
+        };
         Ok(Parcel {
             held: Box::new(alloc, held)?,
+            epoch: 0,
             pushed: 0,
             taken: 0,
             can_untake: false,
@@ -218,7 +226,7 @@ impl<const CAP: usize> Parcel<CAP> {
     pub fn epoch(&self) -> u64
         ensures { result ≡ self.now.epoch }
     {
-        self.held.epoch
+        self.epoch
     }
 
     /// Sets the epoch.
@@ -226,6 +234,6 @@ impl<const CAP: usize> Parcel<CAP> {
     pub fn set_epoch(&mut self, epoch: u64)
         ensures { self.new ≡ record self.old { epoch = epoch } }
     {
-        self.held.epoch = epoch;
+        self.epoch = epoch;
     }
 }

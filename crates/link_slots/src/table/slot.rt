@@ -13,7 +13,7 @@ use std::marker::Model;
 pub struct Slot<const CAP: usize> {
     pub(crate) parcel: Parcel<CAP>,
     /// Fills a slot up to 128 bytes, so that it shares no cache line with a slot that another thread is at.
-    _filler: [u64; 14],
+    _filler: [u64; 13],
 }
 
 impl<const CAP: usize> Model for Slot<CAP> {
@@ -32,7 +32,7 @@ impl<const CAP: usize> Slot<CAP> {
     {
         Ok(Slot {
             parcel: Parcel::new(alloc)?,
-            _filler: [0; 14],
+            _filler: [0; 13],
         })
     }
 }

@@ -15,7 +15,7 @@ use Rattle.hop_core.specs.State.{State}
 use Rattle.convey.specs.Buffers.{out_of}
 use Rattle.convey.proofs.States.{out_number}
 use Rattle.convey.proofs.Collects.{grew}
-use Rattle.convey.proofs.Posts.{taken_out, not_due, place_empty, opened, reopened, may_post, dated, served_one, served_none, still_waits, still_due, no_longer_due}
+use Rattle.convey.proofs.Posts.{taken_out, not_due, sent_from, reopened, may_post, dated, served_one, served_none, still_waits, still_due, no_longer_due}
 use Rattle.port_bank.specs.Calls.{once_if}
 use Rattle.port_bank.specs.Calls.Call.{Post}
 use Rattle.convey.proofs.Ways.{posts_first}
@@ -40,17 +40,17 @@ post-requires g c =
     let s = c.known.ensures.standing in
     let below : c.args.link < links st.dims = subst (λ ds. c.args.link < links ds) (sym c.requires.ready.same_dims) c.requires.link in
     let n : c.args.number ≡ out_index st.dims c.args.link = c.requires.number ∙ ap (λ ds. out_index ds c.args.link) (sym c.requires.ready.same_dims) in
-    let t = taken_out st c.args.number c.args.link c.take_out.new.parcel s below n (sym c.due_to.ensures ∙ c.if-not-due_to.false) c.take_out.ensures.parcel in
-    let q = shipped c.take_out.new.parcel in (
+    let t = taken_out st c.args.number c.args.link c.take_out-outgoing.new.parcel s below n (sym c.due_to.ensures ∙ c.if-not-due_to.false) c.take_out-outgoing.ensures.parcel in
+    let q = shipped c.take_out-outgoing.new.parcel in (
       search rules,
       (
         c.requires.link,
         (
           c.requires.starts_here,
           (
-            c.take_out.ensures.fresh.none_taken,
+            c.take_out-outgoing.ensures.taken.fresh.none_taken,
             (
-              ap (λ p. p.epoch) c.take_out.ensures.parcel ∙ dated (g.P.Port.dims c.args.port.now) (g.P.Port.rank c.args.port.now) st st c.args.link (out_of st c.args.link) q _ (g.P.Port.sent c.args.port.now) _ (g.P.Port.got c.args.port.now) s c.requires.ready c.requires.link c.requires.starts_here t.due t.entries t.last refl,
+              ap (λ p. p.epoch) c.take_out-outgoing.ensures.parcel ∙ dated (g.P.Port.dims c.args.port.now) (g.P.Port.rank c.args.port.now) st st c.args.link (out_of st c.args.link) q _ (g.P.Port.sent c.args.port.now) _ (g.P.Port.got c.args.port.now) s c.requires.ready c.requires.link c.requires.starts_here t.due t.entries t.last refl,
               may_post _ _ st st c.args.link (out_of st c.args.link) q _ (g.P.Port.sent c.args.port.now) _ (g.P.Port.got c.args.port.now) s c.requires.ready c.requires.link c.requires.starts_here t.due t.entries t.last refl,
             ),
           ),
@@ -64,12 +64,13 @@ returns-in-Ok-Sent-clause-leaves g c =
     let s = c.known.ensures.standing in
     let below : c.args.link < links st.dims = subst (λ ds. c.args.link < links ds) (sym c.requires.ready.same_dims) c.requires.link in
     let n : c.args.number ≡ out_index st.dims c.args.link = c.requires.number ∙ ap (λ ds. out_index ds c.args.link) (sym c.requires.ready.same_dims) in
-    let t = taken_out st c.args.number c.args.link c.take_out.new.parcel s below n (sym c.due_to.ensures ∙ c.if-not-due_to.false) c.take_out.ensures.parcel in
-    let q = shipped c.take_out.new.parcel in
+    let t = taken_out st c.args.number c.args.link c.take_out-outgoing.new.parcel s below n (sym c.due_to.ensures ∙ c.if-not-due_to.false) c.take_out-outgoing.ensures.parcel in
+    let q = shipped c.take_out-outgoing.new.parcel in
     let e = c.post.ensures in
     let was : c.post.result ≡ Ok Sent = c.in-Ok-Sent.is ∙ ap Ok c.in-Ok-Sent.field-0-is in
-    let new = opened st c.take_out.new.self c.args.number c.args.link _ n c.take_out.ensures.state in
-    let closes = sym (ap (λ p. p.last) c.take_out.ensures.parcel) in
+    let over = sym c.take_out-outgoing.ensures.borrowed in
+    let new = sent_from st c.take_out-outgoing.result.state.now c.state-1.given.0 c.args.number c.take_out-outgoing.result.number c.args.link _ _ n c.take_out-outgoing.ensures.number c.take_out-outgoing.ensures.state (c.state-1.given.1 over ∙ c.sent.ensures) in
+    let closes = ap (λ p. p.last) c.take_out-outgoing.ensures.lent in
     let more = ap (λ logs. logs c.args.link) (e.sent was) ∙ added-here (g.P.Port.sent c.args.port.now) c.args.link q in
     let one = (served_one _ _ st _ c.args.link _ q _ _ _ _ s c.requires.ready c.requires.link c.requires.starts_here t.due t.entries t.last e.same_ins.got new refl closes (e.sent was)) in
     record {
@@ -90,11 +91,12 @@ returns-in-Ok-NoRoom-clause-leaves g c =
     let s = c.known.ensures.standing in
     let below : c.args.link < links st.dims = subst (λ ds. c.args.link < links ds) (sym c.requires.ready.same_dims) c.requires.link in
     let n : c.args.number ≡ out_index st.dims c.args.link = c.requires.number ∙ ap (λ ds. out_index ds c.args.link) (sym c.requires.ready.same_dims) in
-    let t = taken_out st c.args.number c.args.link c.take_out.new.parcel s below n (sym c.due_to.ensures ∙ c.if-not-due_to.false) c.take_out.ensures.parcel in
-    let q = shipped c.take_out.new.parcel in
+    let t = taken_out st c.args.number c.args.link c.take_out-outgoing.new.parcel s below n (sym c.due_to.ensures ∙ c.if-not-due_to.false) c.take_out-outgoing.ensures.parcel in
+    let q = shipped c.take_out-outgoing.new.parcel in
     let e = c.post.ensures in
     let no = not_sent _ (c.in-Ok-NoRoom.is ∙ ap Ok c.in-Ok-NoRoom.field-0-is) in
-    let new = reopened st c.take_out.new.self c.put_back.new.self c.args.number c.args.link _ _ n c.take_out.ensures.state c.put_back.ensures.state in
+    let over = sym c.take_out-outgoing.ensures.borrowed in
+    let new = reopened st c.take_out-outgoing.result.state.now c.state-in-Ok-NoRoom-1.given.0 c.args.number c.take_out-outgoing.result.number c.args.link _ _ n c.take_out-outgoing.ensures.number c.take_out-outgoing.ensures.state (c.state-in-Ok-NoRoom-1.given.1 over ∙ c.put_back.ensures.state) in
     let keeps = ap (λ p. p.untaken) (e.kept no) ∙ t.entries in
     let none = (served_none _ _ st _ c.args.link _ q _ _ _ _ s c.requires.ready c.requires.link c.requires.starts_here t.due t.entries t.last e.same_ins.got new keeps refl (e.not_sent no)) in
     record {
@@ -112,11 +114,12 @@ returns-in-Err-clause-leaves g c =
     let s = c.known.ensures.standing in
     let below : c.args.link < links st.dims = subst (λ ds. c.args.link < links ds) (sym c.requires.ready.same_dims) c.requires.link in
     let n : c.args.number ≡ out_index st.dims c.args.link = c.requires.number ∙ ap (λ ds. out_index ds c.args.link) (sym c.requires.ready.same_dims) in
-    let t = taken_out st c.args.number c.args.link c.take_out.new.parcel s below n (sym c.due_to.ensures ∙ c.if-not-due_to.false) c.take_out.ensures.parcel in
-    let q = shipped c.take_out.new.parcel in
+    let t = taken_out st c.args.number c.args.link c.take_out-outgoing.new.parcel s below n (sym c.due_to.ensures ∙ c.if-not-due_to.false) c.take_out-outgoing.ensures.parcel in
+    let q = shipped c.take_out-outgoing.new.parcel in
     let e = c.post.ensures in
     let no = failed _ _ c.in-Err.is in
-    let new = reopened st c.take_out.new.self c.put_back-in-Err.new.self c.args.number c.args.link _ _ n c.take_out.ensures.state c.put_back-in-Err.ensures.state in
+    let over = sym c.take_out-outgoing.ensures.borrowed in
+    let new = reopened st c.take_out-outgoing.result.state.now c.state-in-Err-1.given.0 c.args.number c.take_out-outgoing.result.number c.args.link _ _ n c.take_out-outgoing.ensures.number c.take_out-outgoing.ensures.state (c.state-in-Err-1.given.1 over ∙ c.put_back-in-Err.ensures.state) in
     let keeps = ap (λ p. p.untaken) (e.kept no) ∙ t.entries in
     let none = (served_none _ _ st _ c.args.link _ q _ _ _ _ s c.requires.ready c.requires.link c.requires.starts_here t.due t.entries t.last e.same_ins.got new keeps refl (e.not_sent no)) in
     record {
@@ -137,12 +140,13 @@ returns-in-Ok-Sent-clause-out g c =
     let s = c.known.ensures.standing in
     let below : c.args.link < links st.dims = subst (λ ds. c.args.link < links ds) (sym c.requires.ready.same_dims) c.requires.link in
     let n : c.args.number ≡ out_index st.dims c.args.link = c.requires.number ∙ ap (λ ds. out_index ds c.args.link) (sym c.requires.ready.same_dims) in
-    let t = taken_out st c.args.number c.args.link c.take_out.new.parcel s below n (sym c.due_to.ensures ∙ c.if-not-due_to.false) c.take_out.ensures.parcel in
-    let q = shipped c.take_out.new.parcel in
+    let t = taken_out st c.args.number c.args.link c.take_out-outgoing.new.parcel s below n (sym c.due_to.ensures ∙ c.if-not-due_to.false) c.take_out-outgoing.ensures.parcel in
+    let q = shipped c.take_out-outgoing.new.parcel in
     let e = c.post.ensures in
     let was : c.post.result ≡ Ok Sent = c.in-Ok-Sent.is ∙ ap Ok c.in-Ok-Sent.field-0-is in
-    let new = opened st c.take_out.new.self c.args.number c.args.link _ n c.take_out.ensures.state in
-    let closes = sym (ap (λ p. p.last) c.take_out.ensures.parcel) in
+    let over = sym c.take_out-outgoing.ensures.borrowed in
+    let new = sent_from st c.take_out-outgoing.result.state.now c.state-1.given.0 c.args.number c.take_out-outgoing.result.number c.args.link _ _ n c.take_out-outgoing.ensures.number c.take_out-outgoing.ensures.state (c.state-1.given.1 over ∙ c.sent.ensures) in
+    let closes = ap (λ p. p.last) c.take_out-outgoing.ensures.lent in
     (served_one _ _ st _ c.args.link _ q _ _ _ _ s c.requires.ready c.requires.link c.requires.starts_here t.due t.entries t.last e.same_ins.got new refl closes (e.sent was)).out
 
 pub returns-in-Ok-Sent-clause-served : goal.returns-in-Ok-Sent-clause-served
@@ -151,12 +155,13 @@ returns-in-Ok-Sent-clause-served g c =
     let s = c.known.ensures.standing in
     let below : c.args.link < links st.dims = subst (λ ds. c.args.link < links ds) (sym c.requires.ready.same_dims) c.requires.link in
     let n : c.args.number ≡ out_index st.dims c.args.link = c.requires.number ∙ ap (λ ds. out_index ds c.args.link) (sym c.requires.ready.same_dims) in
-    let t = taken_out st c.args.number c.args.link c.take_out.new.parcel s below n (sym c.due_to.ensures ∙ c.if-not-due_to.false) c.take_out.ensures.parcel in
-    let q = shipped c.take_out.new.parcel in
+    let t = taken_out st c.args.number c.args.link c.take_out-outgoing.new.parcel s below n (sym c.due_to.ensures ∙ c.if-not-due_to.false) c.take_out-outgoing.ensures.parcel in
+    let q = shipped c.take_out-outgoing.new.parcel in
     let e = c.post.ensures in
     let was : c.post.result ≡ Ok Sent = c.in-Ok-Sent.is ∙ ap Ok c.in-Ok-Sent.field-0-is in
-    let new = opened st c.take_out.new.self c.args.number c.args.link _ n c.take_out.ensures.state in
-    let closes = sym (ap (λ p. p.last) c.take_out.ensures.parcel) in
+    let over = sym c.take_out-outgoing.ensures.borrowed in
+    let new = sent_from st c.take_out-outgoing.result.state.now c.state-1.given.0 c.args.number c.take_out-outgoing.result.number c.args.link _ _ n c.take_out-outgoing.ensures.number c.take_out-outgoing.ensures.state (c.state-1.given.1 over ∙ c.sent.ensures) in
+    let closes = ap (λ p. p.last) c.take_out-outgoing.ensures.lent in
     let no = no_longer_due _ _ st _ c.args.link _ q _ (g.P.Port.sent c.args.port.now) _ _ s c.requires.ready c.requires.link c.requires.starts_here t.due t.entries t.last e.same_ins.got new refl closes in
     record { looked = λ d. absurd (no d); crowded = λ d. absurd (no d) }
 
@@ -166,12 +171,13 @@ returns-in-Ok-Sent-clause-waits g c =
     let s = c.known.ensures.standing in
     let below : c.args.link < links st.dims = subst (λ ds. c.args.link < links ds) (sym c.requires.ready.same_dims) c.requires.link in
     let n : c.args.number ≡ out_index st.dims c.args.link = c.requires.number ∙ ap (λ ds. out_index ds c.args.link) (sym c.requires.ready.same_dims) in
-    let t = taken_out st c.args.number c.args.link c.take_out.new.parcel s below n (sym c.due_to.ensures ∙ c.if-not-due_to.false) c.take_out.ensures.parcel in
-    let q = shipped c.take_out.new.parcel in
+    let t = taken_out st c.args.number c.args.link c.take_out-outgoing.new.parcel s below n (sym c.due_to.ensures ∙ c.if-not-due_to.false) c.take_out-outgoing.ensures.parcel in
+    let q = shipped c.take_out-outgoing.new.parcel in
     let e = c.post.ensures in
     let was : c.post.result ≡ Ok Sent = c.in-Ok-Sent.is ∙ ap Ok c.in-Ok-Sent.field-0-is in
-    let new = opened st c.take_out.new.self c.args.number c.args.link _ n c.take_out.ensures.state in
-    let closes = sym (ap (λ p. p.last) c.take_out.ensures.parcel) in
+    let over = sym c.take_out-outgoing.ensures.borrowed in
+    let new = sent_from st c.take_out-outgoing.result.state.now c.state-1.given.0 c.args.number c.take_out-outgoing.result.number c.args.link _ _ n c.take_out-outgoing.ensures.number c.take_out-outgoing.ensures.state (c.state-1.given.1 over ∙ c.sent.ensures) in
+    let closes = ap (λ p. p.last) c.take_out-outgoing.ensures.lent in
     let more = ap (λ logs. logs c.args.link) (e.sent was) ∙ added-here (g.P.Port.sent c.args.port.now) c.args.link q in
     λ same. absurd (grew _ _ (sym more ∙ same))
 
@@ -181,11 +187,12 @@ returns-in-Ok-NoRoom-clause-out g c =
     let s = c.known.ensures.standing in
     let below : c.args.link < links st.dims = subst (λ ds. c.args.link < links ds) (sym c.requires.ready.same_dims) c.requires.link in
     let n : c.args.number ≡ out_index st.dims c.args.link = c.requires.number ∙ ap (λ ds. out_index ds c.args.link) (sym c.requires.ready.same_dims) in
-    let t = taken_out st c.args.number c.args.link c.take_out.new.parcel s below n (sym c.due_to.ensures ∙ c.if-not-due_to.false) c.take_out.ensures.parcel in
-    let q = shipped c.take_out.new.parcel in
+    let t = taken_out st c.args.number c.args.link c.take_out-outgoing.new.parcel s below n (sym c.due_to.ensures ∙ c.if-not-due_to.false) c.take_out-outgoing.ensures.parcel in
+    let q = shipped c.take_out-outgoing.new.parcel in
     let e = c.post.ensures in
     let no = not_sent _ (c.in-Ok-NoRoom.is ∙ ap Ok c.in-Ok-NoRoom.field-0-is) in
-    let new = reopened st c.take_out.new.self c.put_back.new.self c.args.number c.args.link _ _ n c.take_out.ensures.state c.put_back.ensures.state in
+    let over = sym c.take_out-outgoing.ensures.borrowed in
+    let new = reopened st c.take_out-outgoing.result.state.now c.state-in-Ok-NoRoom-1.given.0 c.args.number c.take_out-outgoing.result.number c.args.link _ _ n c.take_out-outgoing.ensures.number c.take_out-outgoing.ensures.state (c.state-in-Ok-NoRoom-1.given.1 over ∙ c.put_back.ensures.state) in
     let keeps = ap (λ p. p.untaken) (e.kept no) ∙ t.entries in
     (served_none _ _ st _ c.args.link _ q _ _ _ _ s c.requires.ready c.requires.link c.requires.starts_here t.due t.entries t.last e.same_ins.got new keeps refl (e.not_sent no)).out
 
@@ -195,11 +202,12 @@ returns-in-Ok-NoRoom-clause-waits g c =
     let s = c.known.ensures.standing in
     let below : c.args.link < links st.dims = subst (λ ds. c.args.link < links ds) (sym c.requires.ready.same_dims) c.requires.link in
     let n : c.args.number ≡ out_index st.dims c.args.link = c.requires.number ∙ ap (λ ds. out_index ds c.args.link) (sym c.requires.ready.same_dims) in
-    let t = taken_out st c.args.number c.args.link c.take_out.new.parcel s below n (sym c.due_to.ensures ∙ c.if-not-due_to.false) c.take_out.ensures.parcel in
-    let q = shipped c.take_out.new.parcel in
+    let t = taken_out st c.args.number c.args.link c.take_out-outgoing.new.parcel s below n (sym c.due_to.ensures ∙ c.if-not-due_to.false) c.take_out-outgoing.ensures.parcel in
+    let q = shipped c.take_out-outgoing.new.parcel in
     let e = c.post.ensures in
     let no = not_sent _ (c.in-Ok-NoRoom.is ∙ ap Ok c.in-Ok-NoRoom.field-0-is) in
-    let new = reopened st c.take_out.new.self c.put_back.new.self c.args.number c.args.link _ _ n c.take_out.ensures.state c.put_back.ensures.state in
+    let over = sym c.take_out-outgoing.ensures.borrowed in
+    let new = reopened st c.take_out-outgoing.result.state.now c.state-in-Ok-NoRoom-1.given.0 c.args.number c.take_out-outgoing.result.number c.args.link _ _ n c.take_out-outgoing.ensures.number c.take_out-outgoing.ensures.state (c.state-in-Ok-NoRoom-1.given.1 over ∙ c.put_back.ensures.state) in
     let keeps = ap (λ p. p.untaken) (e.kept no) ∙ t.entries in
     λ same. still_waits _ _ st _ c.args.link _ q _ (g.P.Port.sent c.args.port.now) _ _ s c.requires.ready c.requires.link c.requires.starts_here t.due t.entries t.last e.same_ins.got new keeps
 
@@ -209,11 +217,12 @@ returns-in-Err-clause-out g c =
     let s = c.known.ensures.standing in
     let below : c.args.link < links st.dims = subst (λ ds. c.args.link < links ds) (sym c.requires.ready.same_dims) c.requires.link in
     let n : c.args.number ≡ out_index st.dims c.args.link = c.requires.number ∙ ap (λ ds. out_index ds c.args.link) (sym c.requires.ready.same_dims) in
-    let t = taken_out st c.args.number c.args.link c.take_out.new.parcel s below n (sym c.due_to.ensures ∙ c.if-not-due_to.false) c.take_out.ensures.parcel in
-    let q = shipped c.take_out.new.parcel in
+    let t = taken_out st c.args.number c.args.link c.take_out-outgoing.new.parcel s below n (sym c.due_to.ensures ∙ c.if-not-due_to.false) c.take_out-outgoing.ensures.parcel in
+    let q = shipped c.take_out-outgoing.new.parcel in
     let e = c.post.ensures in
     let no = failed _ _ c.in-Err.is in
-    let new = reopened st c.take_out.new.self c.put_back-in-Err.new.self c.args.number c.args.link _ _ n c.take_out.ensures.state c.put_back-in-Err.ensures.state in
+    let over = sym c.take_out-outgoing.ensures.borrowed in
+    let new = reopened st c.take_out-outgoing.result.state.now c.state-in-Err-1.given.0 c.args.number c.take_out-outgoing.result.number c.args.link _ _ n c.take_out-outgoing.ensures.number c.take_out-outgoing.ensures.state (c.state-in-Err-1.given.1 over ∙ c.put_back-in-Err.ensures.state) in
     let keeps = ap (λ p. p.untaken) (e.kept no) ∙ t.entries in
     (served_none _ _ st _ c.args.link _ q _ _ _ _ s c.requires.ready c.requires.link c.requires.starts_here t.due t.entries t.last e.same_ins.got new keeps refl (e.not_sent no)).out
 
@@ -223,11 +232,12 @@ returns-in-Err-clause-waits g c =
     let s = c.known.ensures.standing in
     let below : c.args.link < links st.dims = subst (λ ds. c.args.link < links ds) (sym c.requires.ready.same_dims) c.requires.link in
     let n : c.args.number ≡ out_index st.dims c.args.link = c.requires.number ∙ ap (λ ds. out_index ds c.args.link) (sym c.requires.ready.same_dims) in
-    let t = taken_out st c.args.number c.args.link c.take_out.new.parcel s below n (sym c.due_to.ensures ∙ c.if-not-due_to.false) c.take_out.ensures.parcel in
-    let q = shipped c.take_out.new.parcel in
+    let t = taken_out st c.args.number c.args.link c.take_out-outgoing.new.parcel s below n (sym c.due_to.ensures ∙ c.if-not-due_to.false) c.take_out-outgoing.ensures.parcel in
+    let q = shipped c.take_out-outgoing.new.parcel in
     let e = c.post.ensures in
     let no = failed _ _ c.in-Err.is in
-    let new = reopened st c.take_out.new.self c.put_back-in-Err.new.self c.args.number c.args.link _ _ n c.take_out.ensures.state c.put_back-in-Err.ensures.state in
+    let over = sym c.take_out-outgoing.ensures.borrowed in
+    let new = reopened st c.take_out-outgoing.result.state.now c.state-in-Err-1.given.0 c.args.number c.take_out-outgoing.result.number c.args.link _ _ n c.take_out-outgoing.ensures.number c.take_out-outgoing.ensures.state (c.state-in-Err-1.given.1 over ∙ c.put_back-in-Err.ensures.state) in
     let keeps = ap (λ p. p.untaken) (e.kept no) ∙ t.entries in
     λ same. still_waits _ _ st _ c.args.link _ q _ (g.P.Port.sent c.args.port.now) _ _ s c.requires.ready c.requires.link c.requires.starts_here t.due t.entries t.last e.same_ins.got new keeps
 
@@ -255,68 +265,14 @@ returns-then-not-due_to-clause-served g c =
     let no = not_due st c.args.number c.args.link _ s below n c.due_to.ensures c.if-not-due_to.true in
     record { looked = λ d. absurd (no d); crowded = λ d. absurd (no d) }
 
-pub take_out-requires : goal.take_out-requires
-take_out-requires g c =
+pub take_out-outgoing-requires : goal.take_out-outgoing-requires
+take_out-outgoing-requires g c =
     let st = c.args.state.now in
     let s = c.known.ensures.standing in
     let below : c.args.link < links st.dims = subst (λ ds. c.args.link < links ds) (sym c.requires.ready.same_dims) c.requires.link in
     let n : c.args.number ≡ out_index st.dims c.args.link = c.requires.number ∙ ap (λ ds. out_index ds c.args.link) (sym c.requires.ready.same_dims) in
     let within : c.args.number < sum st.dims = subst (λ i. i < sum st.dims) (sym n) (out_number st.dims c.args.link s.grid below).within in
-    (search rules, (search rules, (within, (sym c.due_to.ensures ∙ c.if-not-due_to.false, c.requires.empty))))
-
-pub put_back-requires : goal.put_back-requires
-put_back-requires g c =
-    let st = c.args.state.now in
-    let s = c.known.ensures.standing in
-    let below : c.args.link < links st.dims = subst (λ ds. c.args.link < links ds) (sym c.requires.ready.same_dims) c.requires.link in
-    let n : c.args.number ≡ out_index st.dims c.args.link = c.requires.number ∙ ap (λ ds. out_index ds c.args.link) (sym c.requires.ready.same_dims) in
-    let within : c.args.number < sum st.dims = subst (λ i. i < sum st.dims) (sym n) (out_number st.dims c.args.link s.grid below).within in
-    let no = not_sent _ (c.in-Ok-NoRoom.is ∙ ap Ok c.in-Ok-NoRoom.field-0-is) in
-    let back = c.post.ensures.kept no in
-    let mid = c.take_out.ensures.state in
-    let fair : All (λ (t : Entry). IsFair st.dims (hop_to st.dims c.args.number) t.tag) c.post.new.p.untaken = subst (λ (p : Contents). All (λ (t : Entry). IsFair st.dims (hop_to st.dims c.args.number) t.tag) p.untaken) (sym back) c.take_out.ensures.fair in (
-      search rules,
-      (
-        search rules,
-        (
-          subst (λ (u : State). c.args.number < sum u.dims) (sym mid) within,
-          (
-            place_empty st _ c.args.number _ s within mid refl,
-            (
-              subst IsFresh (sym back) c.take_out.ensures.fresh,
-              subst (λ (u : State). All (λ (t : Entry). IsFair u.dims (hop_to u.dims c.args.number) t.tag) c.post.new.p.untaken) (sym mid) fair,
-            ),
-          ),
-        ),
-      ),
-    )
-
-pub put_back-requires-in-Err : goal.put_back-requires-in-Err
-put_back-requires-in-Err g c =
-    let st = c.args.state.now in
-    let s = c.known.ensures.standing in
-    let below : c.args.link < links st.dims = subst (λ ds. c.args.link < links ds) (sym c.requires.ready.same_dims) c.requires.link in
-    let n : c.args.number ≡ out_index st.dims c.args.link = c.requires.number ∙ ap (λ ds. out_index ds c.args.link) (sym c.requires.ready.same_dims) in
-    let within : c.args.number < sum st.dims = subst (λ i. i < sum st.dims) (sym n) (out_number st.dims c.args.link s.grid below).within in
-    let no = failed _ _ c.in-Err.is in
-    let back = c.post.ensures.kept no in
-    let mid = c.take_out.ensures.state in
-    let fair : All (λ (t : Entry). IsFair st.dims (hop_to st.dims c.args.number) t.tag) c.post.new.p.untaken = subst (λ (p : Contents). All (λ (t : Entry). IsFair st.dims (hop_to st.dims c.args.number) t.tag) p.untaken) (sym back) c.take_out.ensures.fair in (
-      search rules,
-      (
-        search rules,
-        (
-          subst (λ (u : State). c.args.number < sum u.dims) (sym mid) within,
-          (
-            place_empty st _ c.args.number _ s within mid refl,
-            (
-              subst IsFresh (sym back) c.take_out.ensures.fresh,
-              subst (λ (u : State). All (λ (t : Entry). IsFair u.dims (hop_to u.dims c.args.number) t.tag) c.post.new.p.untaken) (sym mid) fair,
-            ),
-          ),
-        ),
-      ),
-    )
+    (search rules, (search rules, (search rules, (within, (sym c.due_to.ensures ∙ c.if-not-due_to.false, c.requires.empty)))))
 
 pub returns-then-not-due_to-clause-posted : goal.returns-then-not-due_to-clause-posted
 returns-then-not-due_to-clause-posted g c = inl refl
@@ -327,8 +283,8 @@ returns-in-Ok-Sent-clause-posted g c =
     let s = c.known.ensures.standing in
     let below : c.args.link < links st.dims = subst (λ ds. c.args.link < links ds) (sym c.requires.ready.same_dims) c.requires.link in
     let n : c.args.number ≡ out_index st.dims c.args.link = c.requires.number ∙ ap (λ ds. out_index ds c.args.link) (sym c.requires.ready.same_dims) in
-    let t = taken_out st c.args.number c.args.link c.take_out.new.parcel s below n (sym c.due_to.ensures ∙ c.if-not-due_to.false) c.take_out.ensures.parcel in
-    let q = shipped c.take_out.new.parcel in
+    let t = taken_out st c.args.number c.args.link c.take_out-outgoing.new.parcel s below n (sym c.due_to.ensures ∙ c.if-not-due_to.false) c.take_out-outgoing.ensures.parcel in
+    let q = shipped c.take_out-outgoing.new.parcel in
     let was : c.post.result ≡ Ok Sent = c.in-Ok-Sent.is ∙ ap Ok c.in-Ok-Sent.field-0-is in
     inr (record { parcel = q; is = ap (λ logs. logs c.args.link) (c.post.ensures.sent was) ∙ added-here (g.P.Port.sent c.args.port.now) c.args.link q; holds = t.entries })
 
@@ -352,11 +308,11 @@ returns-then-not-due_to-clause-calls g c =
 
 pub returns-in-Ok-Sent-clause-calls : goal.returns-in-Ok-Sent-clause-calls
 returns-in-Ok-Sent-clause-calls g c =
-    let q = shipped c.take_out.new.parcel in
+    let q = shipped c.take_out-outgoing.new.parcel in
     let was : c.post.result ≡ Ok Sent = c.in-Ok-Sent.is ∙ ap Ok c.in-Ok-Sent.field-0-is in
     let log = g.P.Port.sent c.args.port.now c.args.link in
     let more = ap (λ logs. logs c.args.link) (c.post.ensures.sent was) ∙ added-here (g.P.Port.sent c.args.port.now) c.args.link q in
-    c.post.ensures.calls (search rules) ∙ ap (λ b. g.P.Port.calls c.args.port.now ++ once_if b (Post c.args.link)) (sym (served_sent c.take_out.new.self c.args.link log _ q more))
+    c.post.ensures.calls (search rules) ∙ ap (λ b. g.P.Port.calls c.args.port.now ++ once_if b (Post c.args.link)) (sym (served_sent c.state-1.given.0 c.args.link log _ q more))
 
 pub returns-in-Ok-NoRoom-clause-calls : goal.returns-in-Ok-NoRoom-clause-calls
 returns-in-Ok-NoRoom-clause-calls g c =
@@ -364,15 +320,16 @@ returns-in-Ok-NoRoom-clause-calls g c =
     let s = c.known.ensures.standing in
     let below : c.args.link < links st.dims = subst (λ ds. c.args.link < links ds) (sym c.requires.ready.same_dims) c.requires.link in
     let n : c.args.number ≡ out_index st.dims c.args.link = c.requires.number ∙ ap (λ ds. out_index ds c.args.link) (sym c.requires.ready.same_dims) in
-    let t = taken_out st c.args.number c.args.link c.take_out.new.parcel s below n (sym c.due_to.ensures ∙ c.if-not-due_to.false) c.take_out.ensures.parcel in
-    let q = shipped c.take_out.new.parcel in
+    let t = taken_out st c.args.number c.args.link c.take_out-outgoing.new.parcel s below n (sym c.due_to.ensures ∙ c.if-not-due_to.false) c.take_out-outgoing.ensures.parcel in
+    let q = shipped c.take_out-outgoing.new.parcel in
     let e = c.post.ensures in
     let no = not_sent _ (c.in-Ok-NoRoom.is ∙ ap Ok c.in-Ok-NoRoom.field-0-is) in
-    let new = reopened st c.take_out.new.self c.put_back.new.self c.args.number c.args.link _ _ n c.take_out.ensures.state c.put_back.ensures.state in
+    let over = sym c.take_out-outgoing.ensures.borrowed in
+    let new = reopened st c.take_out-outgoing.result.state.now c.state-in-Ok-NoRoom-1.given.0 c.args.number c.take_out-outgoing.result.number c.args.link _ _ n c.take_out-outgoing.ensures.number c.take_out-outgoing.ensures.state (c.state-in-Ok-NoRoom-1.given.1 over ∙ c.put_back.ensures.state) in
     let keeps = ap (λ p. p.untaken) (e.kept no) ∙ t.entries in
     let due = still_due _ _ st _ c.args.link _ q _ (g.P.Port.sent c.args.port.now) _ _ s c.requires.ready c.requires.link c.requires.starts_here t.due t.entries t.last e.same_ins.got new keeps refl in
     let log = g.P.Port.sent c.args.port.now c.args.link in
-    c.post.ensures.calls (search rules) ∙ ap (λ b. g.P.Port.calls c.args.port.now ++ once_if b (Post c.args.link)) (sym (served_due c.put_back.new.self c.args.link log _ due))
+    c.post.ensures.calls (search rules) ∙ ap (λ b. g.P.Port.calls c.args.port.now ++ once_if b (Post c.args.link)) (sym (served_due c.state-in-Ok-NoRoom-1.given.0 c.args.link log _ due))
 
 pub returns-in-Err-clause-still_due : goal.returns-in-Err-clause-still_due
 returns-in-Err-clause-still_due g c =
@@ -380,11 +337,12 @@ returns-in-Err-clause-still_due g c =
     let s = c.known.ensures.standing in
     let below : c.args.link < links st.dims = subst (λ ds. c.args.link < links ds) (sym c.requires.ready.same_dims) c.requires.link in
     let n : c.args.number ≡ out_index st.dims c.args.link = c.requires.number ∙ ap (λ ds. out_index ds c.args.link) (sym c.requires.ready.same_dims) in
-    let t = taken_out st c.args.number c.args.link c.take_out.new.parcel s below n (sym c.due_to.ensures ∙ c.if-not-due_to.false) c.take_out.ensures.parcel in
-    let q = shipped c.take_out.new.parcel in
+    let t = taken_out st c.args.number c.args.link c.take_out-outgoing.new.parcel s below n (sym c.due_to.ensures ∙ c.if-not-due_to.false) c.take_out-outgoing.ensures.parcel in
+    let q = shipped c.take_out-outgoing.new.parcel in
     let e = c.post.ensures in
     let no = failed _ _ c.in-Err.is in
-    let new = reopened st c.take_out.new.self c.put_back-in-Err.new.self c.args.number c.args.link _ _ n c.take_out.ensures.state c.put_back-in-Err.ensures.state in
+    let over = sym c.take_out-outgoing.ensures.borrowed in
+    let new = reopened st c.take_out-outgoing.result.state.now c.state-in-Err-1.given.0 c.args.number c.take_out-outgoing.result.number c.args.link _ _ n c.take_out-outgoing.ensures.number c.take_out-outgoing.ensures.state (c.state-in-Err-1.given.1 over ∙ c.put_back-in-Err.ensures.state) in
     let keeps = ap (λ p. p.untaken) (e.kept no) ∙ t.entries in
     λ err. still_due _ _ st _ c.args.link _ q _ (g.P.Port.sent c.args.port.now) _ _ s c.requires.ready c.requires.link c.requires.starts_here t.due t.entries t.last e.same_ins.got new keeps refl
 

@@ -3,7 +3,7 @@ use Rattle.route_tensor.specs.Ends.{hop_at}
 use Rattle.route_tensor.specs.Neighbour.{hop_to, out_index}
 use Rattle.hop_core.specs.Link.{is_due}
 use Rattle.hop_core.specs.State.{State, out_at, at_end}
-use Rattle.hop_core.proofs.Exchanging.{out_lent_kept}
+use Rattle.hop_core.proofs.Exchanging.{out_lent_kept, exchanged}
 use Rattle.hop_core.proofs.Standing.{due_here}
 use Rattle.hop_core.proofs.state.RankState.lend_out.Goals as goal
 
@@ -20,4 +20,5 @@ invariant_of-self g c =
     let due = subst (λ h. is_due st.cap st.steady (at_end st.dims st.ins st.done h) (out_at st number) ≡ true) (sym hop) here in
     let q = subst (λ (s : State). number < sum s.dims) (sym e) below in
     let d = subst (λ (s : State). is_due s.cap s.steady (at_end s.dims s.ins s.done (hop_to s.dims number)) (out_at s number) ≡ true) (sym e) due in
-    (c.self-2.invariant.0, out_lent_kept _ _ _ _ _ number _ _ _ _ k q c.take_spare-parcel.ensures.parcel c.exchange.ensures.state (due_here _ number k.standing q d))
+    let was = due_here _ number k.standing q d in
+    (c.self-2.invariant.0, out_lent_kept _ _ _ _ _ number _ _ _ _ k q c.take_spare-parcel.ensures.parcel (exchanged _ number _ _ _ k.standing q c.index_mut.ensures.value c.exchange.ensures.state was) was)

@@ -76,10 +76,11 @@ impl<Q: Program, const CAP: usize, const HOPS: usize> Node<Q, CAP, HOPS> {
             → IsInCycle Q.rules quota 0 n.run n.mover (λ l. []) (λ l. [])) }
     {
         let rank = prog.rank();
+        let prog = Box::new(alloc, prog)?;
         let mover = Mover::new(alloc, grid, via, rank, steady)?;
         let rank_count = grid.ranks();
         let run = Run {
-            prog: Box::new(alloc, prog)?,
+            prog,
             round: 0,
             sends: Sends::Emissions,
             next: 0,

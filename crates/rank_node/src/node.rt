@@ -167,9 +167,9 @@ impl<Q: Program, const CAP: usize, const HOPS: usize> Node<Q, CAP, HOPS> {
             → length (to_send Q.rules self.new.run.prog self.new.run.sends) ≤ quota (epoch_in self.new.mover)
             → IsInCycle Q.rules quota 0 self.new.run self.new.mover sent got }
 
-        // No memory: never on the way to an epoch that follows, and always where the sum says that some rank had none.
+        // No memory: only where no epoch follows, at this rank or at any, and always where the sum says that some rank had none.
         ensures no_memory { IsErr result → (is_voting self.old.run.sends ≡ true)
-            × ((self.old.run.spoiled ≡ true) ⊎ (self.old.run.sum ≡ 2 ^ 64 - 1)
+            × ((self.old.run.sum ≡ 2 ^ 64 - 1)
             ⊎ (Q.rules.goes_on (Q.rules.shape self.old.run.prog) (Q.rules.round self.old.run.prog) self.old.run.sum
             ≡ false)) }
         ensures saturated { is_voting self.old.run.sends ≡ true → self.old.run.sum ≡ 2 ^ 64 - 1 → IsErr result }
@@ -182,6 +182,7 @@ impl<Q: Program, const CAP: usize, const HOPS: usize> Node<Q, CAP, HOPS> {
             self.run.taken.sum = 0;
             return Ok(true);
         }
+        self.mover.known();
         if self.run.taken.is_lost() {
             return Err(NoMemory);
         }

@@ -16,15 +16,18 @@ use std::thread;
 /// More turns than a rank can make in a hundred years.
 const TURNS: u64 = 1 << 63;
 
-/// A rank and its port.
+/// A rank and its port. There are 64 unused bytes on each side, so no other thread's rank is on a cache line with it.
 #[derive(Drop)]
+#[repr(C)]
 pub struct AtPort<'a, Q: Program, const CAP: usize, const HOPS: usize> {
+    pub(crate) _before: [u64; 8],
     pub(crate) rank: Rank<Q, CAP, HOPS>,
     pub(crate) port: NotingPort<'a, CAP>,
     /// How many turns it has made.
     pub(crate) turns: u64,
     /// Its run is over, and memory was wanting.
     pub(crate) lost: bool,
+    pub(crate) _after: [u64; 8],
 }
 
 impl<'a, Q: Program, const CAP: usize, const HOPS: usize> Model for AtPort<'a, Q, CAP, HOPS> {

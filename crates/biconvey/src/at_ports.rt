@@ -9,14 +9,18 @@ use std::marker::Model;
 use std::sync::Wait;
 use std::sync::ledger::Ledger;
 
-/// A rank, its port of queries and its port of replies.
+/// A rank, its port of queries and its port of replies. There are 64 unused bytes on each side,
+/// so no other thread's rank is on a cache line with it.
 #[derive(Drop)]
+#[repr(C)]
 pub struct AtPorts<'a, A: Asker, const CAP: usize, const HOPS: usize> {
+    pub(crate) _before: [u64; 8],
     pub(crate) node: BiNode<A, CAP, HOPS>,
     pub(crate) queries: NotingPort<'a, CAP>,
     pub(crate) replies: NotingPort<'a, CAP>,
     /// How many turns it has made.
     pub(crate) turns: u64,
+    pub(crate) _after: [u64; 8],
 }
 
 impl<'a, A: Asker, const CAP: usize, const HOPS: usize> Model for AtPorts<'a, A, CAP, HOPS> {

@@ -16,7 +16,8 @@ use std::thread;
 /// More turns than a rank can make in a hundred years.
 const TURNS: u64 = 1 << 63;
 
-/// A rank and its port. There are 64 unused bytes on each side, so no other thread's rank is on a cache line with it.
+/// A rank and its port. There are 64 unused bytes on each side, so no other thread's rank is on a
+/// cache line with it.
 #[derive(Drop)]
 #[repr(C)]
 pub struct AtPort<'a, Q: Program, const CAP: usize, const HOPS: usize> {

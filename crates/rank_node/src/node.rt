@@ -167,7 +167,8 @@ impl<Q: Program, const CAP: usize, const HOPS: usize> Node<Q, CAP, HOPS> {
             → length (to_send Q.rules self.new.run.prog self.new.run.sends) ≤ quota (epoch_in self.new.mover)
             → IsInCycle Q.rules quota 0 self.new.run self.new.mover sent got }
 
-        // No memory: only where no epoch follows, at this rank or at any, and always where the sum says that some rank had none.
+        // No memory: only where no epoch follows, and always where the sum says that some rank had
+        // none. A spoiled rank is one of these, since its own vote is in the sum.
         ensures no_memory { IsErr result → (is_voting self.old.run.sends ≡ true)
             × ((self.old.run.sum ≡ 2 ^ 64 - 1)
             ⊎ (Q.rules.goes_on (Q.rules.shape self.old.run.prog) (Q.rules.round self.old.run.prog) self.old.run.sum

@@ -153,7 +153,8 @@ impl Program for Traffic {
     }
 }
 
-/// Counts the items of a batch that the rank may be sent, and answers what they make of the sum `check` of their numbers.
+/// Counts the items of a batch that the rank may be sent, and answers what they make of `check`, the
+/// sum of their numbers.
 fn count_each<I: Arrivals>(counts: &mut [u64], check: u64, ranks: u32, came: I) -> u64
     ensures counts { counts.new ≡ all_raised ranks counts.old (I.items came) }
     ensures check { result ≡ all_checked ranks check (I.items came) }

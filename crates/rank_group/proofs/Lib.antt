@@ -29,3 +29,4 @@ pub mod Quotas
 pub mod OwnLink
 pub mod Made
 pub mod Crosses
+pub mod Quiet

@@ -30,3 +30,4 @@ pub mod OwnLink
 pub mod Made
 pub mod Crosses
 pub mod Quiet
+pub mod NotedMoves

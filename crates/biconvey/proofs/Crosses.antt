@@ -24,5 +24,5 @@ pub at_ports_send : (κ : NamedLft) (A C H : RattleType) (g : Ghosts A.Denot) �
 at_ports_send κ A C H g s =
     let O = at_ports.the_type κ A C H g in
     let parts : IsSend (at_ports.the_row κ A C H g) = recorded_send (at_ports.the_field κ A C H g).row _ _ O.to_one
-    (struct_send (shape O) (node_send A C H s, (port_send κ C, (port_send κ C, (search sendable, tt))))) in
+    (struct_send (shape O) (search sendable, (node_send A C H s, (port_send κ C, (port_send κ C, (search sendable, (search sendable, tt))))))) in
     view_send (at_ports.the_row κ A C H g) _ _ _ _ parts

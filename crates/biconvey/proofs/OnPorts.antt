@@ -1,5 +1,5 @@
 -- A rank at its two ports stays on its way by a turn.
-use Rattle.std.proofs.Common.{◌≡◌, ℕ, ◌+◌, Bool, true, sym, ap, subst, ◌∙◌, arith}
+use Rattle.std.proofs.Common.{◌≡◌, ℕ, ◌+◌, Bool, true, false, ◌||◌, refl, sym, ap, subst, ◌∙◌, arith}
 use Rattle.port_bank.specs.Shapes.{IsConveyorShape}
 use Rattle.link_slots.specs.Seen.{Identity, Manning, named, posted_on, collected_from}
 use Rattle.link_slots.proofs.Ported.{one_bank}
@@ -19,6 +19,15 @@ has_way T cap told x y w ran = record { steady = w.steady; start = w.start; way 
 -- by a port that noted no move since it began to watch, which it still knows
 pub none_moved : (before watched kept now : Manning) → HasSame kept now → posted_on kept ≡ posted_on watched → collected_from kept ≡ collected_from watched → watched ≡ before → HasSame before now
 none_moved before watched kept now same sent got is = record { sent = same.sent ∙ (sent ∙ ap posted_on is); got = same.got ∙ (got ∙ ap collected_from is) }
+
+-- by one that noted a move
+pub some_moved : (before watched kept now : Manning) → (HasSame kept now → ⊥) → posted_on kept ≡ posted_on watched → collected_from kept ≡ collected_from watched → watched ≡ before → HasSame before now → ⊥
+some_moved before watched kept now apart sent got is same = apart record { sent = same.sent ∙ sym (sent ∙ ap posted_on is); got = same.got ∙ sym (got ∙ ap collected_from is) }
+
+-- one of two holds, and neither does
+pub any_of : (a b : Bool) → (a || b) ≡ true → (a ≡ true → ⊥) → (b ≡ true → ⊥) → ⊥
+any_of true b e not_a not_b = not_a refl
+any_of false b e not_a not_b = not_b e
 
 pub turned : {S : Type 0} (T : Talk S) (cap : ℕ) (told : ℕ → ℕ → Bool) (n n' : BiState S) (q q' p p' : Manning) (turns : ℕ) → told q.rank turns ≡ true → SameSeat q q' → SameSeat p p' → n'.queries.dims ≡ n.queries.dims → n'.queries.rank ≡ n.queries.rank
     → n'.queries.steady ≡ n.queries.steady → n'.replies.steady ≡ n.replies.steady

@@ -70,7 +70,10 @@ abbrev pub AreSeated : {S : Type 0} → Talk S → ℕ → Bool → Identity →
 AreSeated {S} T cap steady q p xs = (r : ℕ) (x : SeatedState S) → slice_get xs r ≡ Some x
     → IsSeated T cap steady q p r x
 
--- No parcel of a rank moved, neither of queries nor of replies.
-pub record HaveSame {S : Type 0} (x y : SeatedState S) : Type 0 where
+-- Turns from x to y made no progress: no parcel of queries or of replies was posted or collected, no
+-- query was pushed, and the ways were not completed.
+pub record MadeNone {S : Type 0} (x y : SeatedState S) : Type 0 where
   pub queries : HasSame x.queries y.queries
   pub replies : HasSame x.replies y.replies
+  pub asked : y.node.next ≡ x.node.next
+  pub over : is_over y.node ≡ is_over x.node

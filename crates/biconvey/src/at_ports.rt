@@ -9,14 +9,18 @@ use std::marker::Model;
 use std::sync::Wait;
 use std::sync::ledger::Ledger;
 
-/// A rank, its port of queries and its port of replies.
+/// A rank, its port of queries and its port of replies. There are 64 unused bytes on each side,
+/// so no other thread's rank is on a cache line with it.
 #[derive(Drop)]
+#[repr(C)]
 pub struct AtPorts<'a, A: Asker, const CAP: usize, const HOPS: usize> {
+    pub(crate) _before: [u64; 8],
     pub(crate) node: BiNode<A, CAP, HOPS>,
     pub(crate) queries: NotingPort<'a, CAP>,
     pub(crate) replies: NotingPort<'a, CAP>,
     /// How many turns it has made.
     pub(crate) turns: u64,
+    pub(crate) _after: [u64; 8],
 }
 
 impl<'a, A: Asker, const CAP: usize, const HOPS: usize> Model for AtPorts<'a, A, CAP, HOPS> {
@@ -36,8 +40,8 @@ impl<'a, A: Asker, const CAP: usize, const HOPS: usize> Model for AtPorts<'a, A,
 }
 
 impl<'a, A: Asker, const CAP: usize, const HOPS: usize> Seated for AtPorts<'a, A, CAP, HOPS> {
-    ghost use Rattle.biconvey.specs.Seats.{Ran, HaveSame};
-    ghost use Rattle.biconvey.specs.laws.SeatLaws.{ran_laws, same_laws};
+    ghost use Rattle.biconvey.specs.Seats.{Ran, MadeNone};
+    ghost use Rattle.biconvey.specs.laws.SeatLaws.{ran_laws, none_laws};
     ghost use Rattle.biconvey.specs.Worlds.{is_over};
 
     ghost ran = { λ told x y. Ran A.talk CAP told x y };
@@ -48,11 +52,11 @@ impl<'a, A: Asker, const CAP: usize, const HOPS: usize> Seated for AtPorts<'a, A
 
     ghost over = { λ x. is_over x.node };
 
-    ghost still = { λ x y. HaveSame x y };
+    ghost still = { λ x y. MadeNone x y };
 
     ghost laws = { λ told. ran_laws A.talk CAP told };
 
-    ghost still_laws = { same_laws };
+    ghost still_laws = { none_laws };
 
     fn rank(&self) -> u32 {
         self.queries.rank()
@@ -76,6 +80,7 @@ impl<'a, A: Asker, const CAP: usize, const HOPS: usize> Seated for AtPorts<'a, A
             unreachable!()
         };
         let has_asked = self.node.asked() != asked;
-        has_asked | self.queries.moved() | self.replies.moved()
+        let has_ended = self.node.is_over();
+        has_asked | has_ended | self.queries.moved() | self.replies.moved()
     }
 }

@@ -47,10 +47,12 @@ pub(crate) fn seat_all<'a, const CAP: usize, const HOPS: usize, A: Asker>(
         let asking = NotingPort::new(queries.port(asking));
         let replying = NotingPort::new(replies.port(replying));
         seated.push_reserved(AtPorts {
+            _before: [0; 8],
             node,
             queries: asking,
             replies: replying,
             turns: 0,
+            _after: [0; 8],
         });
         number += 1;
     }
@@ -84,10 +86,12 @@ pub(crate) fn gather_all<'a, const CAP: usize, const HOPS: usize, A: Asker>(
     let mut nodes = Vec::with_capacity(alloc, ended.len())?;
     for seated in one_by_one(alloc, ended)? {
         let AtPorts {
+            _before: _,
             node,
             queries: asking,
             replies: replying,
             turns: _,
+            _after: _,
         } = seated;
         queries.gather(of_queries, asking.into_seat());
         replies.gather(of_replies, replying.into_seat());

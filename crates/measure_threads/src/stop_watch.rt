@@ -4,7 +4,7 @@ ghost use Rattle.std.specs.Prelude.{◌≡◌};
 use bale_items::{Item, NoMemory};
 use rank_group::Gate;
 use round_examples::Traffic;
-use round_program::Program;
+use round_program::{Arrivals, Program};
 use std::marker::Model;
 use std::sync::atomic::{AtomicU64, Ordering};
 use std::time::{Clock, Instant};
@@ -125,6 +125,10 @@ impl<'a, R: Clock> Program for Timed<'a, R> {
 
     fn absorb(&mut self, from: u32, item: Item) -> Result<(), NoMemory> {
         self.inner.absorb(from, item)
+    }
+
+    fn absorb_each<I: Arrivals>(&mut self, came: I) -> Result<(), NoMemory> {
+        self.inner.absorb_each(came)
     }
 
     fn vote(&self) -> u64 {

@@ -10,3 +10,4 @@ pub mod Fresh
 pub mod Stopped
 pub mod Taken
 pub mod Closing
+pub mod Moments

@@ -4,3 +4,4 @@ pub mod Taking
 pub mod States
 pub mod Still
 pub mod Ranks
+pub mod Moments

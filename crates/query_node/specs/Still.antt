@@ -1,5 +1,5 @@
 -- What a turn leaves that moved no parcel, and why.
-use Rattle.std.specs.Prelude.{◌≡◌, ◌⊎◌, ℕ, Bool, true, false}
+use Rattle.std.specs.Prelude.{◌≡◌, ◌⊎◌, ℕ, Bool, true}
 use Rattle.hop_core.specs.declared.phase.Phase.TheVariants.{Complete}
 use Rattle.rank_node.specs.Movers.{AllRead}
 use Rattle.rank_node.specs.Stuck.{HasCrowded, IsStill}

@@ -4,7 +4,9 @@ ghost use Rattle.std.specs.Prelude.{◌≡◌, ◌≢◌, ℕ, ◌+◌, ◌<◌,
 ghost use Rattle.route_tensor.specs.Grid.{ranks};
 ghost use Rattle.convey.specs.Buffers.{in_of, is_complete};
 ghost use Rattle.round_program.specs.Replies.{asks_of};
-ghost use Rattle.query_node.specs.States.{BiState, IsBiNode, IsFirst, IsPortOf, AdvancesOnce, HasAsked, HasAnswered};
+ghost use Rattle.query_node.specs.States.{BiState, Sides, IsBiNode, IsFirst, IsPortOf, AdvancesOnce, HasAsked, HasAnswered};
+ghost use Rattle.query_node.specs.Banks.{IsOwn};
+ghost use Rattle.query_node.specs.Moments.{IsMoment, sides_of_ports};
 ghost use Rattle.query_node.specs.Still.{IsStuck};
 ghost use Rattle.rank_node.specs.Fits.{FitsGrid};
 
@@ -106,6 +108,16 @@ impl<A: Asker, const CAP: usize, const HOPS: usize> BiNode<A, CAP, HOPS> {
             (P.got queries.old) (R.sent replies.old) (R.got replies.old)
             → IsBiNode A.talk start mid (P.sent queries.new) (P.got queries.new) (R.sent replies.old)
             (R.got replies.old)) }
+
+        // After each post and each collect: by its own lists at any moment of the turn, the rank
+        // has sent its queries in order, and its answers, in order, to queries that it has got.
+        ensures moments { (start : A) (now : Sides)
+            → IsBiNode A.talk start self.old (P.sent queries.old) (P.got queries.old)
+            (R.sent replies.old) (R.got replies.old)
+            → IsMoment (sides_of_ports P.Port R.Port queries.old replies.old)
+            (sides_of_ports P.Port R.Port queries.new replies.new) now
+            → IsOwn A.talk self.old.queries.dims (λ r. start) self.old.queries.rank
+            now.asking now.replying now.asked }
         ensures memory { P.Memory.GROWS ≡ false → R.Memory.GROWS ≡ false → IsOk result }
 
         // Ended exactly where both ways are complete.

@@ -2,6 +2,7 @@
 
 ghost use Rattle.query_node.specs.Banks.{RepliesBegin, RepliesEnd};
 ghost use Rattle.query_node.specs.Ranks.{OrderLaw, EndLaw};
+ghost use Rattle.query_node.specs.Moments.{StepLaw};
 
 use convey::closes_law;
 use round_program::Asker;
@@ -24,3 +25,10 @@ pub fn askers_law<A: Asker>()
 {
     closes_law();
 }
+
+/// The replies theorem at every step of an exchange, also while ranks are within turns: between any
+/// two posts or collects of any ranks, what a rank got of another is a prefix of that one's answers
+/// to its queries.
+pub fn steps_law<A: Asker>()
+    ensures { StepLaw A.talk }
+{}

@@ -10,6 +10,7 @@
 //! | `BiNode::turn` | one turn, which never waits: asks, advances, answers, advances, hears; `Ended` exactly where both ways are complete |
 //! | `replies_law` | the replies theorem, over any two lawful banks |
 //! | `askers_law` | what all ranks have heard, whenever each stands between turns or between a turn's two advances, and at the end |
+//! | `steps_law` | what each has got, at every step within turns |
 //!
 //! round_program's `specs/Replies` says what a rank hears, with no word on how it travels; `specs/Banks` states the replies theorem.
 //! The crate biconvey drives such ranks.
@@ -24,4 +25,4 @@ mod line;
 mod lines;
 
 pub use bi_node::BiNode;
-pub use law::{askers_law, replies_law};
+pub use law::{askers_law, replies_law, steps_law};

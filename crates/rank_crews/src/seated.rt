@@ -49,8 +49,9 @@ pub trait Seated: Drop {
     fn is_over(&self) -> bool
         ensures { result ≡ over self.now };
 
-    /// Makes one turn. Answers whether it made progress: a node does if it pushed an item or ended an epoch, and if a parcel was
-    /// posted or collected. If it made none, other ranks may have to be polled first.
+    /// Makes one turn. Answers whether it made progress: false if and only if the rank is `still`. A
+    /// node makes progress if it pushes an item, if a parcel is posted or collected, and if an epoch
+    /// ends. If it made none, other ranks may have to be polled first.
     fn turn<R: Wait, J: GateLog, L: Ledger>(&mut self, rt: &R, steps: &mut Steps<L>) -> bool
         requires going { over self.old ≡ false }
         // The gate was notified of this turn before it is made.
@@ -58,7 +59,8 @@ pub trait Seated: Drop {
         ensures ran { ran J.told self.old self.new }
         ensures one { turns self.new ≡ turns self.old + 1 }
         ensures counted { steps.new ≡ steps.old + 1 }
-        ensures still { result ≡ false → still self.old self.new };
+        ensures still { result ≡ false → still self.old self.new }
+        ensures progress { result ≡ true → still self.old self.new → ⊥ };
 
     ghost laws: { (told : ℕ → ℕ → Bool) → RanLaws (ran told) };
 

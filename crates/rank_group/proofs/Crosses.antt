@@ -45,5 +45,5 @@ pub at_port_send : (κ : NamedLft) (Q C H : RattleType) (g : Ghosts Q.Denot) →
 at_port_send κ Q C H g s =
     let O = at_port.the_type κ Q C H g in
     let parts : IsSend (at_port.the_row κ Q C H g) = recorded_send (at_port.the_field κ Q C H g).row _ _ O.to_one
-    (struct_send (shape O) (rank_send Q C H s, (port_send κ C, (search sendable, (search sendable, tt))))) in
+    (struct_send (shape O) (search sendable, (rank_send Q C H s, (port_send κ C, (search sendable, (search sendable, (search sendable, tt))))))) in
     view_send (at_port.the_row κ Q C H g) _ _ _ _ parts

@@ -29,3 +29,5 @@ pub mod Quotas
 pub mod OwnLink
 pub mod Made
 pub mod Crosses
+pub mod Quiet
+pub mod NotedMoves

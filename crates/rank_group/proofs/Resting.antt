@@ -76,7 +76,7 @@ pub record ByItsConveyor (dims : List ℕ) (r : ℕ) (m : MoverState) (sent got 
   pub same_rank : c.rank ≡ r
   pub moving : IsConveying c (starting_at dims r sent) (ending_at dims r got)
 
-by_conveyor : (dims : List ℕ) (r : ℕ) (steady : Bool) (m : MoverState) (sent got : Logs) → manner_in m ≡ ByConveyor steady → dims_of m ≡ dims → rank_of m ≡ r → IsMoving m (starting_at dims r sent) (ending_at dims r got)
+pub by_conveyor : (dims : List ℕ) (r : ℕ) (steady : Bool) (m : MoverState) (sent got : Logs) → manner_in m ≡ ByConveyor steady → dims_of m ≡ dims → rank_of m ≡ r → IsMoving m (starting_at dims r sent) (ending_at dims r got)
     → ByItsConveyor dims r m sent got
 by_conveyor dims r steady (Conveying c) sent got k same_dims same_rank is = record { c = c; is = refl; same_dims = same_dims; same_rank = same_rank; moving = is }
 by_conveyor dims r steady (Stacking cap x) sent got k same_dims same_rank is = absurd (cc)

@@ -11,3 +11,4 @@ pub mod Told
 pub mod Driven
 pub mod Halves
 pub mod laws
+pub mod Rest

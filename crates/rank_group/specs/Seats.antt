@@ -3,6 +3,7 @@ use Rattle.std.specs.Prelude.{◌≡◌, ℕ, ◌<◌, ◌≤◌, Bool, true, fa
 use Rattle.link_slots.specs.Seen.{Identity, Manning, posted_on, collected_from}
 use Rattle.round_program.specs.Rules.{Rules}
 use Rattle.rank_node.specs.Movers.{Manner}
+use Rattle.rank_group.specs.Noted.{HasSame}
 use Rattle.rank_group.specs.Ranks.{RankState, IsRank, progress}
 
 -- A rank and its seat: how many turns it made, and whether memory was wanting at the end of its run.
@@ -51,3 +52,11 @@ pub record IsSeated {S : Type 0} (R : Rules S) (cap : ℕ) (manner : Manner) (b 
 -- Ranks that haven't turned sit at the bank b in order.
 abbrev pub AreSeated : {S : Type 0} → Rules S → ℕ → Manner → Identity → List (SeatedState S) → Type 0
 AreSeated {S} R cap manner b xs = (r : ℕ) (x : SeatedState S) → slice_get xs r ≡ Some x → IsSeated R cap manner b r x
+
+-- Turns from x to y made no progress: no parcel was posted or collected, no item was pushed, no epoch
+-- ended, and the run didn't end for want of memory.
+pub record MadeNone {S : Type 0} (x y : SeatedState S) : Type 0 where
+  pub parcels : HasSame x.seat y.seat
+  pub pushed : y.rank.node.run.next ≡ x.rank.node.run.next
+  pub epochs : progress y.rank ≡ progress x.rank
+  pub lost : y.lost ≡ x.lost

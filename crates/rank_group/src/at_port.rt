@@ -16,15 +16,19 @@ use std::thread;
 /// More turns than a rank can make in a hundred years.
 const TURNS: u64 = 1 << 63;
 
-/// A rank and its port.
+/// A rank and its port. There are 64 unused bytes on each side, so no other thread's rank is on a
+/// cache line with it.
 #[derive(Drop)]
+#[repr(C)]
 pub struct AtPort<'a, Q: Program, const CAP: usize, const HOPS: usize> {
+    pub(crate) _before: [u64; 8],
     pub(crate) rank: Rank<Q, CAP, HOPS>,
     pub(crate) port: NotingPort<'a, CAP>,
     /// How many turns it has made.
     pub(crate) turns: u64,
     /// Its run is over, and memory was wanting.
     pub(crate) lost: bool,
+    pub(crate) _after: [u64; 8],
 }
 
 impl<'a, Q: Program, const CAP: usize, const HOPS: usize> Model for AtPort<'a, Q, CAP, HOPS> {
@@ -40,10 +44,8 @@ impl<'a, Q: Program, const CAP: usize, const HOPS: usize> Model for AtPort<'a, Q
 
 impl<'a, Q: Program, const CAP: usize, const HOPS: usize> Seated for AtPort<'a, Q, CAP, HOPS> {
     ghost use Rattle.std.specs.Prelude.{◌||◌};
-    ghost use Rattle.rank_group.specs.Seats.{Ran};
-    ghost use Rattle.rank_group.specs.laws.SeatLaws.{ran_laws};
-    ghost use Rattle.rank_group.specs.Noted.{HasSame};
-    ghost use Rattle.rank_group.specs.laws.NotedLaws.{same_laws};
+    ghost use Rattle.rank_group.specs.Seats.{Ran, MadeNone};
+    ghost use Rattle.rank_group.specs.laws.SeatLaws.{ran_laws, none_laws};
 
     ghost ran = { λ told x y. Ran Q.rules CAP told x y };
 
@@ -53,11 +55,11 @@ impl<'a, Q: Program, const CAP: usize, const HOPS: usize> Seated for AtPort<'a, 
 
     ghost over = { λ x. x.rank.over || x.lost };
 
-    ghost still = { λ x y. HasSame x.seat y.seat };
+    ghost still = { λ x y. MadeNone x y };
 
     ghost laws = { λ told. ran_laws Q.rules CAP told };
 
-    ghost still_laws = { same_laws (λ x. x.seat) };
+    ghost still_laws = { none_laws };
 
     fn rank(&self) -> u32 {
         self.port.rank()

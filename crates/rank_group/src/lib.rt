@@ -10,6 +10,7 @@
 //! | `drive_in_turn`, `drive_on_threads` | both with what most callers want: `Settings`, the order of the ranks, no count, no gate |
 //! | `threads_for` | how many threads suit so many ranks on this machine |
 //! | `Rounds::get`, `ClosedRound::epochs` | what a run leaves of its bank |
+//! | `rest_law` | a sweep in which nothing moves ends the least epoch |
 //! | `NotingPort` | a rank's port that notes whether a parcel moved |
 //! | `one_by_one` | takes a list of ranks apart |
 //!
@@ -28,6 +29,7 @@ mod drive;
 mod list_parts;
 mod noting;
 mod ranks;
+mod rest;
 mod running;
 mod seating;
 mod sweeping;
@@ -44,5 +46,6 @@ pub use list_parts::{OneByOne, one_by_one};
 pub use noting::NotingPort;
 pub use rank_crews::{Gate, GateLog, OpenGate, Seated, ThreadLimit, Workers, run_together};
 pub use rank_node::{Node, Turn, Via};
+pub use rest::rest_law;
 pub use thread_count::threads_for;
 pub use threads::{drive_threads, drive_with};

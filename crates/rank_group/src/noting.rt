@@ -1,7 +1,7 @@
 //! A port that notes whether a parcel moved.
 ghost use Rattle.std.specs.Prelude.{◌≡◌, ◌+◌, ◌==◌, true, false, length, refl};
 ghost use Rattle.link_slots.specs.Seen.{posted_on, collected_from};
-ghost use Rattle.rank_group.specs.Noted.{HasSame};
+ghost use Rattle.rank_group.specs.Noted.{HasSame, NoLess};
 
 use bale_items::NoMemory;
 use item_buffer::Parcel;
@@ -17,6 +17,8 @@ pub struct NotingPort<'a, const CAP: usize> {
     /// The port as it was at the latest `watch`, for contracts alone.
     first: Snapshot<SlotPort<'a, CAP>>,
     pub ghost noted: { moved ≡ false → HasSame first.value.seat port.seat },
+    pub ghost grew: { NoLess first.value.seat port.seat },
+    pub ghost went: { moved ≡ true → HasSame first.value.seat port.seat → ⊥ },
 }
 
 impl<'a, const CAP: usize> NotingPort<'a, CAP> {
@@ -43,7 +45,8 @@ impl<'a, const CAP: usize> NotingPort<'a, CAP> {
 
     /// Whether a parcel was posted or collected since the latest `watch`.
     pub fn moved(&self) -> bool
-        ensures { result ≡ false → HasSame self.now.first.value.seat self.now.port.seat }
+        ensures none { result ≡ false → HasSame self.now.first.value.seat self.now.port.seat }
+        ensures some { result ≡ true → HasSame self.now.first.value.seat self.now.port.seat → ⊥ }
     {
         self.moved
     }
@@ -119,16 +122,18 @@ impl<'a, const CAP: usize> Port<CAP> for NotingPort<'a, CAP> {
 
     fn post(&mut self, link: u32, p: &mut Parcel<CAP>) -> Result<Posted, NoMemory> {
         let posted = self.port.post(link, p)?;
-        if posted == Posted::Sent {
-            self.moved = true;
+        match posted {
+            Posted::Sent => self.moved = true,
+            Posted::NoRoom => {}
         }
         Ok(posted)
     }
 
     fn collect(&mut self, link: u32, p: &mut Parcel<CAP>) -> Collected {
         let collected = self.port.collect(link, p);
-        if collected == Collected::Got {
-            self.moved = true;
+        match collected {
+            Collected::Got => self.moved = true,
+            Collected::Nothing => {}
         }
         collected
     }

@@ -41,10 +41,12 @@ pub(crate) fn seat_all<'a, const CAP: usize, const HOPS: usize, Q: Program>(
         let seat = bank.seat(gather, number);
         let port = NotingPort::new(bank.port(seat));
         seated.push_reserved(AtPort {
+            _before: [0; 8],
             rank,
             port,
             turns: 0,
             lost: false,
+            _after: [0; 8],
         });
         number += 1;
     }
@@ -73,10 +75,12 @@ pub(crate) fn gather_all<'a, const CAP: usize, const HOPS: usize, Q: Program>(
     let mut ranks = Vec::with_capacity(alloc, ended.len())?;
     for seated in one_by_one(alloc, ended)? {
         let AtPort {
+            _before: _,
             rank,
             port,
             turns: _,
             lost,
+            _after: _,
         } = seated;
         if lost {
             return Err(NoMemory);

@@ -1,5 +1,5 @@
 //! Turns a rank over a port that takes no memory.
-ghost use Rattle.std.specs.Prelude.{◌≡◌, ℕ, ◌+◌, ◌^◌, ◌<◌, ◌≤◌, false, OnOk};
+ghost use Rattle.std.specs.Prelude.{◌≡◌, ◌≢◌, ◌⊎◌, ℕ, ◌+◌, ◌^◌, ◌<◌, ◌≤◌, true, false, Ok, OnOk};
 ghost use Rattle.port_bank.specs.Frames.{SamePort};
 ghost use Rattle.rank_node.specs.Movers.{Manner, epoch_in};
 ghost use Rattle.rank_group.specs.Ranks.{IsRank, progress};
@@ -29,6 +29,10 @@ pub(crate) fn turn_over<const CAP: usize, const HOPS: usize, Q: Program, P: Port
     ensures same_port { SamePort P.Port port.old port.new }
     ensures steps { steps.new ≡ steps.old + 1 }
     ensures epoch { OnOk result (progress rank.new ≤ progress rank.old + 1) }
+    ensures pushed { result ≡ Ok true → (rank.new.node.run.next ≢ rank.old.node.run.next)
+        ⊎ (progress rank.new ≡ progress rank.old + 1) }
+    ensures none { result ≡ Ok false → (rank.new.node.run.next ≡ rank.old.node.run.next)
+        × (progress rank.new ≡ progress rank.old) }
     ensures kept { OnOk result ((manner : Manner) (h : ℕ → Q)
         → IsRank Q.rules (P.dims port.old) CAP manner (P.rank port.old) h rank.old (P.sent port.old) (P.got port.old)
         → (g : ℕ → Q) × (g 0 ≡ h 0) × IsRank Q.rules (P.dims port.old) CAP manner (P.rank port.old) g rank.new

@@ -23,3 +23,4 @@ mod Paced
 mod Awaited
 mod Next
 mod OneHop
+mod OwnPulls

@@ -1,6 +1,7 @@
 -- A node goes on to the next epoch.
 use Rattle.std.proofs.Common.{◌≡◌, ◌≢◌, ℕ, ◌+◌, ◌-◌, ◌^◌, ◌<◌, ◌==◌, ◌||◌, Bool, true, false, cond, List, refl, sym, subst, ◌∙◌, arith, inl, inr}
 use Rattle.std.proofs.lemmas.Bool.{cases_Bool, true≢false, eq-eqb}
+use Rattle.std.proofs.lemmas.Bool.Decides.{nat_tests}
 use Rattle.route_tensor.specs.Grid.{ranks}
 use Rattle.port_bank.specs.Logs.{Logs}
 use Rattle.port_bank.specs.Machine.{after}
@@ -33,6 +34,11 @@ round_few round false e is few = omega (arith, is, few)
 pub not_lost : (spoiled : Bool) (sum : ℕ) (lost : Bool) → lost ≡ (spoiled || sum == 2 ^ 64 - 1) → lost ≡ false → (spoiled ≡ false) × (sum ≢ 2 ^ 64 - 1)
 not_lost true sum lost is f = absurd (true≢false (sym is ∙ f))
 not_lost false sum lost is f = (refl, λ e. true≢false (sym (eq-eqb sum (2 ^ 64 - 1) e) ∙ (sym is ∙ f)))
+
+-- where memory was wanting, the sum says so: a spoiled rank hears its own vote
+pub lost_sum : (spoiled : Bool) (sum : ℕ) (lost : Bool) → lost ≡ (spoiled || sum == 2 ^ 64 - 1) → lost ≡ true → (spoiled ≡ true → sum ≡ 2 ^ 64 - 1) → sum ≡ 2 ^ 64 - 1
+lost_sum true sum lost is t own = own refl
+lost_sum false sum lost is t own = let s : (sum == 2 ^ 64 - 1) ≡ true = sym is ∙ t in grind (arith, nat_tests)
 
 pub complete_is : (p : Phase) → is_complete p ≡ true → p ≡ Complete
 complete_is Dormant e = absurd (cc)

@@ -30,7 +30,7 @@ summed sum came = fold (λ n e. min (n + e.1.a) (2 ^ 64 - 1)) sum came
 
 -- What a node makes of items that it pulled. In an epoch of votes it adds their first fields to its
 -- sum. In an epoch of work the program absorbs those that it may be sent, unless memory was wanting
--- by then.
+-- by then: a spoiled node drops what comes.
 pub record TakesEach {S : Type 0} (R : Rules S) (voting : Bool) (prog prog' : S) (came : List (ℕ × Item)) (sum sum' : ℕ)
     (spoiled spoiled' : Bool) : Type 0 where
   pub valid : R.valid prog
@@ -39,3 +39,4 @@ pub record TakesEach {S : Type 0} (R : Rules S) (voting : Bool) (prog prog' : S)
   pub unspoiled : spoiled' ≡ false → spoiled ≡ false
   pub votes : voting ≡ true → (spoiled' ≡ spoiled) × (prog' ≡ prog)
   pub absorbed : voting ≡ false → spoiled' ≡ false → prog' ≡ all_taken_in R prog came
+  pub dropped : spoiled ≡ true → prog' ≡ prog

@@ -1,11 +1,11 @@
 //! What carries the items of a rank.
 ghost use Rattle.std.specs.Prelude.{◌≡◌, ◌^◌, ◌<◌, true, false, length, IfOk, IsOk, OnOk, Ok};
 ghost use Rattle.route_tensor.specs.Grid.{ranks};
-ghost use Rattle.rank_node.specs.Movers.{seen, epoch_in, manner_of, has_completed, IsNew, GoesOn};
+ghost use Rattle.rank_node.specs.Movers.{seen, dims_of, rank_of, epoch_in, manner_of, has_completed, IsNew, GoesOn};
 ghost use Rattle.rank_node.specs.Runs.{running};
 ghost use Rattle.rank_node.specs.Moves.{MayTurn};
 ghost use Rattle.rank_node.specs.Turns.{Turns, TurnsInFull};
-ghost use Rattle.rank_node.specs.Fits.{FitsGrid};
+ghost use Rattle.rank_node.specs.Fits.{FitsGrid, IsRankOf};
 
 use crate::conveying::{new_conveyor, reset_conveyor, turn_conveyor};
 use crate::run::Run;
@@ -44,6 +44,16 @@ impl<const CAP: usize, const HOPS: usize> Mover<CAP, HOPS> {
         match via {
             Via::Convey => Ok(Mover::Convey(new_conveyor(alloc, grid, rank, steady)?)),
             Via::Exstack => Ok(Mover::Exstack(new_exstack(alloc, grid, rank)?)),
+        }
+    }
+
+    /// Does nothing, and states whose it is.
+    pub(crate) fn known(&self)
+        ensures { IsRankOf (dims_of (seen self.now)) (rank_of (seen self.now)) }
+    {
+        match self {
+            Mover::Convey(conveyor) => conveyor.known(),
+            Mover::Exstack(exstack) => exstack.known(),
         }
     }
 

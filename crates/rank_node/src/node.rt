@@ -76,10 +76,11 @@ impl<Q: Program, const CAP: usize, const HOPS: usize> Node<Q, CAP, HOPS> {
             → IsInCycle Q.rules quota 0 n.run n.mover (λ l. []) (λ l. [])) }
     {
         let rank = prog.rank();
+        let prog = Box::new(alloc, prog)?;
         let mover = Mover::new(alloc, grid, via, rank, steady)?;
         let rank_count = grid.ranks();
         let run = Run {
-            prog: Box::new(alloc, prog)?,
+            prog,
             round: 0,
             sends: Sends::Emissions,
             next: 0,
@@ -166,9 +167,10 @@ impl<Q: Program, const CAP: usize, const HOPS: usize> Node<Q, CAP, HOPS> {
             → length (to_send Q.rules self.new.run.prog self.new.run.sends) ≤ quota (epoch_in self.new.mover)
             → IsInCycle Q.rules quota 0 self.new.run self.new.mover sent got }
 
-        // No memory: never on the way to an epoch that follows, and always where the sum says that some rank had none.
+        // No memory: only where no epoch follows, and always where the sum says that some rank had
+        // none. A spoiled rank is one of these, since its own vote is in the sum.
         ensures no_memory { IsErr result → (is_voting self.old.run.sends ≡ true)
-            × ((self.old.run.spoiled ≡ true) ⊎ (self.old.run.sum ≡ 2 ^ 64 - 1)
+            × ((self.old.run.sum ≡ 2 ^ 64 - 1)
             ⊎ (Q.rules.goes_on (Q.rules.shape self.old.run.prog) (Q.rules.round self.old.run.prog) self.old.run.sum
             ≡ false)) }
         ensures saturated { is_voting self.old.run.sends ≡ true → self.old.run.sum ≡ 2 ^ 64 - 1 → IsErr result }
@@ -181,6 +183,7 @@ impl<Q: Program, const CAP: usize, const HOPS: usize> Node<Q, CAP, HOPS> {
             self.run.taken.sum = 0;
             return Ok(true);
         }
+        self.mover.known();
         if self.run.taken.is_lost() {
             return Err(NoMemory);
         }

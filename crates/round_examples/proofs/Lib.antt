@@ -1,3 +1,4 @@
 pub mod AskSteps
 pub mod Targets
+pub mod TrafficBatches
 pub mod TrafficRuns

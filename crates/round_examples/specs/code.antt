@@ -2,4 +2,5 @@
 pub mod AskView
 pub mod CountView
 pub mod LookupView
+pub mod TrafficBatches
 pub mod TrafficView

@@ -1,9 +1,11 @@
 //! Traffic as a program in rounds: what one rank sends, and what it makes of the items that come.
 ghost use Rattle.std.specs.Prelude.{◌≡◌, ◌<◌, ◌^◌, length};
 ghost use Rattle.std.specs.List.{All};
+ghost use Rattle.round_examples.specs.Traffics.{raised};
+ghost use Rattle.round_examples.specs.code.TrafficBatches.{is_for_it, all_raised, all_checked};
 
 use bale_items::{Item, NoMemory};
-use round_program::Program;
+use round_program::{Arrivals, Program};
 use std::marker::Model;
 
 /// How many cells a rank has.
@@ -130,6 +132,13 @@ impl Program for Traffic {
         Ok(())
     }
 
+    fn absorb_each<I: Arrivals>(&mut self, came: I) -> Result<(), NoMemory> {
+        if self.round == 0 {
+            self.check = count_each(&mut self.counts, self.check, self.ranks, came);
+        }
+        Ok(())
+    }
+
     fn vote(&self) -> u64 {
         0
     }
@@ -141,5 +150,41 @@ impl Program for Traffic {
     fn end_round(&mut self, votes: u64) -> Result<bool, NoMemory> {
         self.round = self.round.saturating_add(1);
         Ok(self.round < self.rounds as u64)
+    }
+}
+
+/// Counts the items of a batch that the rank may be sent, and answers what they make of `check`, the
+/// sum of their numbers.
+fn count_each<I: Arrivals>(counts: &mut [u64], check: u64, ranks: u32, came: I) -> u64
+    ensures counts { counts.new ≡ all_raised ranks counts.old (I.items came) }
+    ensures check { result ≡ all_checked ranks check (I.items came) }
+{
+    let mut came = came;
+    let mut check = check;
+    while let Some((from, item)) = came.next() {
+        if is_for_it(ranks, from, item) {
+            count_one(counts, item);
+            check = check.wrapping_add(item.c);
+        }
+    }
+    check
+}
+
+/// Whether an item that came in the first round is from a rank, and for a cell.
+#[inline(always)]
+fn is_for_it(ranks: u32, from: u32, item: Item) -> bool
+    ensures { result ≡ is_for_it ranks from item }
+{
+    from < ranks && item.a < CELLS
+}
+
+/// Counts an item, where its cell has a count.
+#[inline(always)]
+fn count_one(counts: &mut [u64], item: Item)
+    ensures { counts.new ≡ raised counts.old item }
+{
+    if item.a < counts.len() as u64 {
+        let cell = item.a as usize;
+        counts[cell] = counts[cell].wrapping_add(item.b);
     }
 }

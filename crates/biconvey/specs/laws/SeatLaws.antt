@@ -3,8 +3,8 @@ use Rattle.std.proofs.Common.{◌≡◌, ℕ, Bool, true, refl, subst, ◌∙◌
 use Rattle.std.proofs.lemmas.Bool.{cases_lt}
 use Rattle.rank_crews.specs.Runs.{RanLaws}
 use Rattle.round_program.specs.Talks.{Talk}
-use Rattle.rank_group.specs.laws.NotedLaws.{same_laws as one_same_laws}
-use Rattle.biconvey.specs.Seats.{SeatedState, Ran, HaveSame}
+use Rattle.rank_group.specs.laws.NotedLaws.{same_laws}
+use Rattle.biconvey.specs.Seats.{SeatedState, Ran, MadeNone}
 
 pub ran_laws : {S : Type 0} (T : Talk S) (cap : ℕ) (told : ℕ → ℕ → Bool) → RanLaws (λ x y. Ran T cap told x y)
 ran_laws T cap told =
@@ -28,11 +28,16 @@ ran_laws T cap told =
       };
     }
 
-pub same_laws : {S : Type 0} → RanLaws (HaveSame {S = S})
-same_laws {S} =
-    let q = one_same_laws (λ (x : SeatedState S). x.queries) in
-    let p = one_same_laws (λ (x : SeatedState S). x.replies) in
+pub none_laws : {S : Type 0} → RanLaws (MadeNone {S = S})
+none_laws {S} =
+    let q = same_laws (λ (x : SeatedState S). x.queries) in
+    let p = same_laws (λ (x : SeatedState S). x.replies) in
     record {
-      none = λ x. record { queries = q.none x; replies = p.none x };
-      on = λ x y z a b. record { queries = q.on x y z a.queries b.queries; replies = p.on x y z a.replies b.replies };
+      none = λ x. record { queries = q.none x; replies = p.none x; asked = refl; over = refl };
+      on = λ x y z a b. record {
+        queries = q.on x y z a.queries b.queries;
+        replies = p.on x y z a.replies b.replies;
+        asked = b.asked ∙ a.asked;
+        over = b.over ∙ a.over;
+      };
     }

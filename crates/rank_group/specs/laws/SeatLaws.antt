@@ -3,7 +3,8 @@ use Rattle.std.proofs.Common.{◌≡◌, ℕ, Bool, true, refl, subst, ◌∙◌
 use Rattle.std.proofs.lemmas.Bool.{cases_lt}
 use Rattle.round_program.specs.Rules.{Rules}
 use Rattle.rank_crews.specs.Runs.{RanLaws}
-use Rattle.rank_group.specs.Seats.{Ran}
+use Rattle.rank_group.specs.Seats.{SeatedState, Ran, MadeNone}
+use Rattle.rank_group.specs.laws.NotedLaws.{same_laws}
 
 pub ran_laws : {S : Type 0} (R : Rules S) (cap : ℕ) (told : ℕ → ℕ → Bool) → RanLaws (λ x y. Ran R cap told x y)
 ran_laws R cap told =
@@ -27,5 +28,18 @@ ran_laws R cap told =
             let m = a.kept manner h is in
             let n = b.kept manner m.0 m.2 in
             (n.0, n.1 ∙ m.1, n.2);
+      };
+    }
+
+pub none_laws : {S : Type 0} → RanLaws (MadeNone {S = S})
+none_laws {S} =
+    let parcels = same_laws (λ (x : SeatedState S). x.seat) in
+    record {
+      none = λ x. record { parcels = parcels.none x; pushed = refl; epochs = refl; lost = refl };
+      on = λ x y z a b. record {
+        parcels = parcels.on x y z a.parcels b.parcels;
+        pushed = b.pushed ∙ a.pushed;
+        epochs = b.epochs ∙ a.epochs;
+        lost = b.lost ∙ a.lost;
       };
     }

@@ -1,8 +1,10 @@
-use Rattle.std.proofs.Common.{◌≡◌, ◌==◌, ◌+◌, true, not, ◌||◌, ap, sym, subst, ◌∙◌, arith}
+use Rattle.std.proofs.Common.{◌≡◌, ◌==◌, ◌+◌, Bool, true, false, true≢false, not, ◌||◌, refl, ap, sym, subst, ◌∙◌, arith, eqb-true}
+use Rattle.std.proofs.lemmas.Bool.{eq-eqb}
 use Rattle.port_bank.specs.Port.{Others}
 use Rattle.rank_crews.proofs.Crewed.{neither}
-use Rattle.biconvey.specs.Seats.{SeatedState, HasWay, Ran, HaveSame}
-use Rattle.biconvey.proofs.OnPorts.{one_seat, has_way, turned, none_moved}
+use Rattle.biconvey.specs.Seats.{SeatedState, HasWay, Ran, MadeNone}
+use Rattle.biconvey.specs.Worlds.{is_over}
+use Rattle.biconvey.proofs.OnPorts.{one_seat, has_way, turned, none_moved, some_moved, any_of}
 use Rattle.biconvey.proofs.at_ports.AtPortsSeated.turn.Goals as goal
 
 pub invariant_of-self : goal.invariant_of-self
@@ -44,13 +46,31 @@ returns g c =
       counted = t.steps;
       still = λ none.
           let asked = not (c.asked.result == c.asked-asked.result) in
-          let last = neither (asked || c.moved.result) c.moved-2.result none in
-          let first = neither asked c.moved.result last.0 in
-          subst (λ (z : SeatedState g.row.A.Denot). HaveSame z y) c.self.view_is
+          let last = neither ((asked || c.is_over-has_ended.result) || c.moved.result) c.moved-2.result none in
+          let first = neither (asked || c.is_over-has_ended.result) c.moved.result last.0 in
+          let made = neither asked c.is_over-has_ended.result first.0 in
+          subst (λ (z : SeatedState g.row.A.Denot). MadeNone z y) c.self.view_is
           record {
-            queries = none_moved i.queries.port.seat c.watch.new.self.first.value.seat n.queries.first.value.seat n.queries.port.seat (c.moved.ensures first.1)
+            queries = none_moved i.queries.port.seat c.watch.new.self.first.value.seat n.queries.first.value.seat n.queries.port.seat (c.moved.ensures.none first.1)
                 (ap (λ (r : Others). r.sent) t.queries.same_port.others) (ap (λ (r : Others). r.got) t.queries.same_port.others) (ap (λ k. k.seat) c.watch.ensures.first);
-            replies = none_moved i.replies.port.seat c.watch-2.new.self.first.value.seat n.replies.first.value.seat n.replies.port.seat (c.moved-2.ensures last.1)
+            replies = none_moved i.replies.port.seat c.watch-2.new.self.first.value.seat n.replies.first.value.seat n.replies.port.seat (c.moved-2.ensures.none last.1)
                 (ap (λ (r : Others). r.sent) t.replies.same_port.others) (ap (λ (r : Others). r.got) t.replies.same_port.others) (ap (λ k. k.seat) c.watch-2.ensures.first);
+            asked = sym c.asked.ensures ∙ (eqb-true c.asked.result c.asked-asked.result (not_not (c.asked.result == c.asked-asked.result) made.0) ∙ c.asked-asked.ensures);
+            over = sym c.is_over-has_ended.ensures ∙ (made.1 ∙ sym (ap (λ (z : SeatedState g.row.A.Denot). is_over z.node) c.self.view_is ∙ c.requires.going));
           };
-    }
+      progress = λ some same'.
+          let same = subst (λ (z : SeatedState g.row.A.Denot). MadeNone z y) (sym c.self.view_is) same' in
+          let asked = not (c.asked.result == c.asked-asked.result) in
+          any_of ((asked || c.is_over-has_ended.result) || c.moved.result) c.moved-2.result some
+          (λ e. any_of (asked || c.is_over-has_ended.result) c.moved.result e
+          (λ e'. any_of asked c.is_over-has_ended.result e'
+          (λ made. true≢false (sym made ∙ ap not (eq-eqb c.asked.result c.asked-asked.result (c.asked.ensures ∙ (same.asked ∙ sym c.asked-asked.ensures)))))
+          (λ ended. true≢false (sym ended ∙ (c.is_over-has_ended.ensures ∙ (same.over ∙ (ap (λ (z : SeatedState g.row.A.Denot). is_over z.node) c.self.view_is ∙ c.requires.going))))))
+          (λ m. some_moved i.queries.port.seat c.watch.new.self.first.value.seat n.queries.first.value.seat n.queries.port.seat (c.moved.ensures.some m)
+          (ap (λ (r : Others). r.sent) t.queries.same_port.others) (ap (λ (r : Others). r.got) t.queries.same_port.others) (ap (λ k. k.seat) c.watch.ensures.first) same.queries))
+          (λ m. some_moved i.replies.port.seat c.watch-2.new.self.first.value.seat n.replies.first.value.seat n.replies.port.seat (c.moved-2.ensures.some m)
+          (ap (λ (r : Others). r.sent) t.replies.same_port.others) (ap (λ (r : Others). r.got) t.replies.same_port.others) (ap (λ k. k.seat) c.watch-2.ensures.first) same.replies);
+    } where
+      not_not : (b : Bool) → not b ≡ false → b ≡ true
+      not_not true e = refl
+      not_not false e = absurd (true≢false e)

@@ -1,9 +1,8 @@
-use Rattle.std.proofs.Common.{rules, ◌≡◌, ◌==◌, ℕ, length, sym, ap, subst, ◌∙◌}
+use Rattle.std.proofs.Common.{rules, ◌≡◌, ◌==◌, ℕ, length, refl, sym, ap, subst, ◌∙◌}
 use Rattle.std.specs.Prelude.{is_ok, IfSome}
 use Rattle.list_laws.proofs.Results.{on_ok_from}
 use Rattle.hop_core.specs.State.{State}
 use Rattle.convey.specs.Buffers.{is_complete}
-use Rattle.convey.specs.declared.progress.Progress.TheVariants as progress
 use Rattle.round_program.specs.Replies.{asks_of}
 use Rattle.query_node.specs.Taking.{Pushes, Answers, RefusesAnswer}
 use Rattle.rank_node.specs.Movers.{AllRead}
@@ -12,6 +11,8 @@ use Rattle.query_node.specs.Still.{IsStuck, Known}
 use Rattle.query_node.proofs.Turned.{Advances, works_on, was_served, has_completed, same_asks, count_is, asked_count, receivers, low, all_pushed, begun1, agrees1, stays_done, dims2, open2, answers2, epoch2, pulled2, begun3, agrees3, over3, halfway, first4, heard4, turned}
 use Rattle.rank_node.proofs.Halted.{Advanced}
 use Rattle.query_node.proofs.Stopped.{complete_from, advances_once, read_or, stuck}
+use Rattle.query_node.specs.Moments.{sides_of_ports}
+use Rattle.query_node.proofs.Moments.{own_at}
 use Rattle.query_node.proofs.bi_node.BiNode.turn.Goals as goal
 
 pub push_queries-self-inside-requires : goal.push_queries-self-inside-requires
@@ -430,3 +431,23 @@ returns-clause-between g c =
       record { asker = inside.asker; next = next; lines = inside.lines; queries = q2; replies = inside.replies },
       λ start was. halfway T laws start inside qs qg rs rg (is start was) g.row.CAP next count q1 push counted q2 qs' qg' adv c.known.ensures.sound,
     )
+
+-- at each moment, by the states that the turn found and leaves
+pub returns-clause-moments : goal.returns-clause-moments
+returns-clause-moments g c = λ start now was m.
+    let T = g.A.Asker.talk in
+    let q1 = c.push_queries-self-inside.new.conveyor in
+    let q2 = c.advance-asked.new.self in
+    let q3 = c.answer_open-refused.new.queries in
+    let push : Pushes (asks_of T c.self.inside.asker.value) g.row.CAP c.self.inside.next c.push_queries-self-inside.result c.self.inside.queries q1 = c.push_queries-self-inside.ensures in
+    let ans : Answers T c.self.inside.asker.value q2 q3 c.self.inside.replies c.answer_open-refused.new.replies = c.answer_open-refused.ensures.answers in
+    let after : BiState g.row.A.Denot = record { asker = c.hear_all.new.asker.value; next = c.push_queries-self-inside.result; lines = c.hear_all.new.lines.items; queries = q3; replies = c.hear_all.new.replies } in
+    own_at T start c.args.self.now.queries.dims c.args.self.now.queries.rank c.args.self.now after
+    (sides_of_ports g.P.Port g.R.Port c.args.queries.now c.args.replies.now) (sides_of_ports g.P.Port g.R.Port c.advance-asked.new.port c.advance-replied.new.port) now
+    (record { same_dims = refl; same_rank = refl; node = was })
+    (record {
+      same_dims = ap (λ (t : State). t.dims) ans.same ∙ (c.advance-asked.ensures.stays.dims ∙ (ap (λ (t : State). t.dims) push.same ∙ ap (λ (n : BiState g.row.A.Denot). n.queries.dims) c.self.view_is));
+      same_rank = ap (λ (t : State). t.rank) ans.same ∙ (c.advance-asked.ensures.stays.rank ∙ (ap (λ (t : State). t.rank) push.same ∙ ap (λ (n : BiState g.row.A.Denot). n.queries.rank) c.self.view_is));
+      node = returns-clause-kept g c start was;
+    })
+    m

@@ -1,4 +1,4 @@
-use Rattle.std.proofs.Common.{rules, ◌≡◌, ◌+◌, ◌||◌, true, true≢false, refl, sym, ap, subst, ◌∙◌, arith}
+use Rattle.std.proofs.Common.{rules, ◌≡◌, ◌+◌, ◌||◌, true, false, true≢false, refl, sym, ap, subst, ◌∙◌, arith}
 use Rattle.port_bank.specs.Port.{Others}
 use Rattle.rank_group.specs.Seats.{SeatedState, HasWay, Ran}
 use Rattle.rank_crews.proofs.Crewed.{neither}
@@ -40,6 +40,7 @@ pub returns-in-Err : goal.returns-in-Err
 returns-in-Err g c =
     let i = c.self.inside in
     let R = g.Q.Program.rules in
+    let n = neither i.rank.over i.lost (ap (λ (x : SeatedState g.row.Q.Denot). x.rank.over || x.lost) c.self.view_is ∙ c.requires.going) in
     let x : SeatedState g.row.Q.Denot = record { rank = i.rank; seat = c.watch.new.self.port.seat; turns = i.turns; lost = i.lost } in
     let was : SeatedState g.row.Q.Denot = record { rank = i.rank; seat = i.port.port.seat; turns = i.turns; lost = i.lost } in
     let at : x ≡ was = ap (λ p. record { rank = i.rank; seat = p.seat; turns = i.turns; lost = i.lost }) c.watch.ensures.port in
@@ -53,6 +54,9 @@ returns-in-Err g c =
       one = omega (arith, ap (λ (x : SeatedState g.row.Q.Denot). x.turns) c.self.view_is);
       counted = c.turn_over.ensures.steps;
       still = λ none. absurd (true≢false none);
+      progress = λ some same.
+          let was_lost : i.lost ≡ false = n.1 in
+          absurd (true≢false (same.lost ∙ (sym (ap (λ (x : SeatedState g.row.Q.Denot). x.lost) c.self.view_is) ∙ was_lost)));
     }
 
 pub invariant_of-self : goal.invariant_of-self

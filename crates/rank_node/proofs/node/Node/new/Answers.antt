@@ -8,7 +8,7 @@ use Rattle.rank_node.proofs.node.Node.new.Goals as goal
 
 pub returns-clause-node : goal.returns-clause-node
 returns-clause-node g c =
-    subst (λ q. IsNode g.Q.Program.rules (λ m. c.args.prog) (record { run = record { prog = q; round = 0; sends = Emissions; next = 0; sum = 0; spoiled = false }; mover = seen c.in_ok-mover.mover }) (λ l. []) (λ l. [])) (sym c.in_ok-new.ensures.ok)
+    subst (λ q. IsNode g.Q.Program.rules (λ m. c.args.prog) (record { run = record { prog = q; round = 0; sends = Emissions; next = 0; sum = 0; spoiled = false }; mover = seen c.in_ok-mover.mover }) (λ l. []) (λ l. [])) (sym c.in_ok-prog.ensures.ok)
     (fresh_node g.Q.Program.rules c.args.prog c.args.grid.now c.rank-rank.result (manner_of c.args.via c.args.steady) (seen c.in_ok-mover.mover) c.in_ok-mover.ensures
     c.rank-rank.ensures.valid (sym c.rank-rank.ensures.value) c.requires.all_ranks)
 

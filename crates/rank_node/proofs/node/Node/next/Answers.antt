@@ -1,13 +1,14 @@
-use Rattle.std.proofs.Common.{◌≡◌, ◌+◌, ◌^◌, ◌<◌, true, false, refl, sym, ap, subst, ◌∙◌}
+use Rattle.std.proofs.Common.{◌≡◌, ◌+◌, ◌-◌, ◌^◌, ◌<◌, true, false, inl, refl, sym, ap, subst, ◌∙◌}
 use Rattle.rank_node.specs.Sending.{is_voting}
 use Rattle.rank_node.specs.Movers.{seen, epoch_in, has_completed, HasCap}
 use Rattle.rank_node.specs.Next.{extended}
 use Rattle.rank_node.specs.Runs.{running}
 use Rattle.rank_node.specs.Nodes.{NodeState, IsNode}
 use Rattle.rank_node.specs.declared.sends.Sends.TheVariants.{Emissions, Nothing}
-use Rattle.rank_node.proofs.Onward.{seen_cap, epoch_is, node_votes, node_work, not_lost, round_few}
+use Rattle.rank_node.proofs.Onward.{seen_cap, epoch_is, node_votes, node_work, not_lost, lost_sum, round_few}
 use Rattle.rank_node.specs.Cycles.{IsInCycle}
 use Rattle.rank_node.proofs.Next.{next_cycle}
+use Rattle.rank_node.proofs.OwnPulls.{spoiled_sum}
 use Rattle.rank_node.proofs.node.Node.next.Goals as goal
 
 pub returns-then-not-votes_now-clause-votes : goal.returns-then-not-votes_now-clause-votes
@@ -91,3 +92,16 @@ returns-in-SpoiledRound-clause-cycle g c = λ ok quota n sent got i few.
     let was = subst (λ (m : NodeState g.row.Q.Denot). IsNode R (c.requires.node.0) m (c.requires.node.1) (c.requires.node.2)) (sym c.self.view_is) c.requires.node.3 in
     let i0 = subst (λ (m : NodeState g.row.Q.Denot). IsInCycle R quota n m.run m.mover sent got) (sym c.self.view_is) i in
     next_cycle R quota n inside.run _ inside.mover (seen c.reset-in-SpoiledRound.new.self) (c.requires.node.1) (c.requires.node.2) sent got was.moving c.reset-in-SpoiledRound.ensures i0 few
+
+pub returns-then-is_lost-clause-no_memory : goal.returns-then-is_lost-clause-no_memory
+returns-then-is_lost-clause-no_memory g c = λ err.
+    let R = g.Q.Program.rules in
+    let inside : NodeState g.row.Q.Denot = record { run = running c.self.inside.run; mover = seen c.self.inside.mover } in
+    let was = subst (λ (m : NodeState g.row.Q.Denot). IsNode R (c.requires.node.0) m (c.requires.node.1) (c.requires.node.2)) (sym c.self.view_is) c.requires.node.3 in
+    let over = ap (λ (m : NodeState g.row.Q.Denot). has_completed m.mover) c.self.view_is ∙ c.requires.over in
+    let votes : is_voting inside.run.sends ≡ true = sym (c.if-not-votes_now.ensures) in
+    let sum : inside.run.sum ≡ 2 ^ 64 - 1 = lost_sum inside.run.spoiled inside.run.sum c.is_lost.result c.is_lost.ensures c.if-is_lost.true
+    (spoiled_sum R (c.requires.node.0) inside (c.requires.node.1) (c.requires.node.2) was c.known.ensures over votes) in (
+      subst (λ (m : NodeState g.row.Q.Denot). is_voting m.run.sends ≡ true) c.self.view_is votes,
+      inl (subst (λ (m : NodeState g.row.Q.Denot). m.run.sum ≡ 2 ^ 64 - 1) c.self.view_is sum),
+    )

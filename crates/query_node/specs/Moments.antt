@@ -1,0 +1,67 @@
+-- A rank within a turn: what holds after each post and each collect that the turn makes.
+use Rattle.std.specs.Prelude.{◌≡◌, ◌⊎◌, ℕ, ◌<◌, List}
+use Rattle.route_tensor.specs.Grid.{ranks}
+use Rattle.list_laws.specs.Lists.{Begins}
+use Rattle.port_bank.specs.declared.port.Port.{Ghosts}
+use Rattle.round_program.specs.Talks.{Talk}
+use Rattle.round_program.specs.Replies.{replies_of}
+use Rattle.query_node.specs.Banks.{IsLawful, got_from}
+use Rattle.query_node.specs.States.{BiState, Sides, IsBiNode}
+use Rattle.query_node.specs.Ranks.{sides_at}
+
+-- The lists of a port of queries and of a port of replies.
+abbrev pub sides_of_ports : {P Q : Type 0} {cap : ℕ} {M N : Type 0} → Ghosts P cap M
+    → Ghosts Q cap N → P → Q → Sides
+sides_of_ports G H queries replies =
+    record {
+      asking = G.sent queries;
+      asked = G.got queries;
+      replying = H.sent replies;
+      replied = H.got replies;
+    }
+
+-- Each list is a prefix of what it is later.
+pub record OnlyGrow (old new : Sides) : Type 0 where
+  pub asking : (l : ℕ) → Begins (old.asking l) (new.asking l)
+  pub asked : (l : ℕ) → Begins (old.asked l) (new.asked l)
+  pub replying : (l : ℕ) → Begins (old.replying l) (new.replying l)
+  pub replied : (l : ℕ) → Begins (old.replied l) (new.replied l)
+
+-- A rank's own lists at a moment of a turn that takes them from `old` to `new`: some of its posts
+-- and collects are made.
+-- order: no reply is posted in it until all of its queries are collected.
+-- A turn that collects the query parcel p and then posts the reply parcel a has the moments [], [];
+-- [p], []; and [p], [a]. It has no moment [], [a].
+pub record IsMoment (old new now : Sides) : Type 0 where
+  pub since : OnlyGrow old now
+  pub until : OnlyGrow now new
+  pub order : ((l : ℕ) → now.replying l ≡ old.replying l) ⊎ ((l : ℕ) → now.asked l ≡ new.asked l)
+
+-- Rank r of a grid stands between two turns, over its own lists.
+pub record StandsAt {S : Type 0} (T : Talk S) (dims : List ℕ) (r : ℕ) (start : S) (n : BiState S)
+    (own : Sides) : Type 0 where
+  pub same_dims : n.queries.dims ≡ dims
+  pub same_rank : n.queries.rank ≡ r
+  pub node : IsBiNode T start n own.asking own.asked own.replying own.replied
+
+-- Rank r at some step of an exchange: at a moment of a turn that took it from `before` to `after`.
+-- Between two turns it is at a moment of a turn that moves nothing.
+pub record IsUnderway {S : Type 0} (T : Talk S) (dims : List ℕ) (r : ℕ) (start : S)
+    (now : Sides) : Type 0 where
+  pub before : BiState S
+  pub old : Sides
+  pub stood : StandsAt T dims r start before old
+  pub after : BiState S
+  pub new : Sides
+  pub stands : StandsAt T dims r start after new
+  pub moment : IsMoment old new now
+
+-- The replies theorem at every step, over two lawful banks, with each rank at a moment of its own:
+-- the replies that a rank got of another, and so those that it heard, are a prefix of that one's
+-- answers to its queries.
+abbrev pub StepLaw : {S : Type 0} → Talk S → Type 0
+StepLaw {S} T = (dims : List ℕ) (starts : ℕ → S) (s : Sides) → IsLawful dims s.asking s.asked
+    → IsLawful dims s.replying s.replied
+    → ((r : ℕ) → r < ranks dims → IsUnderway T dims r (starts r) (sides_at dims r s))
+    → (r d : ℕ) → r < ranks dims → d < ranks dims
+    → Begins (got_from dims s.replied r d) (replies_of T starts d r)

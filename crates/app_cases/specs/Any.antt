@@ -71,7 +71,8 @@ any_rules = either_rules column_rules other_rules
 
 -- A program's way into another: its states as states of the other, and its runs' shapes as shapes
 -- there. A run of the other is then the program's own run.
--- of transpose into any: the state s becomes Right (Left (Right s)), and before the shape 1, 0, 1 are written
+-- of transpose into any: the state s becomes Right (Left (Right s)), and before the shape 1, 0, 1
+-- are written
 pub record Way {S T : Type 0} (R : Rules S) (Q : Rules T) : Type 0 where
   pub case : S → T
   pub shape : List ℕ → List ℕ

@@ -1,7 +1,8 @@
 //! The applications as one program, so that a drive is compiled once for them all.
 //!
-//! `AnyProgram` is a tree of `Either`s with one leaf for each application, tally in its mailer, and one for the sums of ig alone. A `Case` is a
-//! program that is one of its leaves: it knows the way in and out, and that a run of the leaf is the program's own run.
+//! `AnyProgram` is a tree of `Either`s with one leaf for each application, tally in its mailer, and
+//! one for the sums of ig alone. A `Case` is a program that is one of its leaves: it knows the way
+//! in and out, and that a run of the leaf is the program's own run.
 //!
 //! | Item | What it is |
 //! |---|---|

@@ -9,8 +9,8 @@ use round_program::{Program, Progs};
 use std::alloc::Global;
 use std::marker::Model;
 
-/// A mailer of tally, as the same program under a type without parameters: `Case` can't be implemented for `Mailer<Tally>`,
-/// an instance of a generic type.
+/// A mailer of tally, as the same program under a type without parameters: `Case` can't be
+/// implemented for `Mailer<Tally>`, an instance of a generic type.
 #[derive(Drop)]
 pub struct TallyCase {
     mailer: Mailer<Tally>,

@@ -1,4 +1,5 @@
--- histo's programs begin as those of one run of one round, and the owner of a column ends with the number of its entries.
+-- histo's programs begin as those of one run of one round, and the owner of a column ends with the
+-- number of its entries.
 use Rattle.std.proofs.Common.{◌≡◌, ℕ, ◌+◌, ◌/◌, ◌%◌, ◌<◌, ◌≤◌, ◌^◌, ◌==◌, List, [], ◌∷◌, Some, None, All, cond, map, length, get_or, slice_get, replicate, arith, refl, sym, ap, ◌∙◌, subst, lit<}
 use Rattle.std.specs.List.{sum_by}
 use Rattle.std.proofs.Math.Nat.{mod-lt}

@@ -63,7 +63,8 @@ stops_within hands [] rest n now then low h = absurd (omega (arith, low))
 stops_within hands (x ∷ xs) rest zero now then low h = h
 stops_within hands (x ∷ xs) rest (suc n) now then low h = (h.0, h.1, stops_within hands xs rest n h.0 then (omega (arith, low)) h.2)
 
--- a list's replies from the next one on were handed over, up to number m of them: all of them, whether or not the next one was of this list
+-- a list's replies from the next one on were handed over, up to number m of them: all of them,
+-- whether or not the next one was of this list
 pub handed_list : {K : Type 0} (hands : K → ℕ → Item → Bool → K → Type 0) (es xs rest : List (ℕ × Item)) (from first next at m : ℕ) (start now then : K) → from ≤ next → drop first es ≡ xs ++ rest → first ≤ next
     → at ≡ min next (first + length xs) - first → m ≡ length xs → HandsOver hands (drop at xs) (m - at) now then → Reaches hands es from next start now
     → Reaches hands es from (max next (first + length xs)) start then

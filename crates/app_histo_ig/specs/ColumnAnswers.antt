@@ -21,7 +21,8 @@ pub record HaveSums (entries : List Triple) (answers : List (List ℕ)) : Type 0
   pub word : (e : ℕ) (t : Triple) → slice_get entries e ≡ Some t
       → word_for answers e ≡ twos_complement (column_sum t.j entries)
 
--- The askers of a matrix after each has heard, for each of its entries, the answer of the rank asked.
+-- The askers of a matrix after each has heard, for each of its entries, the answer of the rank
+-- asked.
 pub record IgHeard (m : Sparse) (askers : List AskingState) : Type 0 where
   pub ranks : ℕ
   pub some : 1 ≤ ranks

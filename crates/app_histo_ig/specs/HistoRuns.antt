@@ -19,7 +19,8 @@ histo_begins ranks m rank =
     }
 
 -- All ranks as histo begins.
--- Entries in the columns 0, 2, 2, 2 of 3 on 2 ranks: rank 0 has the columns 0, 2, rank 1 has 2, 2, each two counts 0.
+-- Entries in the columns 0, 2, 2, 2 of 3 on 2 ranks: rank 0 has the columns 0, 2, rank 1 has 2, 2,
+-- each two counts 0.
 abbrev pub histo_starts : ℕ → Sparse → List HistoState
 histo_starts ranks m = map (histo_begins ranks m) (range_with_len 0 ranks)
 

@@ -11,7 +11,8 @@ use bale_types::{Failed, Out, Sink};
 use mtx_text::{EntryLine, Kind, Matrix};
 use round_program::Progs;
 
-/// A rank that keeps a word for each of its entries: that of entry number `e` stands at `e div ranks`.
+/// A rank that keeps a word for each of its entries: that of entry number `e` stands at `e div
+/// ranks`.
 pub trait Answered: Drop {
     ghost words: { Self → List ℕ };
 
@@ -20,7 +21,8 @@ pub trait Answered: Drop {
         ensures { result.now ≡ words self.now };
 }
 
-/// Writes a line for each entry of the matrix, in order: its row and column from 1, and the sum of its column.
+/// Writes a line for each entry of the matrix, in order: its row and column from 1, and the sum of
+/// its column.
 pub(crate) fn write_sums<Q: Answered, K: Sink>(
     p: &Progs<Q>,
     m: &Matrix,

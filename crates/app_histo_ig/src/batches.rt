@@ -1,4 +1,5 @@
-//! Takes whole batches of items into the lists of a rank: which items are for the rank is read once.
+//! Takes whole batches of items into the lists of a rank: which items are for the rank is read
+//! once.
 
 ghost use Rattle.std.specs.Prelude.{◌≡◌, ◌<◌, OnOk, length, map};
 ghost use Rattle.std.specs.List.{All};

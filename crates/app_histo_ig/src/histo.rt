@@ -1,4 +1,5 @@
-//! histo: each rank has a part of a matrix's entries, and each column's owner counts the column's entries.
+//! histo: each rank has a part of a matrix's entries, and each column's owner counts the column's
+//! entries.
 
 ghost use Rattle.std.specs.Prelude.{◌≡◌, ◌<◌, length};
 ghost use Rattle.std.specs.List.{All};
@@ -10,7 +11,8 @@ use bale_items::{Item, NoMemory};
 use round_program::{Arrivals, Program};
 use std::marker::Model;
 
-/// One rank's part of histo. Column `j` belongs to rank `j mod ranks`, which keeps its count at place `j div ranks`.
+/// One rank's part of histo. Column `j` belongs to rank `j mod ranks`, which keeps its count at
+/// place `j div ranks`.
 #[derive(Drop)]
 pub struct Histo {
     rank: u32,

@@ -76,8 +76,8 @@ fn columns_of(alloc: Global, parts: &Parts, rank: u32) -> Result<Vec<u32>, NoMem
     Ok(columns)
 }
 
-/// Writes a line for each column, in order: its number from 1 and how many entries it has. The programs are those of
-/// `histo_start` after their run. No memory is taken.
+/// Writes a line for each column, in order: its number from 1 and how many entries it has. The
+/// programs are those of `histo_start` after their run. No memory is taken.
 ///
 /// # Errors
 ///
@@ -119,7 +119,8 @@ fn count_of(p: &Progs<Histo>, j: u32) -> u64
     owner.counts()[j as usize / ranks]
 }
 
-/// Writes the line of one column: its number from 1 and how many entries it has. No memory is taken.
+/// Writes the line of one column: its number from 1 and how many entries it has. No memory is
+/// taken.
 ///
 /// # Errors
 ///

@@ -14,9 +14,10 @@ use bale_items::{Item, NoMemory};
 use round_program::{Arrivals, Departures, Program};
 use std::marker::Model;
 
-/// One rank's part of ig, in three rounds: the owner of each column adds up its values; each rank asks for the column of
-/// each of its entries; and the owners reply. Column `j` belongs to rank `j mod ranks`, which keeps its sum at place
-/// `j div ranks`. Sums are words, as `bits_of` gives them, and rise modulo 2^64.
+/// One rank's part of ig, in three rounds: the owner of each column adds up its values; each rank
+/// asks for the column of each of its entries; and the owners reply. Column `j` belongs to rank `j
+/// mod ranks`, which keeps its sum at place `j div ranks`. Sums are words, as `bits_of` gives them,
+/// and rise modulo 2^64.
 #[derive(Drop)]
 pub struct Ig {
     rank: u32,

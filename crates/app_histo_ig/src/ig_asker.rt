@@ -9,8 +9,9 @@ use crate::ig_sent::{Own, question_of};
 use round_program::Asker;
 use std::marker::Model;
 
-/// One rank: for each of its entries it asks the column's owner, and it answers with the sums of its own columns. Column `j`
-/// belongs to rank `j mod ranks`, which has its sum at place `j div ranks`.
+/// One rank: for each of its entries it asks the column's owner, and it answers with the sums of
+/// its own columns. Column `j` belongs to rank `j mod ranks`, which has its sum at place `j div
+/// ranks`.
 #[derive(Drop)]
 pub struct IgAsker {
     rank: u32,

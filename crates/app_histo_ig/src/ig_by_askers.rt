@@ -1,4 +1,5 @@
-//! ig by queries and replies at once: the programs that add up columns, and the askers that they leave.
+//! ig by queries and replies at once: the programs that add up columns, and the askers that they
+//! leave.
 
 ghost use Rattle.round_program.specs.Ranks.{AreRanks};
 ghost use Rattle.std.specs.Prelude.{◌≡◌, ◌<◌, [], ◌∷◌, length, map, IfOk};
@@ -22,7 +23,8 @@ use round_program::{Program, Progs};
 use sparse_rows::{Parts, split};
 use std::alloc::Global;
 
-/// The programs of ig's first round alone on `ranks` ranks, from 1 to 64, in round 0 of a run of one round.
+/// The programs of ig's first round alone on `ranks` ranks, from 1 to 64, in round 0 of a run of
+/// one round.
 ///
 /// # Errors
 ///
@@ -72,8 +74,9 @@ pub fn ig_askers(alloc: Global, m: &Matrix, p: Progs<IgSums>) -> Result<Progs<Ig
     Ok(askers)
 }
 
-/// Writes the lines of ig: for each entry of the matrix, in order, its row and column from 1, and the sum of its column. The
-/// askers are those of `ig_askers` on this matrix, after each has heard the replies to its queries. No memory is taken.
+/// Writes the lines of ig: for each entry of the matrix, in order, its row and column from 1, and
+/// the sum of its column. The askers are those of `ig_askers` on this matrix, after each has heard
+/// the replies to its queries. No memory is taken.
 ///
 /// # Errors
 ///
@@ -89,7 +92,8 @@ pub fn ig_heard_write<K: Sink>(
     write_sums(p, m, out)
 }
 
-/// The asker of each rank, whatever the programs have absorbed. `ig_askers` says what it has where they ended.
+/// The asker of each rank, whatever the programs have absorbed. `ig_askers` says what it has where
+/// they ended.
 ///
 /// # Errors
 ///

@@ -29,7 +29,8 @@ pub(crate) fn note(queries: &mut Vec<Vec<Item>>, from: usize, item: Item) -> Res
     queries[from].push(item).map_err(|_| NoMemory)
 }
 
-/// Takes the answer `b` of entry number `a` in, where there is a place for it and no greater one stands there.
+/// Takes the answer `b` of entry number `a` in, where there is a place for it and no greater one
+/// stands there.
 #[inline(always)]
 pub(crate) fn raise(answers: &mut [u64], ranks: u32, item: Item)
     requires { 0 < ranks }

@@ -1,4 +1,5 @@
-//! The replies of a rank of ig, put together from the queries that came and the sums: so no list of them is made.
+//! The replies of a rank of ig, put together from the queries that came and the sums: so no list of
+//! them is made.
 
 ghost use Rattle.std.specs.Prelude.{◌≡◌, ◌<◌, ◌≤◌, ◌-◌, ◌/◌, ◌^◌, ℕ, List, IfOk, Some, drop, length, map, slice_get};
 ghost use Rattle.std.specs.List.{All};
@@ -70,8 +71,8 @@ fn reply_of(ranks: u32, sums: &[u64], queries: &[Item], i: usize) -> Item
     }
 }
 
-/// Hands on the replies, which are `count`, from number `from` on, until one is refused or all are handed over, and says
-/// how many are by then.
+/// Hands on the replies, which are `count`, from number `from` on, until one is refused or all are
+/// handed over, and says how many are by then.
 #[inline(never)]
 pub(crate) fn emit_replies<D: Departures>(
     ranks: u32,

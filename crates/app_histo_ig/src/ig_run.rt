@@ -104,8 +104,9 @@ fn no_queries(alloc: Global, ranks: u32, queries: usize) -> Result<Vec<Vec<Item>
     Ok(lists)
 }
 
-/// Writes a line for each entry of the matrix, in order: its row and column from 1, and the sum of its column. The
-/// programs are those of `ig_start` on this matrix after their run. No memory is taken.
+/// Writes a line for each entry of the matrix, in order: its row and column from 1, and the sum of
+/// its column. The programs are those of `ig_start` on this matrix after their run. No memory is
+/// taken.
 ///
 /// # Errors
 ///

@@ -1,4 +1,5 @@
-//! What a rank of ig sends, put together from the entries that it keeps: so of values and queries no list is made.
+//! What a rank of ig sends, put together from the entries that it keeps: so of values and queries
+//! no list is made.
 
 ghost use Rattle.std.specs.Prelude.{◌≡◌, ◌<◌, ◌-◌, ℕ, List, Some, length, map, slice_get};
 ghost use Rattle.round_program.specs.Handing.{MayHandOver, HandsUpTo};
@@ -31,8 +32,9 @@ pub(crate) fn count_of(round: u64, own: &Vec<Own>, asked: u64) -> u64
     0
 }
 
-/// Hands on what is sent of the entries in rounds 0 and 1, from number `from` on, until one is refused or all are handed
-/// over, and says how many are by then. What a rank keeps is looked up once for them all.
+/// Hands on what is sent of the entries in rounds 0 and 1, from number `from` on, until one is
+/// refused or all are handed over, and says how many are by then. What a rank keeps is looked up
+/// once for them all.
 #[inline(always)]
 pub(crate) fn emit_own<D: Departures>(
     round: u64,

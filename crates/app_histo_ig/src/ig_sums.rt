@@ -12,8 +12,8 @@ use bale_items::{Item, NoMemory};
 use round_program::{Arrivals, Program};
 use std::marker::Model;
 
-/// One rank's part of ig's first round: the owner of each column adds up its values. Column `j` belongs to rank
-/// `j mod ranks`, which keeps its sum at place `j div ranks`.
+/// One rank's part of ig's first round: the owner of each column adds up its values. Column `j`
+/// belongs to rank `j mod ranks`, which keeps its sum at place `j div ranks`.
 #[derive(Drop)]
 pub struct IgSums {
     rank: u32,

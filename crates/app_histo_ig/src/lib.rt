@@ -1,5 +1,5 @@
-//! Two applications on the entries of a matrix, as programs in rounds: histo counts the entries of each column, and ig
-//! tells each entry the sum of its column.
+//! Two applications on the entries of a matrix, as programs in rounds: histo counts the entries of
+//! each column, and ig tells each entry the sum of its column.
 //!
 //! | Call | For | Answer |
 //! |---|---|---|
@@ -14,10 +14,12 @@
 //! | [`write_count`] | a column and its count | its line of `histo_write` |
 //! | [`all_askers`] | programs of `ig_sums_start`, at any moment | their askers, by what each has added up |
 //!
-//! The entries are dealt out in turn, and column `j` belongs to rank `j mod P`. What the lines are is said of the matrix
-//! alone (`specs/HistoLines` and `specs/IgLines`): no rank, no round and no order of items occurs there.
-//! sparse_rows' `proofs/EveryEntry` has the lemma that carries one to the other: after a round in which the ranks emit what is
-//! theirs of a list, each rank is as if it alone had gone through the list and absorbed what is sent to it.
+//! The entries are dealt out in turn, and column `j` belongs to rank `j mod P`. What the lines are
+//! is said of the matrix alone (`specs/HistoLines` and `specs/IgLines`): no rank, no round and no
+//! order of items occurs there.
+//! sparse_rows' `proofs/EveryEntry` has the lemma that carries one to the other: after a round in
+//! which the ranks emit what is theirs of a list, each rank is as if it alone had gone through the
+//! list and absorbed what is sent to it.
 //!
 //! | Law | Round | A rank emits, in order |
 //! |---|---|---|
@@ -26,7 +28,8 @@
 //! | [`ig_rounds`] | 1 | for each own entry, with its number e, to the owner of column j, (j,e,0) |
 //! | | 2 | for each entry in an own column, with its number e, to its rank, (e, bits of the column's sum, 0) |
 //!
-//! What the answers mean is in `specs/Meanings`, and what is emitted in `specs/HistoTable` and `specs/IgTable`.
+//! What the answers mean is in `specs/Meanings`, and what is emitted in `specs/HistoTable` and
+//! `specs/IgTable`.
 #![tactic(auto)]
 
 mod answered;

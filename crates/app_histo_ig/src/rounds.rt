@@ -7,12 +7,14 @@ pub fn histo_rounds()
     ensures { HistoRounds }
 {}
 
-/// ig has three rounds: each entry's value goes to the owner of its column, then its query, and the owner replies with the sum.
+/// ig has three rounds: each entry's value goes to the owner of its column, then its query, and the
+/// owner replies with the sum.
 pub fn ig_rounds()
     ensures { IgRounds }
 {}
 
-/// Where ranks ask one another at once (`ig --via biconvey`), the values are sent in a round of their own.
+/// Where ranks ask one another at once (`ig --via biconvey`), the values are sent in a round of
+/// their own.
 pub fn ig_sums_rounds()
     ensures { IgSumsRounds }
 {}

@@ -1,5 +1,5 @@
--- The cells of a matrix on their way through permute, as one list for all ranks: by row, by column and new row, and by new
--- row and new column.
+-- The cells of a matrix on their way through permute, as one list for all ranks: by row, by column
+-- and new row, and by new row and new column.
 use Rattle.std.proofs.Common.{ℕ, ◌%◌, ◌<◌, ◌≡◌, eqb, List, [], map, length, get_or, IsPermutation, sym, ap, ◌∙◌}
 use Rattle.std.specs.List.{All, AllPairs}
 use Rattle.std.proofs.lemmas.Bool.{eqb-true}

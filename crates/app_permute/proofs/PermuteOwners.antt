@@ -1,5 +1,5 @@
--- What the ranks of permute have after each of their three rounds, and in the end: the rows of the permuted matrix that are
--- theirs.
+-- What the ranks of permute have after each of their three rounds, and in the end: the rows of the
+-- permuted matrix that are theirs.
 use Rattle.std.proofs.Common.{◌≡◌, ℕ, ◌%◌, ◌<◌, ◌≤◌, ◌^◌, ◌==◌, true, List, [], ◌∷◌, Some, None, All, map, length, get_or, slice_get, arith, refl, sym, ap, ◌∙◌, subst, lit<}
 use Rattle.std.specs.Prelude.{nat_abs}
 use Rattle.std.specs.List.{range_with_len, flat_map}

@@ -1,4 +1,5 @@
--- What a rank sends at its start, and in a round of permute from the cells that came in the one before.
+-- What a rank sends at its start, and in a round of permute from the cells that came in the one
+-- before.
 use Rattle.std.proofs.Common.{◌≡◌, ℕ, zero, suc, ◌+◌, ◌-◌, ◌^◌, ◌≤◌, ◌==◌, min, List, [], ◌∷◌, map, cond, refl, sym, ap, ◌∙◌, arith}
 use Rattle.std.proofs.lemmas.Bool.{ne_eqb}
 use Rattle.bale_items.specs.declared.triple.Triple.{Triple}
@@ -28,7 +29,8 @@ rows_sent ranks news (t ∷ ts) = ap (λ l. to_row ranks news t ∷ l) (rows_sen
 past_two : {X : Type 0} (round : ℕ) (x y z : X) → 2 ≤ round → cond (round == 0) x (cond (round == 1) y z) ≡ z
 past_two round x y z high = ap (λ b. cond b x (cond (round == 1) y z)) (ne_eqb round 0 (λ e. absurd (omega (arith, e, high)))) ∙ ap (λ b. cond b y z) (ne_eqb round 1 (λ e. absurd (omega (arith, e, high))))
 
--- after a round, cells that have their new numbers are sent as the definition of the next round wants it
+-- after a round, cells that have their new numbers are sent as the definition of the next round
+-- wants it
 pub sent_after : (round next ranks : ℕ) (rows cols : List ℕ) (came kept : List Triple) → next ≡ min (round + 1) (2 ^ 64 - 1) → (2 ≤ round → came ≡ [])
     → kept ≡ cond (round == 0) (map (with_new_row ranks rows) came) (cond (round == 1) (map (with_new_column ranks cols) came) came)
     → sent_of next ranks kept ≡ cond (round == 0) (map (to_column ranks rows) came) (cond (round == 1) (map (to_row ranks cols) came) [])

@@ -1,4 +1,5 @@
--- What the ranks of transpose have after their round: the rows of the transposed matrix that are theirs.
+-- What the ranks of transpose have after their round: the rows of the transposed matrix that are
+-- theirs.
 use Rattle.std.proofs.Common.{◌≡◌, ℕ, ◌%◌, ◌<◌, ◌≤◌, ◌^◌, ◌==◌, cond, Bool, true, false, List, [], ◌∷◌, Some, None, map, length, get_or, slice_get, arith, refl, sym, ap, ◌∙◌, subst, lit<}
 use Rattle.std.specs.List.{range_with_len, flat_map}
 use Rattle.std.proofs.Math.Nat.{mod-lt}

@@ -19,7 +19,8 @@ pub record ComesFrom (p q : List ℕ) (m : Sparse) (k l : ℕ) (v : ℤ) : Type 
 -- The bytes are the text of a matrix B with B(p(i), q(j)) = A(i,j) and nothing else, where p and q
 -- are permutations of the rows and the columns. Its entries, by row and then column, are a finite
 -- map: each place comes once.
--- of 3 rows and columns with (0,1,9), p = 1, 2, 0 and q = 2, 0, 1: the text of the matrix with (1,0,9)
+-- of 3 rows and columns with (0,1,9), p = 1, 2, 0 and q = 2, 0, 1: the text of the matrix with
+-- (1,0,9)
 pub record PermuteMeans (p q : List ℕ) (m : Sparse) (bytes : List ℕ) : Type 0 where
   pub matrix : Sparse
   pub text : bytes ≡ text_of matrix
@@ -31,7 +32,8 @@ pub record PermuteMeans (p q : List ℕ) (m : Sparse) (bytes : List ℕ) : Type 
 
 -- The bytes are the text of a matrix B with B(j,i) = A(i,j) for all i and j, so with nothing else.
 -- Its entries, by row and then column, are a finite map.
--- of 2 rows and 3 columns with (0,2,-7), (1,0,4): the text of 3 rows and 2 columns with (0,1,4), (2,0,-7)
+-- of 2 rows and 3 columns with (0,2,-7), (1,0,4): the text of 3 rows and 2 columns with (0,1,4),
+-- (2,0,-7)
 pub record TransposeMeans (m : Sparse) (bytes : List ℕ) : Type 0 where
   pub matrix : Sparse
   pub text : bytes ≡ text_of matrix

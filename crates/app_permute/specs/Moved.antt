@@ -1,4 +1,5 @@
--- The answers: a matrix turned over its diagonal, and a matrix with its rows and columns in another order.
+-- The answers: a matrix turned over its diagonal, and a matrix with its rows and columns in another
+-- order.
 use Rattle.std.specs.Prelude.{ℕ, ◌<◌, ◌≡◌, List, map, slice_index_or}
 use Rattle.std.specs.List.{All}
 use Rattle.bale_items.specs.declared.triple.Triple.{Triple}
@@ -16,7 +17,8 @@ turned t = record { i = t.j; j = t.i; v = t.v }
 abbrev pub transposed : Sparse → Sparse
 transposed m = sparse m.cols m.rows m.kind (gathered (map turned m.entries))
 
--- What a transposed matrix is, place by place: it has A's value at (i,j) at (j,i), and where A has none, none.
+-- What a transposed matrix is, place by place: it has A's value at (i,j) at (j,i), and where A has
+-- none, none.
 pub record IsTransposed (m b : Sparse) : Type 0 where
   pub rows : b.rows ≡ m.cols
   pub cols : b.cols ≡ m.rows
@@ -39,8 +41,9 @@ moved p q t = record { i = number_in p t.i; j = number_in q t.j; v = t.v }
 abbrev pub permuted : List ℕ → List ℕ → Sparse → Sparse
 permuted p q m = sparse m.rows m.cols m.kind (gathered (map (moved p q) m.entries))
 
--- What a permuted matrix is, place by place: it has A's value at (i,j) at (p(i), q(j)), where A has none, none, and
--- no entry outside. Each place inside is (p(i), q(j)) for one (i,j), since p and q are permutations.
+-- What a permuted matrix is, place by place: it has A's value at (i,j) at (p(i), q(j)), where A has
+-- none, none, and no entry outside. Each place inside is (p(i), q(j)) for one (i,j), since p and q
+-- are permutations.
 pub record IsPermuted (p q : List ℕ) (m b : Sparse) : Type 0 where
   pub rows : b.rows ≡ m.rows
   pub cols : b.cols ≡ m.cols

@@ -7,7 +7,8 @@ pub record TwoLists : Type 0 where
   pub rows : List ℕ
   pub cols : List ℕ
 
--- The permutations of a seed: that of the rows is drawn first, that of the columns from the state after it.
+-- The permutations of a seed: that of the rows is drawn first, that of the columns from the state
+-- after it.
 -- for seed 42 and three rows and columns: 2, 1, 0 and 0, 1, 2
 abbrev pub perms_of : ℕ → ℕ → ℕ → TwoLists
 perms_of rows cols seed = record {

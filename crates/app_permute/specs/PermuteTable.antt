@@ -35,8 +35,9 @@ abbrev pub columns_first : List ℕ → Sparse → List Triple
 columns_first p m = gathered (map (λ t. record { i = t.j; j = number_in p t.i; v = t.v }) m.entries)
 
 -- Round 2: each entry of an own column, with both new numbers, to the owner of its new row.
--- for each (i,j,v) in an own column j, by column and then new row: to p(i) mod ranks, (p(i), q(j), bits of v)
--- of the same with q = 2, 0, 1: rank 0 emits (2,1,4) to rank 0, rank 1 emits (1,0,9) to rank 1
+-- for each (i,j,v) in an own column j, by column and then new row: to p(i) mod ranks, (p(i), q(j),
+-- bits of v) of the same with q = 2, 0, 1: rank 0 emits (2,1,4) to rank 0, rank 1 emits (1,0,9) to
+-- rank 1
 abbrev pub to_new_rows : ℕ → Sparse → List ℕ → List ℕ → ℕ → List (ℕ × Item)
 to_new_rows ranks m p q r =
     map (λ t. (t.j % ranks, item t.j (number_in q t.i) (twos_complement t.v)))

@@ -38,7 +38,8 @@ new_number ranks news x = slice_index_or news (x / ranks) 0
 abbrev pub to_column : ℕ → List ℕ → Triple → ℕ × Item
 to_column ranks news t = (t.j % ranks, record { a = new_number ranks news t.i; b = t.j; c = twos_complement t.v })
 
--- round 2: a cell of own column j and new row x, kept as (j,x), goes to the owner of x, as (x, new number of j)
+-- round 2: a cell of own column j and new row x, kept as (j,x), goes to the owner of x, as (x, new
+-- number of j)
 abbrev pub to_row : ℕ → List ℕ → Triple → ℕ × Item
 to_row ranks news t = (t.j % ranks, record { a = t.j; b = new_number ranks news t.i; c = twos_complement t.v })
 
@@ -46,7 +47,8 @@ to_row ranks news t = (t.j % ranks, record { a = t.j; b = new_number ranks news 
 abbrev pub kept_as : ℕ → Item → Triple
 kept_as round x = if round == 1 then record { i = x.b; j = x.a; v = from_twos_complement x.c } else cell_of x
 
--- the owner of a column may be sent cells of it in round 1, and the owner of a row in the other rounds
+-- the owner of a column may be sent cells of it in round 1, and the owner of a row in the other
+-- rounds
 abbrev pub may_permute : List ℕ → ℕ → ℕ → ℕ → ℕ → Item → Bool
 may_permute (rows ∷ (cols ∷ [])) ranks round to from x =
     nat_lt from ranks && nat_lt x.a rows && nat_lt x.b cols && (if round == 1 then x.b else x.a) % ranks == to
@@ -77,7 +79,8 @@ pub record IsPermuting (s : PermuteState) : Type 0 where
   pub ordered : InOrder s.cells
   pub fit : All (λ e. may_permute (s.rows ∷ s.cols ∷ []) s.ranks s.round e.0 s.rank e.1 ≡ true) s.outgoing
 
--- what is sent after this round: to columns after round 0, to new rows after round 1, and then nothing
+-- what is sent after this round: to columns after round 0, to new rows after round 1, and then
+-- nothing
 abbrev pub next_outgoing : PermuteState → List (ℕ × Item)
 next_outgoing s =
     if s.round == 0 then map (to_column s.ranks s.new_rows) s.cells

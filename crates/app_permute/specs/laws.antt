@@ -1,3 +1,4 @@
--- Laws of this crate's definitions, with their proofs: what a trait asks for, and nothing to be believed.
+-- Laws of this crate's definitions, with their proofs: what a trait asks for, and nothing to be
+-- believed.
 pub mod PermuteLaws
 pub mod TransposeLaws

@@ -1,5 +1,5 @@
-//! Rows and columns of a matrix in another order: transpose turns a matrix over its diagonal, and permute gives its rows
-//! and columns new numbers. Both are programs in rounds.
+//! Rows and columns of a matrix in another order: transpose turns a matrix over its diagonal, and
+//! permute gives its rows and columns new numbers. Both are programs in rounds.
 //!
 //! | Call | For | Answer |
 //! |---|---|---|
@@ -11,8 +11,9 @@
 //! | [`seed_perms`] | permutations of rows and columns from a seed | drawn from one generator, the rows' first |
 //! | [`Perms::rows`], [`Perms::cols`] | the new numbers | the element at `x` is the new number of `x` |
 //!
-//! The entries are dealt out in turn; row `i` and column `j` belong to ranks `i mod P` and `j mod P`. What the new matrices
-//! are is said of the matrix alone (`specs/Moved`): no rank, no round and no order of items occurs there.
+//! The entries are dealt out in turn; row `i` and column `j` belong to ranks `i mod P` and `j mod
+//! P`. What the new matrices are is said of the matrix alone (`specs/Moved`): no rank, no round and
+//! no order of items occurs there.
 //!
 //! | Law | Round | A rank emits, in order |
 //! |---|---|---|
@@ -21,7 +22,8 @@
 //! | | 2 | for each entry of an own column j, to the owner of its new row p(i), (p(i), q(j), bits of v) |
 //! | [`transpose_rounds`] | 0 | for each own entry, to the owner of column j, (j, i, bits of v) |
 //!
-//! What the answers mean is in `specs/Meanings`, and what is emitted in `specs/PermuteTable` and `specs/TransposeTable`.
+//! What the answers mean is in `specs/Meanings`, and what is emitted in `specs/PermuteTable` and
+//! `specs/TransposeTable`.
 #![tactic(auto)]
 
 mod carried;

@@ -1,4 +1,5 @@
-//! permute: cells travel by their rows, by their columns, and by their new rows, and each owner gives a new number.
+//! permute: cells travel by their rows, by their columns, and by their new rows, and each owner
+//! gives a new number.
 
 ghost use Rattle.std.specs.Prelude.{◌≡◌, []};
 ghost use Rattle.app_permute.specs.Permutes.{IsPermuting};
@@ -13,9 +14,10 @@ use round_program::{Arrivals, Departures, Program};
 use std::alloc::Global;
 use std::marker::Model;
 
-/// One rank's part of permute, in three rounds. Row `i` belongs to rank `i mod ranks` and column `j` to rank `j mod ranks`,
-/// in the old matrix and in the new one. A rank knows the new numbers of its own rows and columns alone, so a cell goes
-/// to the owner of its row, then to that of its column, and then to that of its new row.
+/// One rank's part of permute, in three rounds. Row `i` belongs to rank `i mod ranks` and column
+/// `j` to rank `j mod ranks`, in the old matrix and in the new one. A rank knows the new numbers of
+/// its own rows and columns alone, so a cell goes to the owner of its row, then to that of its
+/// column, and then to that of its new row.
 #[derive(Drop)]
 pub struct Permute {
     rank: u32,

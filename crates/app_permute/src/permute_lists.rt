@@ -9,7 +9,8 @@ use bale_items::{NoMemory, Triple};
 use mtx_text::Cells;
 use std::alloc::Global;
 
-/// Moves the cells that came in round 0 or 1 into `list`, in order; those of a later round stay, and the list is empty.
+/// Moves the cells that came in round 0 or 1 into `list`, in order; those of a later round stay,
+/// and the list is empty.
 pub(crate) fn take_cells(cells: &mut Cells, list: &mut Vec<Triple>, round: u64)
     ensures came { list.new.items ≡ (if nat_lt round 2 then cells.old else []) }
     ensures kept { cells.new ≡ (if nat_lt round 2 then [] else cells.old) }
@@ -21,8 +22,8 @@ pub(crate) fn take_cells(cells: &mut Cells, list: &mut Vec<Triple>, round: u64)
     }
 }
 
-/// Gives the cells that came in a round the new numbers that the rank knows: of their rows after round 0, and of their
-/// columns after round 1.
+/// Gives the cells that came in a round the new numbers that the rank knows: of their rows after
+/// round 0, and of their columns after round 1.
 pub(crate) fn renumber(
     cells: &mut Vec<Triple>,
     round: u64,
@@ -68,7 +69,8 @@ fn with_new_row(ranks: u32, news: &[u32], cell: Triple) -> Triple
     }
 }
 
-/// Gives cells, kept by their columns first, the new numbers of their columns, and keeps them by their rows first.
+/// Gives cells, kept by their columns first, the new numbers of their columns, and keeps them by
+/// their rows first.
 fn renumber_columns(cells: &mut Vec<Triple>, ranks: u32, news: &[u32])
     requires some { 0 < ranks }
     requires placed { All (λ t. t.i / ranks < length news.now) cells.old.items }

@@ -17,8 +17,9 @@ use round_program::Progs;
 use sparse_rows::{Parts, split};
 use std::alloc::Global;
 
-/// The programs of permute on `ranks` ranks, from 1 to 64, in round 0 of a run of three rounds. `rp` and `cp` are
-/// permutations of the rows and the columns: row `i` becomes row `rp[i]`, and column `j` column `cp[j]`.
+/// The programs of permute on `ranks` ranks, from 1 to 64, in round 0 of a run of three rounds.
+/// `rp` and `cp` are permutations of the rows and the columns: row `i` becomes row `rp[i]`, and
+/// column `j` column `cp[j]`.
 ///
 /// # Errors
 ///
@@ -83,7 +84,8 @@ fn cells_of(alloc: Global, parts: &Parts, rank: u32) -> Result<Vec<Triple>, NoMe
     Ok(cells)
 }
 
-/// The permuted matrix, by row and then column. The programs are those of `permute_start` on `m` after their run.
+/// The permuted matrix, by row and then column. The programs are those of `permute_start` on `m`
+/// after their run.
 ///
 /// # Errors
 ///

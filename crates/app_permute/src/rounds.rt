@@ -2,8 +2,8 @@
 ghost use Rattle.app_permute.specs.PermuteTable.{PermuteRounds};
 ghost use Rattle.app_permute.specs.TransposeTable.{TransposeRounds};
 
-/// permute has three rounds: each entry goes to the owner of its row, of its column, and of its new row, and gets its new row and
-/// its new column on the way.
+/// permute has three rounds: each entry goes to the owner of its row, of its column, and of its new
+/// row, and gets its new row and its new column on the way.
 pub fn permute_rounds()
     ensures { PermuteRounds }
 {}

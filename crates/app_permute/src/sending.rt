@@ -8,8 +8,8 @@ use crate::carried::cell_sent;
 use bale_items::{Item, Triple};
 use round_program::Departures;
 
-/// Hands on what is sent, from number `from` on, until one is refused or all are handed over, and says how many are by
-/// then. What a rank keeps is looked up once for them all.
+/// Hands on what is sent, from number `from` on, until one is refused or all are handed over, and
+/// says how many are by then. What a rank keeps is looked up once for them all.
 #[inline(always)]
 pub(crate) fn emit_sent<D: Departures>(
     round: u64,

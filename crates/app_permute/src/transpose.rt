@@ -12,7 +12,8 @@ use round_program::{Arrivals, Departures, Program};
 use std::alloc::Global;
 use std::marker::Model;
 
-/// One rank's part of transpose, in one round. Row `x` of the transposed matrix belongs to rank `x mod ranks`.
+/// One rank's part of transpose, in one round. Row `x` of the transposed matrix belongs to rank `x
+/// mod ranks`.
 #[derive(Drop)]
 pub struct Transpose {
     rank: u32,

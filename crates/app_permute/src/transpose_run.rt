@@ -75,7 +75,8 @@ fn turned(entry: Triple) -> Triple
     }
 }
 
-/// The transposed matrix, by row and then column. The programs are those of `transpose_start` on `m` after their run.
+/// The transposed matrix, by row and then column. The programs are those of `transpose_start` on
+/// `m` after their run.
 ///
 /// # Errors
 ///

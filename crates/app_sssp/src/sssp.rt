@@ -1,5 +1,5 @@
-//! sssp: each rank has the edges of its vertices and the least weight found for each, and in each round offers weights
-//! along the edges of those that were improved.
+//! sssp: each rank has the edges of its vertices and the least weight found for each, and in each
+//! round offers weights along the edges of those that were improved.
 
 ghost use Rattle.bale_items.specs.Changes.{AllOrNothing};
 ghost use Rattle.std.specs.Prelude.{◌≡◌, ◌<◌, ◌/◌, ◌-◌, ◌^◌, ◌==◌, [], if◌then◌else◌, OnOk, OnErr, length};
@@ -19,7 +19,8 @@ use std::alloc::Global;
 use std::marker::Model;
 use std::mem;
 
-/// One rank's part of sssp. Vertex `i` belongs to rank `i mod ranks`, which keeps it at place `i div ranks`.
+/// One rank's part of sssp. Vertex `i` belongs to rank `i mod ranks`, which keeps it at place `i
+/// div ranks`.
 #[derive(Drop)]
 pub struct Sssp {
     alloc: Global,
@@ -36,7 +37,8 @@ pub struct Sssp {
     vertices: Vertices,
     /// what is sent in this round: edges, then weights
     outgoing: Vec<(u32, Item)>,
-    /// what was sent in the round before, or anything: a list whose memory is kept for the next round
+    /// what was sent in the round before, or anything: a list whose memory is kept for the next
+    /// round
     spare: Vec<(u32, Item)>,
 }
 

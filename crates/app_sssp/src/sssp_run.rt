@@ -23,8 +23,9 @@ use round_program::Progs;
 use sparse_rows::{Parts, split};
 use std::alloc::Global;
 
-/// The programs of sssp on `ranks` ranks, from 1 to 64, from the vertex `source`, in round 0 of a run of at most as many
-/// rounds as there are vertices, and one. The matrix is square, and no value is negative.
+/// The programs of sssp on `ranks` ranks, from 1 to 64, from the vertex `source`, in round 0 of a
+/// run of at most as many rounds as there are vertices, and one. The matrix is square, and no value
+/// is negative.
 ///
 /// # Errors
 ///
@@ -71,7 +72,8 @@ fn part_of(
     Ok(Sssp::new(alloc, rank, ranks, m.rows(), vertices, outgoing))
 }
 
-/// The vertices of a rank at the start, at so many places: the source is improved, where it is an own one.
+/// The vertices of a rank at the start, at so many places: the source is improved, where it is an
+/// own one.
 ///
 /// # Errors
 ///
@@ -134,8 +136,8 @@ fn edge_sent(entry: Triple) -> Item
     }
 }
 
-/// Writes a line for each vertex, in order: its number from 1, and the least weight of a walk to it or `-`. The programs
-/// are those of `sssp_start` after their run. No memory is taken.
+/// Writes a line for each vertex, in order: its number from 1, and the least weight of a walk to it
+/// or `-`. The programs are those of `sssp_start` after their run. No memory is taken.
 ///
 /// # Errors
 ///

@@ -20,7 +20,8 @@ Entry = List ℕ × ℕ
 abbrev pub times : List ℕ → List (List ℕ) → ℕ
 times l lines = count_by (λ m. is_eq (by_bytes l m)) lines
 
--- Entries with one more line that was compared with the first of them; `later` are the others with that line.
+-- Entries with one more line that was compared with the first of them; `later` are the others with
+-- that line.
 abbrev pub counted_by : Ordering → List ℕ → Entry → List Entry → List Entry → List Entry
 counted_by Less l e es later = (l, 1) ∷ e ∷ es
 counted_by Equal l e es later = (e.0, e.1 + 1) ∷ es

@@ -50,7 +50,8 @@ impl Counts {
         self.times.len()
     }
 
-    /// Distinct line number `i` in the order of bytes, from 0, which is below the number of distinct lines.
+    /// Distinct line number `i` in the order of bytes, from 0, which is below the number of
+    /// distinct lines.
     pub fn line(&self, i: usize) -> &[u8]
         requires { i < length self.now }
         ensures { slice_get (map (λ e. e.0) self.now) i ≡ Some result.now }

@@ -7,9 +7,10 @@
 //! | [`tally_end`] | the programs, once they ended | each distinct line with how many times it was read |
 //! | [`tally_write`] | the answer's text | a line for each distinct line, in the order of bytes |
 //!
-//! The lines are dealt out in turn, and each goes as one letter to the rank that is the sum of its bytes modulo the number of
-//! ranks. A rank appends what comes; all is sorted and counted once, at the end. What the answer is, is said of the lines
-//! alone (`specs/Counts`): no rank, no round and no item occurs there.
+//! The lines are dealt out in turn, and each goes as one letter to the rank that is the sum of its
+//! bytes modulo the number of ranks. A rank appends what comes; all is sorted and counted once, at
+//! the end. What the answer is, is said of the lines alone (`specs/Counts`): no rank, no round and
+//! no item occurs there.
 //!
 //! | Law | Round | A rank emits, in order |
 //! |---|---|---|

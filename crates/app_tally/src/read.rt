@@ -11,13 +11,14 @@ use std::alloc::Global;
 
 /// The lines of the text that a source still has to give.
 ///
-/// The source is read to its end, or until one byte past the limit was taken; then the text is cut. What the source has left
-/// stands behind what was read, whatever the answer.
+/// The source is read to its end, or until one byte past the limit was taken; then the text is cut.
+/// What the source has left stands behind what was read, whatever the answer.
 ///
 /// # Errors
 ///
-/// `Source` where a read failed, and only there, as the source's faults tell; `TooLong` exactly where the text has more than
-/// 16,777,216 bytes, and else `LineTooLong` exactly where a line has more than 65,535; want of memory may come at any time.
+/// `Source` where a read failed, and only there, as the source's faults tell; `TooLong` exactly
+/// where the text has more than 16,777,216 bytes, and else `LineTooLong` exactly where a line has
+/// more than 65,535; want of memory may come at any time.
 pub fn read_lines<S: Source>(alloc: Global, source: &mut S) -> Result<Lines, LinesFault>
     ensures gives { (text : List ℕ) → S.left source.old ≡ Some text → LinesGive result (lines_of_text text) }
     ensures left { (text : List ℕ) → S.left source.old ≡ Some text

@@ -76,8 +76,8 @@ fn how_many(len: usize, step: usize, first: usize) -> usize
     (len + (step - 1 - first)) / step
 }
 
-/// Each distinct line that came to the ranks, with how many times it came. After the run of the programs of `tally_start` these are
-/// the lines that were read.
+/// Each distinct line that came to the ranks, with how many times it came. After the run of the
+/// programs of `tally_start` these are the lines that were read.
 ///
 /// # Errors
 ///

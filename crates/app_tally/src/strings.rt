@@ -59,7 +59,8 @@ impl Strings {
         Strings { bytes, spans }
     }
 
-    /// Puts a string at the end. After `NoMemory`, which is also the answer once the strings have 4 GiB, they are as before.
+    /// Puts a string at the end. After `NoMemory`, which is also the answer once the strings have 4
+    /// GiB, they are as before.
     pub(crate) fn push(&mut self, string: &[u8]) -> Result<(), NoMemory>
         requires { length string.now ≤ 65_535 }
         ensures { AllOrNothing (self.old ++ string.now ∷ []) self.old self.new result }

@@ -10,8 +10,9 @@ use elastic::LetterProgram;
 use std::alloc::Global;
 use std::marker::Model;
 
-/// One rank's part of tally, in one round. A line is counted by the rank that is the sum of its bytes modulo the number of
-/// ranks. What comes is appended; it is sorted and counted once, when all ranks have ended.
+/// One rank's part of tally, in one round. A line is counted by the rank that is the sum of its
+/// bytes modulo the number of ranks. What comes is appended; it is sorted and counted once, when
+/// all ranks have ended.
 #[derive(Drop)]
 pub struct Tally {
     alloc: Global,

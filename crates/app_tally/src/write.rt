@@ -7,8 +7,8 @@ ghost use Rattle.app_tally.specs.Counts.{entry_text, tally_text};
 use crate::counts::Counts;
 use bale_types::{Failed, Line, Out, Sink};
 
-/// Writes for each distinct line, in the order of bytes, how many times it was read, one space, the line and LF. No memory is
-/// taken.
+/// Writes for each distinct line, in the order of bytes, how many times it was read, one space, the
+/// line and LF. No memory is taken.
 ///
 /// # Errors
 ///

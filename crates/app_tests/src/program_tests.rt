@@ -1,4 +1,5 @@
-//! The canonical run of small programs by hand: what the definition computes, and what the code does.
+//! The canonical run of small programs by hand: what the definition computes, and what the code
+//! does.
 
 ghost use Rattle.app_tests.specs.SmallTable.{SmallCount};
 

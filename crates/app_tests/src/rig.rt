@@ -1,12 +1,12 @@
-//! The canonical run by hand: in each round every rank absorbs what all ranks sent it, sender by sender, and ends the round
-//! with the sum of the votes.
+//! The canonical run by hand: in each round every rank absorbs what all ranks sent it, sender by
+//! sender, and ends the round with the sum of the votes.
 
 use bale_items::{Item, NoMemory};
 use round_program::{Program, Progs};
 use std::alloc::Global;
 
-/// All ranks after the canonical run, and the sum of the votes of each of its rounds. A run of more than `most` rounds is
-/// given up, and then there are no sums.
+/// All ranks after the canonical run, and the sum of the votes of each of its rounds. A run of more
+/// than `most` rounds is given up, and then there are no sums.
 pub(crate) fn run<Q: Program>(
     alloc: Global,
     progs: Progs<Q>,

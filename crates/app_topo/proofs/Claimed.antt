@@ -1,5 +1,5 @@
--- Where a valid pair exists, every level takes a row until all have claimed, and the claims are the pair's diagonal: so the
--- claims of n levels are complete.
+-- Where a valid pair exists, every level takes a row until all have claimed, and the claims are the
+-- pair's diagonal: so the claims of n levels are complete.
 use Rattle.std.proofs.Common.{ℕ, zero, suc, ◌+◌, ◌-◌, ◌<◌, ◌≤◌, ◌≡◌, ◌⊎◌, Bool, true, ◌&&◌, eqb, List, [], ◌∷◌, length, get_or, count_by, All, arith, inl, inr, refl, sym, ap, ◌∙◌, subst}
 use Rattle.std.specs.List.{AllPairs, Contains, list_all, range_with_len}
 use Rattle.std.proofs.lemmas.Bool.{cases_Bool, cases_eq, eq-eqb, eqb-true, and_from}

@@ -151,7 +151,8 @@ count_total {X} n f xs low = total_same n _ _ (λ i l. each i xs) ∙ dealt_sum 
           | inr u ↦ ap (λ b. one_if b + sum_by (λ x. 1) (dealt f i ys)) u ∙ zero_first (sum_by (λ x. 1) (dealt f i ys)) ∙ ap (λ b. sum_by (λ x. 1) (cond b (y ∷ dealt f i ys) (dealt f i ys))) (sym u)
         ])
 
--- where none comes twice and there are n, each comes once; and where each comes and there are n, none comes twice
+-- where none comes twice and there are n, each comes once; and where each comes and there are n,
+-- none comes twice
 pub all_once : (n : ℕ) (f : ℕ → ℕ) → ((i : ℕ) → i < n → f i ≤ 1) → n ≤ total n f → (i : ℕ) → i < n → f i ≡ 1
 all_once n f few many i l =
     elim (cases_eq (f i) 1) [

@@ -1,5 +1,5 @@
--- What holds of the claims of any matrix's levels: they are of rows of the matrix, no row claims twice, each claim is at an
--- entry, and a row claims only once all its other columns are taken.
+-- What holds of the claims of any matrix's levels: they are of rows of the matrix, no row claims
+-- twice, each claim is at an entry, and a row claims only once all its other columns are taken.
 use Rattle.std.proofs.Common.{ℕ, zero, suc, ◌+◌, ◌-◌, ◌<◌, ◌≤◌, ◌≡◌, Bool, true, false, cond, eqb, List, [], ◌∷◌, ◌++◌, map, length, get_or, take, sum_by, count_by, All, arith, inl, inr, refl, sym, ap, ◌∙◌, subst}
 use Rattle.std.specs.List.{Contains, filter, range_with_len}
 use Rattle.std.proofs.lemmas.Bool.{cases_Bool, cases_eq, cases_lt, eq-eqb, ne_eqb, eqb-true, and_from, and_parts}
@@ -42,7 +42,8 @@ ready_parts es claims i h =
 pub ready_from : (es : List Triple) (claims : List Claim) (i : ℕ) → row_claims i claims ≡ 0 → count_by (is_open claims i) es ≡ 1 → is_ready es claims i ≡ true
 ready_from es claims i u o = and_from _ _ (eq-eqb (row_claims i claims) 0 u) (eq-eqb (length (open_columns es claims i)) 1 (open_count es claims i ∙ o))
 
--- where a row has one open entry, the columns of its open entries are together the one that it claims
+-- where a row has one open entry, the columns of its open entries are together the one that it
+-- claims
 pub sum_claimed : (es : List Triple) (claims : List Claim) (i : ℕ) → count_by (is_open claims i) es ≡ 1
     → sum_by (λ t. cond (is_open claims i t) t.j 0) es ≡ claimed_column es claims i
 sum_claimed es claims i one =

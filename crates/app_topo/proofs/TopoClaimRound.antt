@@ -1,5 +1,5 @@
--- An odd round of topo takes the ranks from the claims of a level to what they free, and its votes tell whether the level has
--- a row.
+-- An odd round of topo takes the ranks from the claims of a level to what they free, and its votes
+-- tell whether the level has a row.
 use Rattle.std.proofs.Common.{ℕ, zero, suc, ◌+◌, ◌-◌, ◌*◌, ◌/◌, ◌%◌, ◌^◌, ◌<◌, ◌≤◌, ◌≡◌, ◌≢◌, ◌==◌, ◌++◌, min, Bool, true, false, cond, List, [], ◌∷◌, Some, map, slice_get, sum_by, All, arith, refl, sym, ap, ◌∙◌, subst}
 use Rattle.std.specs.Prelude.{nat_lt}
 use Rattle.std.specs.List.{range_with_len}

@@ -111,7 +111,8 @@ added_total ranks r n chosen amount f g (e ∷ es) low own word is =
           given ∙ omega (arith, s, part))
     ]
 
--- of a list whose items go to the owners of their first numbers, what comes to the owner of i adds what the whole list does
+-- of a list whose items go to the owners of their first numbers, what comes to the owner of i adds
+-- what the whole list does
 pub came_share : {X : Type 0} (from : X → ℕ) (item : X → Item) (chosen : Item → Bool) (amount : Item → ℕ) (ranks i r : ℕ) (xs : List X) → i % ranks ≡ r
     → sum_by (share chosen amount i) (came_to from (λ x. (item x).a % ranks) item r xs) ≡ sum_by (λ x. share chosen amount i (from x, item x)) xs
 came_share from item chosen amount ranks i r [] own = refl

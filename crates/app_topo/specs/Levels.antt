@@ -9,7 +9,8 @@ use Rattle.bale_items.specs.declared.triple.Triple.{Triple}
 abbrev pub Claim : Type 0
 Claim = ℕ × ℕ
 
--- How many claims are of a row, and of a column. A row with a claim has a level; a column with a claim is taken.
+-- How many claims are of a row, and of a column. A row with a claim has a level; a column with a
+-- claim is taken.
 abbrev pub row_claims : ℕ → List Claim → ℕ
 row_claims i claims = count_by (λ c. c.0 == i) claims
 

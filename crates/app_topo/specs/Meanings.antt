@@ -5,8 +5,8 @@ use Rattle.app_topo.specs.Triangular.{IsValid}
 use Rattle.app_topo.specs.Levels.{Claim, row_position, col_position}
 use Rattle.app_topo.specs.TopoLines.{topo_lines}
 
--- The bytes are a line for each position, with its row and its column, and the positions of rows and columns make the
--- matrix upper triangular with a full diagonal.
+-- The bytes are a line for each position, with its row and its column, and the positions of rows
+-- and columns make the matrix upper triangular with a full diagonal.
 -- of the entries (0,0), (0,1), (1,1): "1 1 1/2 2 2/", with / for LF
 pub record TellsOrder (m : Sparse) (bytes : List ℕ) : Type 0 where
   pub order : List Claim
@@ -22,8 +22,8 @@ pub record TellsNone (m : Sparse) (bytes : List ℕ) : Type 0 where
   pub none : (p q : ℕ → ℕ) → ¬ IsValid m.rows m.entries p q
 
 -- The matrix is square; the status is 0 and the bytes tell an order, or it is 1 and there is none.
--- TopoMeans m 0 bytes = the positions that are printed are valid; TopoMeans m 1 bytes = no positions are
--- of the entries (0,0), (0,1), (1,1) 0, and of (0,0), (0,1), (1,0), (1,1) 1
+-- TopoMeans m 0 bytes = the positions that are printed are valid; TopoMeans m 1 bytes = no
+-- positions are of the entries (0,0), (0,1), (1,1) 0, and of (0,0), (0,1), (1,0), (1,1) 1
 pub record TopoMeans (m : Sparse) (status : ℕ) (bytes : List ℕ) : Type 0 where
   pub square : m.rows ≡ m.cols
   pub found : status ≡ 0 → TellsOrder m bytes

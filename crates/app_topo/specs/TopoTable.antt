@@ -14,8 +14,9 @@ use Rattle.app_topo.specs.TopoRuns.{topo_starts}
 use Rattle.sparse_rows.specs.Emits.{item, Emit}
 
 -- Round 0: each own entry, to the owner of its row and then to the owner of its column.
--- for each own entry (i,j,v) in order: to i mod ranks, (i,j,0), then to j mod ranks, (j,i,1)
--- of (0,0), (0,1), (1,1) on 2 ranks: rank 1, whose entry is (0,1), emits (0,1,0) to rank 0 and then (1,0,1) to rank 1
+-- for each own entry (i,j,v) in order: to i mod ranks, (i,j,0), then to j mod ranks, (j,i,1) of
+-- (0,0), (0,1), (1,1) on 2 ranks: rank 1, whose entry is (0,1), emits (0,1,0) to rank 0 and then
+-- (1,0,1) to rank 1
 abbrev pub entries_told : ℕ → Sparse → ℕ → List (ℕ × Item)
 entries_told ranks m r =
     flat_map (λ e. (e.1.i % ranks, item e.1.i e.1.j 0) ∷ (e.1.j % ranks, item e.1.j e.1.i 1) ∷ [])
@@ -38,10 +39,11 @@ rows_claim ranks m t r = map (λ c. (c.1 % ranks, item c.1 c.0 2)) (dealt (λ c.
 abbrev pub columns_first : Sparse → List Triple
 columns_first m = gathered (map (λ t. record { i = t.j; j = t.i; v = pos 0 }) m.entries)
 
--- Round 2t + 2: the rows of own columns that level t has claimed are told that they have one entry less.
+-- Round 2t + 2: the rows of own columns that level t has claimed are told that they have one entry
+-- less.
 -- for each own column j that a row of level t claims, ascending, and each row i with an entry
--- there, ascending: to i mod ranks, (i,j,3)
--- of (0,0), (0,1), (1,1) on 2 ranks: in round 2 rank 1 emits (0,1,3) to rank 0 and then (1,1,3) to rank 1
+-- there, ascending: to i mod ranks, (i,j,3) of (0,0), (0,1), (1,1) on 2 ranks: in round 2 rank 1
+-- emits (0,1,3) to rank 0 and then (1,1,3) to rank 1
 abbrev pub columns_fall : ℕ → Sparse → ℕ → ℕ → List (ℕ × Item)
 columns_fall ranks m t r =
     map (λ u. (u.j % ranks, item u.j u.i 3))

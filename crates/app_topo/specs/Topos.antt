@@ -20,7 +20,8 @@ pub record TopoState : Type 0 where
   pub round : ℕ
   -- the matrix's number of rows, and of columns
   pub size : ℕ
-  -- for each own row the number of its entries in columns that aren't taken, and the sum of these columns' numbers
+  -- for each own row the number of its entries in columns that aren't taken, and the sum of these
+  -- columns' numbers
   pub numbers : List ℕ
   pub sums : List ℕ
   -- the entries of own columns as (column, row), by column and then row
@@ -117,7 +118,8 @@ fallen s x =
           else s.came;
     }
 
--- in round 0 an owner may be sent its rows and columns, then claims of its columns and falls of its rows in turn
+-- in round 0 an owner may be sent its rows and columns, then claims of its columns and falls of its
+-- rows in turn
 abbrev pub may_topo : List ℕ → ℕ → ℕ → ℕ → ℕ → Item → Bool
 may_topo (size ∷ []) ranks round to from x =
     nat_lt from ranks && nat_lt x.a size && nat_lt x.b size && x.a % ranks == to && is_item x

@@ -1,5 +1,5 @@
-//! The topological order of a square matrix, by levels: rows and columns in an order in which the matrix is upper triangular
-//! with a full diagonal, where there is one. It is a program in rounds.
+//! The topological order of a square matrix, by levels: rows and columns in an order in which the
+//! matrix is upper triangular with a full diagonal, where there is one. It is a program in rounds.
 //!
 //! | Call | For | Answer |
 //! |---|---|---|
@@ -10,11 +10,12 @@
 //! | [`TopoOrder::of_places`] | rows and columns in an order found elsewhere | that order |
 //! | [`Topo::claimed`] | one rank, at any moment | its rows that have claimed, each with its level and column |
 //!
-//! Level by level, each row that has one entry left outside the taken columns claims that column, and a column that was claimed
-//! tells its rows that they have an entry less. `specs/Triangular` says what a valid order is and `specs/Levels` what the
-//! levels are; neither has a rank or a round. `proofs/Printed` and `proofs/Claimed` prove both directions: the order of the levels is
-//! valid, and where any valid pair of permutations exists, every level takes a row until all have claimed. The other proofs
-//! tie the rounds to the levels.
+//! Level by level, each row that has one entry left outside the taken columns claims that column,
+//! and a column that was claimed tells its rows that they have an entry less. `specs/Triangular`
+//! says what a valid order is and `specs/Levels` what the levels are; neither has a rank or a
+//! round. `proofs/Printed` and `proofs/Claimed` prove both directions: the order of the levels is
+//! valid, and where any valid pair of permutations exists, every level takes a row until all have
+//! claimed. The other proofs tie the rounds to the levels.
 //!
 //! | Law | Round | A rank emits, in order |
 //! |---|---|---|

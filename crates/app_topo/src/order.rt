@@ -4,8 +4,8 @@ ghost use Rattle.std.specs.Prelude.{◌≡◌, length, slice_get};
 
 use std::marker::Model;
 
-/// Rows and columns in an order in which a matrix is upper triangular with a full diagonal: a row and a column for each
-/// position, from the first on.
+/// Rows and columns in an order in which a matrix is upper triangular with a full diagonal: a row
+/// and a column for each position, from the first on.
 #[derive(Drop)]
 pub struct TopoOrder {
     places: Vec<(u32, u32)>,

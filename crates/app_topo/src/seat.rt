@@ -24,7 +24,8 @@ impl Seat {
         kind_fits(self.round, item.c) && self.owns(from, item)
     }
 
-    /// Whether another rank may send it such numbers, of which the first is of a row or column of its own.
+    /// Whether another rank may send it such numbers, of which the first is of a row or column of
+    /// its own.
     #[inline(always)]
     pub(crate) fn owns(self, from: u32, item: Item) -> bool
         ensures { result ≡ (nat_lt from self.ranks && nat_lt item.a self.size && nat_lt item.b

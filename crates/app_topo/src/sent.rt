@@ -1,4 +1,5 @@
-//! What a rank of topo sends, put together from the pairs of numbers that it keeps: so a list of items isn't made.
+//! What a rank of topo sends, put together from the pairs of numbers that it keeps: so a list of
+//! items isn't made.
 
 ghost use Rattle.std.specs.Prelude.{◌≡◌, ◌<◌, ◌-◌, ◌%◌, ℕ, Some, length, map, slice_get, slice_index_or};
 ghost use Rattle.std.specs.List.{flat_map};
@@ -19,8 +20,8 @@ pub(crate) fn count_of(kept: &Vec<Triple>, round: u64) -> u64
     kept.len() as u64
 }
 
-/// Hands on what is sent, from number `from` on, until one is refused or all are handed over, and says how many are by then. What a
-/// rank keeps is looked up once for them all.
+/// Hands on what is sent, from number `from` on, until one is refused or all are handed over, and
+/// says how many are by then. What a rank keeps is looked up once for them all.
 #[inline(always)]
 pub(crate) fn emit_kept<D: Departures>(
     kept: &Vec<Triple>,

@@ -1,5 +1,6 @@
-//! Where the entries of a column stand among those of all own columns in order. Once they are in order it is noted for each own
-//! column; what was noted is a guess, looked at before it is taken, and where it is wrong a search by halving answers.
+//! Where the entries of a column stand among those of all own columns in order. Once they are in
+//! order it is noted for each own column; what was noted is a guess, looked at before it is taken,
+//! and where it is wrong a search by halving answers.
 
 ghost use Rattle.std.specs.Prelude.{◌≡◌, ◌<◌, ◌≤◌, ◌==◌, ℕ, length, slice_index_or};
 ghost use Rattle.std.specs.List.{filter};

@@ -21,12 +21,13 @@ use std::alloc::Global;
 use std::marker::Model;
 use std::mem;
 
-/// One rank's part of topo. Row `i` belongs to rank `i mod ranks` and column `j` to rank `j mod ranks`; what a rank keeps of
-/// its row or column number `x` stands at place `x div ranks`.
+/// One rank's part of topo. Row `i` belongs to rank `i mod ranks` and column `j` to rank `j mod
+/// ranks`; what a rank keeps of its row or column number `x` stands at place `x div ranks`.
 ///
-/// In round 0 each entry goes to the owner of its row, which counts it and adds up its column, and to the owner of its column,
-/// which keeps its row. Then a row that has one entry left in columns that aren't taken claims that column (odd rounds), and a
-/// column that was claimed tells its rows that they have an entry less (even rounds).
+/// In round 0 each entry goes to the owner of its row, which counts it and adds up its column, and
+/// to the owner of its column, which keeps its row. Then a row that has one entry left in columns
+/// that aren't taken claims that column (odd rounds), and a column that was claimed tells its rows
+/// that they have an entry less (even rounds).
 #[derive(Drop)]
 pub struct Topo {
     rank: u32,
@@ -48,10 +49,11 @@ pub struct Topo {
     claimed: Vec<Placed>,
     /// how many own columns were claimed for the first time in this round
     fresh: u32,
-    /// what came in this round: entries of own columns, own columns claimed, or own rows whose number fell to 1
+    /// what came in this round: entries of own columns, own columns claimed, or own rows whose
+    /// number fell to 1
     came: Cells,
-    /// of what is sent in this round: in round 0 the rank's entries, then rows and the columns that they claim, or columns and
-    /// the rows that have an entry less
+    /// of what is sent in this round: in round 0 the rank's entries, then rows and the columns that
+    /// they claim, or columns and the rows that have an entry less
     outgoing: Vec<Triple>,
     /// memory for the same of the next round
     next: Vec<Triple>,
@@ -236,7 +238,8 @@ impl Topo {
         Ok(())
     }
 
-    /// Ends a later round in which the rank sent nothing and nothing came: where an order has many levels, most ends are these.
+    /// Ends a later round in which the rank sent nothing and nothing came: where an order has many
+    /// levels, most ends are these.
     #[inline(always)]
     fn end_idle_round(&mut self)
         requires later { self.old.round ≢ 0 }

@@ -17,8 +17,9 @@ use mtx_text::{Cells, Matrix};
 use round_program::Progs;
 use std::alloc::Global;
 
-/// The order of the matrix's rows and columns by levels; `None` exactly where no pair of permutations makes the matrix upper
-/// triangular with a full diagonal. The programs are those of `topo_start` on `m` after their run.
+/// The order of the matrix's rows and columns by levels; `None` exactly where no pair of
+/// permutations makes the matrix upper triangular with a full diagonal. The programs are those of
+/// `topo_start` on `m` after their run.
 ///
 /// # Errors
 ///

@@ -7,7 +7,8 @@ ghost use Rattle.app_topo.specs.TopoLines.{topo_line, topo_lines};
 use crate::order::TopoOrder;
 use bale_types::{Failed, Line, Out, Sink};
 
-/// Writes a line for each position of an order: its number, its row and its column, from 1. No memory is taken.
+/// Writes a line for each position of an order: its number, its row and its column, from 1. No
+/// memory is taken.
 ///
 /// # Errors
 ///

@@ -15,8 +15,8 @@ use round_program::Progs;
 use sparse_rows::{Parts, split};
 use std::alloc::Global;
 
-/// The programs of topo on `ranks` ranks, from 1 to 64, in round 0 of a run of at most `2n + 2` rounds for `n` rows. The matrix is
-/// square.
+/// The programs of topo on `ranks` ranks, from 1 to 64, in round 0 of a run of at most `2n + 2`
+/// rounds for `n` rows. The matrix is square.
 ///
 /// # Errors
 ///

@@ -54,7 +54,8 @@ answer_to serial (Some c) text = answer_for (serial c) c (subject_asked c text)
 abbrev pub serial_answer : (Command → Bool) → List (List ℕ) → List ℕ → Answer
 serial_answer serial words text = answer_to serial (command_of words) text
 
--- What was asked of a run: the words give this command, this is its matrix or its lines, and the command fits it.
+-- What was asked of a run: the words give this command, this is its matrix or its lines, and the
+-- command fits it.
 pub record Asked (serial : Command → Bool) (left : Option (List ℕ)) (job : Option Command) (text : List ℕ) (c : Command)
     (s : Subject) : Type 0 where
   pub asked : job ≡ Some c
@@ -76,11 +77,13 @@ pub record IsUnfit (serial : Command → Bool) (job : Option Command) (text : Li
   pub read : subject_asked command text ≡ Ok subject
   pub why : unfitness command subject (serial command) ≡ Some u
 
--- What is written of an answer with this status: its bytes, or, at 0 and where the matrix was generated, their summary.
+-- What is written of an answer with this status: its bytes, or, at 0 and where the matrix was
+-- generated, their summary.
 abbrev pub shown : Option Generated → ℕ → List ℕ → List ℕ
 shown generated status bytes = if is_some generated && status == 0 then summary_of bytes else bytes
 
--- What a sink has taken of an answer as it is shown: all of it, or a front where a write failed. `old` is what it held.
+-- What a sink has taken of an answer as it is shown: all of it, or a front where a write failed.
+-- `old` is what it held.
 pub record HasWritten {T E : Type 0} (IsAnswer : List ℕ → Type 0) (shows : List ℕ → List ℕ) (old new : Option (List ℕ))
     (written : Result T E) : Type 0 where
   pub bytes : List ℕ
@@ -96,7 +99,8 @@ pub record TakesMore {K T E : Type 0} (taken : K → Option (List ℕ)) (faults 
   pub held : IsFront (taken old) (taken new)
   pub counts : CountsFaults (faults old) (faults new) result
 
--- What is said on err at a status: nothing at 0 and 1, of a fault its text, else what the serial answer says.
+-- What is said on err at a status: nothing at 0 and 1, of a fault its text, else what the serial
+-- answer says.
 -- At 3 it is "bale: read fault\n"; at 5 it is the bad line and its reason.
 abbrev pub said : ℕ → Answer → List ℕ
 said status answer =

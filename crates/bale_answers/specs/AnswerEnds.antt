@@ -10,7 +10,8 @@ use Rattle.bale_answers.specs.Tasks.{IsAnswer, task_status}
 
 -- The answer of a task for its subject, on a sink before and after: `taken` is what a sink tells of
 -- what it has taken, and it counts its own faults.
--- For histo and a matrix of 2 columns and no entry the status is 0, and the sink has taken "1 0/2 0/", with / for LF.
+-- For histo and a matrix of 2 columns and no entry the status is 0, and the sink has taken "1 0/2
+-- 0/", with / for LF.
 pub record IsAnswerEnd {K : Type 0} (t : Task) (s : Subject) (generated : Option Generated)
     (taken : K → Option (List ℕ)) (faults : K → ℕ) (out out' : K) (e : AnswerEnd) : Type 0 where
   -- The status is the answer's: 0, or 1 where topo finds no order.

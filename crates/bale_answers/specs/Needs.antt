@@ -26,7 +26,8 @@ pub record IsFitOn (task : Task) (m : Sparse) : Type 0 where
   pub ranges : TaskInRanges task
   pub fits : (serial : Bool) × (task_unfitness task m serial ≡ None)
 
--- An answer can be written: the options and the subject have what is needed, and it is an answer for them.
+-- An answer can be written: the options and the subject have what is needed, and it is an answer
+-- for them.
 pub record CanWrite {O S A : Type 0} (Needs : O → S → Type 0) (Answers : O → S → A → Type 0) (options : O) (subject : S)
     (answer : A) : Type 0 where
   pub needs : Needs options subject
@@ -36,7 +37,8 @@ pub record CanWrite {O S A : Type 0} (Needs : O → S → Type 0) (Answers : O �
 abbrev pub CanMove : Permutations → Sparse → Type 0
 CanMove by m = Permutes m.rows (perms_for by m).rows × Permutes m.cols (perms_for by m).cols
 
--- A square matrix without a negative weight, and a source, counted from 1, that is one of its vertices.
+-- A square matrix without a negative weight, and a source, counted from 1, that is one of its
+-- vertices.
 abbrev pub HasWalks : ℕ → Sparse → Type 0
 HasWalks source m = (m.cols ≡ m.rows) × (no_negative m.entries ≡ true) × (1 ≤ source) × (source ≤ m.rows)
 

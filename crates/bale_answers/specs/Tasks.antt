@@ -67,7 +67,8 @@ abbrev pub task_status : Task → Subject → ℕ
 task_status t (subject.Matrix m) = matrix_status t m
 task_status t (subject.Lines lines) = 0
 
--- What a task's answer for a matrix means, by its status and its bytes; bale_meaning proves it of every answer.
+-- What a task's answer for a matrix means, by its status and its bytes; bale_meaning proves it of
+-- every answer.
 -- for histo: the bytes have of each column the number of its entries
 abbrev pub MatrixMeans : Task → Sparse → ℕ → List ℕ → Type 0
 MatrixMeans task.Histo m status bytes = HistoMeans m bytes
@@ -83,7 +84,8 @@ abbrev pub Means : Task → Subject → ℕ → List ℕ → Type 0
 Means t (subject.Matrix m) status bytes = MatrixMeans t m status bytes
 Means t (subject.Lines lines) status bytes = (t ≡ task.Tally) × TallyMeans lines bytes
 
--- The programs that answer a task for its subject, a rank each: what they do, and how they begin on so many ranks.
+-- The programs that answer a task for its subject, a rank each: what they do, and how they begin on
+-- so many ranks.
 pub record Plan : Type 1 where
   pub State : Type 0
   pub rules : Rules State

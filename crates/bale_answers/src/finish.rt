@@ -35,7 +35,8 @@ pub struct AnswerEnd {
     pub written: Result<(), Failed>,
 }
 
-/// Writes the answer of ig by the ranks that asked one another, each after its last reply. No memory is taken.
+/// Writes the answer of ig by the ranks that asked one another, each after its last reply. No
+/// memory is taken.
 pub fn finish_by_asking<K: Sink>(
     m: &Matrix,
     askers: &Progs<IgAsker>,
@@ -71,7 +72,8 @@ pub(crate) fn finish_as<A: Application, K: Sink>(
     Ok(write_as::<A, K>(options, of, &answer, generated, out))
 }
 
-/// Writes an answer: its bytes, or, at status 0 and where the matrix was generated, their summary. No memory is taken.
+/// Writes an answer: its bytes, or, at status 0 and where the matrix was generated, their summary.
+/// No memory is taken.
 fn write_as<A: Written, K: Sink>(
     options: &A::Options,
     of: &A::Of,

@@ -1,5 +1,5 @@
-//! What a command answers, below the drives that run it: the serial answer, and each application from its subject to the bytes of its
-//! answer.
+//! What a command answers, below the drives that run it: the serial answer, and each application
+//! from its subject to the bytes of its answer.
 //!
 //! | Call | For |
 //! |---|---|
@@ -7,8 +7,10 @@
 //! | [`finish_task`] | the same programs after their last round, to the bytes of the answer or their summary |
 //! | [`finish_by_asking`] | the same of ig, by the ranks that asked one another |
 //!
-//! Read `specs/Answer` first: the serial answer, about the words and the text alone. Then `specs/Tasks` (what each task runs and answers),
-//! `specs/Orders` (what topo answers), `specs/Summary` (the line of `--gen`) and `specs/AnswerEnds` (how the writing of an answer ends).
+//! Read `specs/Answer` first: the serial answer, about the words and the text alone. Then
+//! `specs/Tasks` (what each task runs and answers), `specs/Orders` (what topo answers),
+//! `specs/Summary` (the line of `--gen`) and `specs/AnswerEnds` (how the writing of an answer
+//! ends).
 //! The other files of `specs/` are the code's own words.
 #![tactic(auto)]
 

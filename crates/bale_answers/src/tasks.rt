@@ -1,4 +1,5 @@
-//! Which application does a task: its programs as they begin, and, after their last round, its answer.
+//! Which application does a task: its programs as they begin, and, after their last round, its
+//! answer.
 
 ghost use Rattle.round_program.specs.Ranks.{AreRanks};
 ghost use Rattle.std.specs.Prelude.{◌≡◌, ◌≤◌, ◌<◌, ℕ, List, length, IfOk, OnErr};
@@ -46,8 +47,8 @@ pub fn start_task(
     }
 }
 
-/// Writes the answer of a task for its subject, by the programs after their last round: its bytes, or, at status 0 and where the
-/// matrix was generated, their summary.
+/// Writes the answer of a task for its subject, by the programs after their last round: its bytes,
+/// or, at status 0 and where the matrix was generated, their summary.
 ///
 /// # Errors
 /// `NoMemory` where the answer found none: then nothing is written.

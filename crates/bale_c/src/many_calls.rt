@@ -8,8 +8,8 @@ ghost use Rattle.rank_handles.specs.Shown.{rank_of};
 use rank_handles::{Answer, BaleItem, BaleRank, pull_number, push_number};
 use std::alloc::Global;
 
-/// Pushes items toward ranks, as so many single calls, until one finds no room. How many were pushed, or what is wrong: all destinations
-/// are looked at first, so that misuse changes nothing.
+/// Pushes items toward ranks, as so many single calls, until one finds no room. How many were
+/// pushed, or what is wrong: all destinations are looked at first, so that misuse changes nothing.
 #[unsafe(no_mangle)]
 pub extern "C" fn bale_push_many(
     alloc: Global,
@@ -32,7 +32,8 @@ pub extern "C" fn bale_push_many(
     pushed
 }
 
-/// Pulls items, as so many single calls, until there are none or no place is left. How many were pulled, or what is wrong.
+/// Pulls items, as so many single calls, until there are none or no place is left. How many were
+/// pulled, or what is wrong.
 #[unsafe(no_mangle)]
 pub extern "C" fn bale_pull_many(
     alloc: Global,

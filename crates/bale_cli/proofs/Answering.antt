@@ -1,4 +1,5 @@
--- What is known of an answer, by the way that it took: refused by the words, by the subject, or run.
+-- What is known of an answer, by the way that it took: refused by the words, by the subject, or
+-- run.
 use Rattle.std.proofs.Common.{ℕ, ◌≡◌, ◌≢◌, ◌⊎◌, Bool, true, false, not, is_some, List, Option, None, Some, Result, Ok, Err, OnOk, OnErr, IfOk, IfErr, drop, refl, sym, ap, subst, ◌∙◌, inl, inr}
 use Rattle.std.proofs.lemmas.Bool.{false≢true}
 use Rattle.std.proofs.lemmas.Option.{none-some, same_Some}

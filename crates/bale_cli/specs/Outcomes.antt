@@ -1,4 +1,5 @@
--- What the two top calls stand on: what is known of an answer before it is told, and how it is told.
+-- What the two top calls stand on: what is known of an answer before it is told, and how it is
+-- told.
 use Rattle.std.specs.Prelude.{◌≡◌, ◌≢◌, ◌⊎◌, ◌≤◌, ℕ, Bool, true, false, List, [], Option, None, Some, Result, Err, drop}
 use Rattle.std.specs.Prelude.{OnOk, OnErr, IfOk, IfErr}
 use Rattle.std.specs.Result.{IsErrAnd}
@@ -49,7 +50,8 @@ pub record Answered {S K : Type 0} (serial : Command → Bool)
       → IfErr answered (λ r. IsOfText r → left source' ≡ Some (drop 16777217 text))
   pub no_answer : OnErr answered (out' ≡ out)
 
--- How an answer is told, or why there is none: the status, the rounds, and what is said on a sink before and after.
+-- How an answer is told, or why there is none: the status, the rounds, and what is said on a sink
+-- before and after.
 pub record IsOutcome {E : Type 0} (answered : Result RunEnd Refusal) (taken : E → Option (List ℕ)) (faults : E → ℕ)
     (err err' : E) (status : ℕ) (rounds : List ClosedRound) : Type 0 where
   pub told : IfOk answered (λ f. rounds ≡ f.rounds)

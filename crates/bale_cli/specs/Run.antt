@@ -18,9 +18,10 @@ use Rattle.bale_answers.specs.Tasks.{IsAnswer, task_status}
 use Rattle.bale_runs.specs.Asking.{FewestOfCommand, SweptOfCommand, TellsCommand, ToldOfCommand, TurnsOfCommand}
 use Rattle.bale_runs.specs.Jobs.{as_asked, on_one_thread}
 
--- What a run with an answer ran: a command of the words on a subject that it fits, the text's if the
--- source tells it. `bytes` are that command's answer, `P` says of its status and of the bytes shown
--- what out took, the rounds tell what was exchanged, and `turns` says how its ranks were turned.
+-- What a run with an answer ran: a command of the words on a subject that it fits, the text's if
+-- the source tells it. `bytes` are that command's answer, `P` says of its status and of the bytes
+-- shown what out took, the rounds tell what was exchanged, and `turns` says how its ranks were
+-- turned.
 -- What such bytes mean, in the words of each application's field, is a law of bale_meaning.
 -- This holds of standard input too, which tells no text: status 0 on the words `histo` then says
 -- that some matrix was read, that the answer for it was written, and that its items travelled.
@@ -86,11 +87,13 @@ pub record IsRun {S K E : Type 0} (serial : Command → Bool)
   pub unread : reads (command_of words) ≡ false → source' ≡ source
   pub read_whole : (text : List ℕ) → left source ≡ Some text → reads (command_of words) ≡ true → status ≢ 3 → status ≢ 7
       → left source' ≡ Some (drop 16_777_217 text)
-  -- At 0, 1 and 4 a command that fits its subject was run: at 0 and 1 out has taken the answer, at 4
-  -- a front of it. What out held stays, so at 4 it has what it held and then a front of the answer.
-  -- The rounds tell the canonical run of the application's programs for its matrix or lines, and for
-  -- ig over biconvey that of the sums and then the queries and the replies, over banks of the grid,
-  -- the capacity and the slots that the words name: plain ones for one thread, else ones of slots.
+  -- At 0, 1 and 4 a command that fits its subject was run: at 0 and 1 out has taken the answer, at
+  -- 4 a front of it. What out held stays, so at 4 it has what it held and then a front of the
+  -- answer.
+  -- The rounds tell the canonical run of the application's programs for its matrix or lines, and
+  -- for ig over biconvey that of the sums and then the queries and the replies, over banks of the
+  -- grid, the capacity and the slots that the words name: plain ones for one thread, else ones of
+  -- slots.
   -- Over conveyors that aren't steady each epoch's entries travel in few parcels, by port_bank's
   -- few_parcels_law. At the other statuses out is as it was, and there are no rounds.
   pub has_run : (status ≡ 0) ⊎ (status ≡ 1) ⊎ (status ≡ 4) → HasRun serial turns
@@ -115,7 +118,8 @@ pub record IsRun {S K E : Type 0} (serial : Command → Bool)
   pub said_held : IsFront (told err) (told err')
   pub silent : (status ≡ 0) ⊎ (status ≡ 1) → err' ≡ err
 
--- The turns of a run on one thread, from `before` to `after`, by what the words name and what the source tells.
+-- The turns of a run on one thread, from `before` to `after`, by what the words name and what the
+-- source tells.
 pub record AreTurns (left : Option (List ℕ)) (job : Option Command) (before after : ℕ) : Type 0 where
   -- They are bounded by the words and the matrix or lines, at 7 too.
   pub bounded : (text : List ℕ) (c : Command) (s : Subject) → Asked on_one_thread left job text c s
@@ -124,8 +128,8 @@ pub record AreTurns (left : Option (List ℕ)) (job : Option Command) (before af
   pub idle : (text : List ℕ) → Told job left text
       → ((c : Command) (s : Subject) → ¬ Asked on_one_thread left job text c s) → after ≡ before
 
--- On one thread: all turns were made in sweeps of the ranks in the order 0, 1, .., P-1, and each rank
--- made one in each epoch at least.
+-- On one thread: all turns were made in sweeps of the ranks in the order 0, 1, .., P-1, and each
+-- rank made one in each epoch at least.
 abbrev pub TurnedInOrder : ℕ → ℕ → Command → Subject → List ClosedRound → Type 0
 TurnedInOrder before after c s rounds =
     SweptOfCommand c s before after rounds × FewestOfCommand c s before after

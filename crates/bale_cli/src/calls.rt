@@ -19,19 +19,21 @@ use std::thread::Threads;
 /// How a run ended.
 #[derive(Drop)]
 pub struct Outcome {
-    /// 0, or 1 where topo finds no order, or the status of the refusal: 2 usage, 3 read fault, 4 write fault, 5 a text that isn't what was asked of, 6 unfit, 7 no memory
+    /// 0, or 1 where topo finds no order, or the status of the refusal: 2 usage, 3 read fault, 4
+    /// write fault, 5 a text that isn't what was asked of, 6 unfit, 7 no memory
     pub status: u8,
-    /// What was exchanged, where an answer was written or its writing failed: one closed round, or three for ig over biconvey; else none.
+    /// What was exchanged, where an answer was written or its writing failed: one closed round, or
+    /// three for ig over biconvey; else none.
     pub rounds: Rounds,
 }
 
-/// Runs the command of the words after the program's name on the text of `source`, the ranks on threads or all
-/// on this one, as the words say, and writes the answer to `out` or why there is none to `err`. Before each turn of a rank's
-/// thread the gate is told of it.
+/// Runs the command of the words after the program's name on the text of `source`, the ranks on
+/// threads or all on this one, as the words say, and writes the answer to `out` or why there is
+/// none to `err`. Before each turn of a rank's thread the gate is told of it.
 ///
-/// Where the source tells its text, out and err take exactly what the serial answer says, unless a read or a
-/// write failed or an allocation was refused. It waits for its threads, and returns where they do. `IsRun` of
-/// specs/Run says it field by field.
+/// Where the source tells its text, out and err take exactly what the serial answer says, unless a
+/// read or a write failed or an allocation was refused. It waits for its threads, and returns where
+/// they do. `IsRun` of specs/Run says it field by field.
 pub fn run<R: Threads + Wait + Sync, S: Source, K: Sink, E: Sink, G: Gate + Sync>(
     rt: &R,
     alloc: Global,
@@ -49,12 +51,13 @@ pub fn run<R: Threads + Wait + Sync, S: Source, K: Sink, E: Sink, G: Gate + Sync
     outcome_of(alloc, answered, err)
 }
 
-/// Runs the command of the words after the program's name on the text of `source`, all ranks on this thread whatever the
-/// words say, and writes the answer to `out` or why there is none to `err`. Each turn of a rank raises `steps` by one.
+/// Runs the command of the words after the program's name on the text of `source`, all ranks on
+/// this thread whatever the words say, and writes the answer to `out` or why there is none to
+/// `err`. Each turn of a rank raises `steps` by one.
 /// It always returns.
 ///
-/// Where the source tells its text, out and err take exactly what the serial answer says, unless a read or a
-/// write failed or an allocation was refused (`IsRun`).
+/// Where the source tells its text, out and err take exactly what the serial answer says, unless a
+/// read or a write failed or an allocation was refused (`IsRun`).
 pub fn run_serial<S: Source, K: Sink, E: Sink, L: Ledger>(
     alloc: Global,
     words: &[String],
@@ -67,7 +70,8 @@ pub fn run_serial<S: Source, K: Sink, E: Sink, L: Ledger>(
         S.left S.faults source.old source.new K.taken K.faults out.old out.new
         E.taken E.faults err.old err.new result.status result.rounds }
 
-    // The turns are bounded, and where the words and the text ask for no run, or they are refused, there are none.
+    // The turns are bounded, and where the words and the text ask for no run, or they are refused,
+    // there are none.
     ensures turns { AreTurns (S.left source.old) (command_of (map string_bytes words.now)) steps.old steps.new }
     ensures no_turns { result.status ≢ 0 → result.status ≢ 1 → result.status ≢ 4 → result.status ≢ 7
         → steps.new ≡ steps.old }

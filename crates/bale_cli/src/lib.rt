@@ -1,4 +1,5 @@
-//! The program `bale` without its streams: from the words of the command line and the bytes that come in to the bytes that go out.
+//! The program `bale` without its streams: from the words of the command line and the bytes that
+//! come in to the bytes that go out.
 //!
 //! | Call | For |
 //! |---|---|
@@ -6,12 +7,13 @@
 //! | [`run_serial`] | the same, all ranks on this thread: it returns, and its turns are bounded |
 //! | [`report`] | to say on a sink why a run ended without an answer |
 //!
-//! Read `specs/Run` first: what both calls promise, sentence by sentence. It stands on the serial answer, `specs/Answer` of bale_answers, which
-//! is about the words and the text alone, on bale_subjects (what a command is asked of), and on bale_runs (what the rounds tell).
+//! Read `specs/Run` first: what both calls promise, sentence by sentence. It stands on the serial
+//! answer, `specs/Answer` of bale_answers, which is about the words and the text alone, on
+//! bale_subjects (what a command is asked of), and on bale_runs (what the rounds tell).
 //! `specs/Outcomes` is the way there.
 //!
-//! What the bytes of each answer mean, in the words of its field, is the law of bale_meaning: `Means`
-//! in `specs/Tasks` of bale_answers has a line for each task.
+//! What the bytes of each answer mean, in the words of its field, is the law of bale_meaning:
+//! `Means` in `specs/Tasks` of bale_answers has a line for each task.
 #![tactic(auto)]
 
 mod calls;

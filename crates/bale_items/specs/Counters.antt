@@ -1,4 +1,5 @@
--- A count in 64 bits that never falls, and stands still at its type's last value: of faults, of parcels, of hears.
+-- A count in 64 bits that never falls, and stands still at its type's last value: of faults, of
+-- parcels, of hears.
 use Rattle.std.specs.Prelude.{◌≡◌, ◌<◌, ◌^◌, ◌-◌, ◌⊎◌, ◌+◌, ℕ, min}
 
 -- a count rose in a call, or it stands at its type's last value

@@ -1,7 +1,8 @@
 -- The ledger by which turns are counted.
 use Rattle.std.specs.Prelude.{◌≡◌, ◌<◌, ℕ}
 
--- A ledger in which nothing was written, by its name and its parts, is the one that a type stands for, by these.
+-- A ledger in which nothing was written, by its name and its parts, is the one that a type stands
+-- for, by these.
 pub record IsBlankOf (name parts blank_name blank_parts : ℕ) : Type 0 where
   -- It has that name.
   pub same_name : blank_name ≡ name

@@ -8,8 +8,8 @@ pub struct Item {
     pub c: u64,
 }
 
-/// One digit for each hop of a route, up to three: what an entry must carry so that each relay and the
-/// reader know its sender and its destination.
+/// One digit for each hop of a route, up to three: what an entry must carry so that each relay and
+/// the reader know its sender and its destination.
 #[derive(Clone, Copy, PartialEq, Eq, Default, Debug)]
 pub struct Tag {
     pub d1: u8,

@@ -1,5 +1,5 @@
-//! What every layer of the conveyors speaks of: items, tags and entries, the triples of a matrix, a count of turns, and the fault of an
-//! allocation.
+//! What every layer of the conveyors speaks of: items, tags and entries, the triples of a matrix, a
+//! count of turns, and the fault of an allocation.
 //!
 //! | Type or call | What it is |
 //! |---|---|
@@ -9,8 +9,8 @@
 //! | `Steps` | how many turns were made, which proofs alone see |
 //! | `bits_of`, `value_of` | a signed number as a word, and back |
 //!
-//! The definitions are short: `Bits` of words, `Changes` of calls that may fail, `Counters` of counts in 64 bits, and `Ledgers` of the count
-//! of turns.
+//! The definitions are short: `Bits` of words, `Changes` of calls that may fail, `Counters` of
+//! counts in 64 bits, and `Ledgers` of the count of turns.
 #![tactic(auto)]
 
 mod bits;

@@ -5,7 +5,8 @@ ghost use Rattle.bale_items.specs.Ledgers.{IsBlankOf};
 use std::marker::Model;
 use std::sync::ledger::{Blank, Book, Ledger, Share};
 
-/// How many turns were made. It takes no bytes and has no code: only proofs see it, and a turn alone raises it.
+/// How many turns were made. It takes no bytes and has no code: only proofs see it, and a turn
+/// alone raises it.
 #[derive(Drop)]
 pub struct Steps<L: Ledger> {
     book: Book<L>,

@@ -1,4 +1,5 @@
--- A matrix that was asked of keeps what every matrix keeps, and a command that fits it has what it needs.
+-- A matrix that was asked of keeps what every matrix keeps, and a command that fits it has what it
+-- needs.
 use Rattle.std.proofs.Common.{◌≡◌, ℕ, zero, suc, ◌+◌, ◌*◌, ◌/◌, ◌<◌, ◌≤◌, ◌-◌, Bool, true, false, not, eqb, ltb, ◌||◌, List, [], ◌∷◌, length, get_or, min, Option, Some, None, arith, inl, inr, refl, sym, ap, ◌∙◌, subst}
 use Rattle.std.specs.Prelude.{Result, Ok, Err, if◌then◌else◌}
 use Rattle.std.specs.List.{All, range_with_len, flat_map}

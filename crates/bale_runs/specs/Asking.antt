@@ -28,7 +28,8 @@ use Rattle.bale_runs.specs.Jobs.{by_asking, manner_for}
 use Rattle.bale_answers.specs.Tasks.{plan_of, starts_of}
 use Rattle.bale_runs.specs.Runs.{made_for, SweptInOrder, Tells, TellsTask, TurnsOfTask, FewestOfTask}
 
--- Two closed rounds tell the queries, of each entry's rank for its column, and the replies, over two banks of one make.
+-- Two closed rounds tell the queries, of each entry's rank for its column, and the replies, over
+-- two banks of one make.
 pub record TellsReplies (m : Sparse) (made : Made) (steady : Bool) (rounds : List ClosedRound) : Type 0 where
   pub queries : ClosedRound
   pub replies : ClosedRound
@@ -69,7 +70,8 @@ TurnsOfAsking m steady dims before after =
     + (turns_within sums_rules (manner_of via.Convey steady) dims (sums_starts (ranks dims) m) 1
     + turns_of dims (length m.entries))
 
--- What the rounds of a command tell, by queries and replies or not. Lines have no columns to ask for.
+-- What the rounds of a command tell, by queries and replies or not. Lines have no columns to ask
+-- for.
 abbrev pub TellsBy : Bool → Command → Subject → Made → List ClosedRound → Type 0
 TellsBy true c (subject.Matrix m) made rounds = TellsAsking m made c.travel.steady rounds
 TellsBy true c (subject.Lines lines) made rounds = ⊥
@@ -88,7 +90,8 @@ TurnsBy false c s before after = TurnsOfTask c.task s (manner_for c) c.grid befo
 abbrev pub TurnsOfCommand : Command → Subject → ℕ → ℕ → Type 0
 TurnsOfCommand c s before after = TurnsBy (by_asking c) c s before after
 
--- Each rank made one in each epoch at least: by queries and replies two in the round of sums and one in the exchange.
+-- Each rank made one in each epoch at least: by queries and replies two in the round of sums and
+-- one in the exchange.
 abbrev pub FewestBy : Bool → Command → Subject → ℕ → ℕ → Type 0
 FewestBy true c (subject.Matrix m) before after = before + 3 * ranks c.grid ≤ after
 FewestBy true c (subject.Lines lines) before after = ⊥
@@ -98,8 +101,8 @@ FewestBy false c s before after = FewestOfTask c.task s c.grid before after
 abbrev pub FewestOfCommand : Command → Subject → ℕ → ℕ → Type 0
 FewestOfCommand c s before after = FewestBy (by_asking c) c s before after
 
--- On one thread the ranks made the turns of the queries and the replies in sweeps, each in the order
--- 0, 1, .., P-1, and no other turn; the rounds tell what these turns left.
+-- On one thread the ranks made the turns of the queries and the replies in sweeps, each in the
+-- order 0, 1, .., P-1, and no other turn; the rounds tell what these turns left.
 pub record AskedInOrder (m : Sparse) (made : Made) (steady : Bool) (before after : ℕ)
     (rounds : List ClosedRound) : Type 0 where
   pub askers : List AskingState

@@ -30,12 +30,14 @@ abbrev pub is_biconvey : Transport → Bool
 is_biconvey Biconvey = true
 is_biconvey _ = false
 
--- Which commands go by queries and replies: ig over biconvey. No words give another task this transport.
+-- Which commands go by queries and replies: ig over biconvey. No words give another task this
+-- transport.
 -- The words ig, --via, biconvey do, and the word ig alone doesn't.
 abbrev pub by_asking : Command → Bool
 by_asking c = is_biconvey c.travel.transport && is_ig c.task
 
--- How the rounds of a command are carried: over exstacks where its words say so, else over conveyors.
+-- How the rounds of a command are carried: over exstacks where its words say so, else over
+-- conveyors.
 abbrev pub via_of : Transport → Via
 via_of Exstack = via.Exstack
 via_of _ = via.Convey

@@ -1,4 +1,5 @@
--- Which programs a command runs for its answer, what the rounds tell of them, and how many turns they take.
+-- Which programs a command runs for its answer, what the rounds tell of them, and how many turns
+-- they take.
 use Rattle.std.specs.Prelude.{◌≡◌, ◌<◌, ◌≤◌, ◌+◌, ◌*◌, ℕ, Bool, true, not, List, [], ◌∷◌, length}
 use Rattle.std.specs.List.{range_with_len}
 use Rattle.route_tensor.specs.Grid.{ranks}
@@ -21,7 +22,8 @@ use Rattle.bale_answers.specs.Tasks.{plan_of, starts_of}
 abbrev pub made_for : Bool → Command → Made
 made_for serial c = record { dims = c.grid; cap = c.travel.buffer; slots = c.travel.slots; by_slots = not serial }
 
--- The programs after the canonical run of those that the task begins with, on some number of ranks from 1 to 64.
+-- The programs after the canonical run of those that the task begins with, on some number of ranks
+-- from 1 to 64.
 pub record HaveRun (t : Task) (s : Subject) (progs : List AnyState) : Type 0 where
   pub ranks : ℕ
   pub some : 1 ≤ ranks
@@ -38,7 +40,8 @@ pub record Tells {S : Type 0} (R : Rules S) (starts : List S) (made : Made) (man
   pub has_rounds : HasRounds R starts count
   pub tells : TellsRun R starts count made manner (round_of closed)
 
--- The rounds tell the canonical run of a task's programs for its subject, over a bank that was made as said.
+-- The rounds tell the canonical run of a task's programs for its subject, over a bank that was made
+-- as said.
 -- For histo on 4 ranks: that of histo_rules, begun with histo_starts 4 m.
 abbrev pub TellsTask : Task → Subject → Made → Manner → List ClosedRound → Type 0
 TellsTask t s made manner rounds = Tells (plan_of t s).rules ((plan_of t s).starts (ranks made.dims)) made manner rounds
@@ -55,7 +58,8 @@ abbrev pub TurnsOfTask : Task → Subject → Manner → List ℕ → ℕ → �
 TurnsOfTask t s manner dims before after =
     WithinTurns (plan_of t s).rules ((plan_of t s).starts (ranks dims)) manner dims before after
 
--- And each rank of these programs made one at least in each epoch: one of its work and one of its votes in each round.
+-- And each rank of these programs made one at least in each epoch: one of its work and one of its
+-- votes in each round.
 abbrev pub BeyondTurns : {S : Type 0} → Rules S → List S → List ℕ → ℕ → ℕ → Type 0
 BeyondTurns R starts dims before after = (n : ℕ) → HasRounds R starts n → before + 2 * n * ranks dims ≤ after
 

@@ -1,5 +1,5 @@
-//! ig by queries and replies: the columns are summed in one round, then each rank asks for the sums of its entries' columns, and
-//! then the answer is written.
+//! ig by queries and replies: the columns are summed in one round, then each rank asks for the sums
+//! of its entries' columns, and then the answer is written.
 ghost use Rattle.std.specs.Prelude.{◌≡◌, ◌≤◌, ◌+◌, ◌*◌, ◌++◌, ℕ, true, false, List, map, length, OnOk, IfOk};
 ghost use Rattle.route_tensor.specs.Grid.{ranks};
 ghost use Rattle.rank_node.specs.Movers.{manner_of};
@@ -78,7 +78,8 @@ pub(crate) fn ask_on_threads<R: Threads + Wait + Sync, K: Sink, G: Gate + Sync>(
     }
 }
 
-/// The three closed rounds of a matrix, and then the answer, by the askers after each has heard its replies.
+/// The three closed rounds of a matrix, and then the answer, by the askers after each has heard its
+/// replies.
 fn ask_matrix_serially<K: Sink, L: Ledger>(
     alloc: Global,
     command: &Command,
@@ -201,7 +202,8 @@ fn sum_on_threads<R: Threads + Wait + Sync, G: Gate + Sync>(
     )
 }
 
-/// The askers that these programs leave, after each has heard its replies, and the rounds of the queries and the replies.
+/// The askers that these programs leave, after each has heard its replies, and the rounds of the
+/// queries and the replies.
 fn hear_serially<L: Ledger>(
     alloc: Global,
     command: &Command,

@@ -32,8 +32,10 @@ pub struct RunEnd {
     pub rounds: Rounds,
 }
 
-/// Runs the command for its subject as its words ask, the ranks on threads or all on this one, and writes its answer.
-/// Before each turn of a rank's thread the gate is told of it. It waits for its threads, and returns where they do.
+/// Runs the command for its subject as its words ask, the ranks on threads or all on this one, and
+/// writes its answer.
+/// Before each turn of a rank's thread the gate is told of it. It waits for its threads, and
+/// returns where they do.
 ///
 /// # Errors
 /// `NoMemory` where the programs, the drive or the answer found none: then nothing is written.
@@ -84,7 +86,8 @@ fn run_uncounted<L: Ledger, K: Sink>(
     run_serially(alloc, command, subject, out, &mut steps)
 }
 
-/// Runs the command for its subject, all ranks on this thread, and writes its answer. Each turn of a rank raises `steps` by one.
+/// Runs the command for its subject, all ranks on this thread, and writes its answer. Each turn of
+/// a rank raises `steps` by one.
 /// It always returns.
 ///
 /// # Errors

@@ -1,4 +1,5 @@
-//! The run of a command for its subject: its programs, driven by one of the drives, and then the answer, written.
+//! The run of a command for its subject: its programs, driven by one of the drives, and then the
+//! answer, written.
 //!
 //! | Call | For |
 //! |---|---|
@@ -7,8 +8,9 @@
 //! | [`drives_serially`] | whether the words ask for one thread |
 //! | [`RunEnd`] | how a run ended: the answer's status, whether it was written, and what was exchanged |
 //!
-//! Read `specs/RunEnds` first: what a run needs, and how it ends. Then `specs/Jobs` (how a command is driven and carried), `specs/Runs`
-//! (which programs' run the rounds tell, and the bound on turns) and `specs/Asking` (the same by queries and replies).
+//! Read `specs/RunEnds` first: what a run needs, and how it ends. Then `specs/Jobs` (how a command
+//! is driven and carried), `specs/Runs` (which programs' run the rounds tell, and the bound on
+//! turns) and `specs/Asking` (the same by queries and replies).
 #![tactic(auto)]
 
 mod asking;

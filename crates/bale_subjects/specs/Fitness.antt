@@ -43,7 +43,8 @@ tests_of (task.Permute (Lists rows cols)) m serial =
     ∷ []
 tests_of _ m serial = []
 
--- Why an application can't be answered for a matrix, driven serially or by threads: the first of its tests that fails.
+-- Why an application can't be answered for a matrix, driven serially or by threads: the first of
+-- its tests that fails.
 -- sssp from 5 on a matrix of 4 rows and 4 columns: the source is out of range.
 abbrev pub task_unfitness : Task → Sparse → Bool → Option Unfit
 task_unfitness t m serial = first_failed (tests_of t m serial)

@@ -38,7 +38,8 @@ IsOfReading (refusal.Unfit u) = ⊥
 IsOfReading refusal.WriteFault = ⊥
 IsOfReading refusal.NoMemory = Unit {0}
 
--- The answer is what is asked, and a bad text is refused as such. A read fault and want of memory are free.
+-- The answer is what is asked, and a bad text is refused as such. A read fault and want of memory
+-- are free.
 abbrev pub IsRead : Result Subject Refusal → Result Subject Refusal → Type 0
 IsRead asked (Ok s) = asked ≡ Ok s
 IsRead asked (Err (refusal.BadText b)) = asked ≡ Err (refusal.BadText b)

@@ -51,7 +51,8 @@ status_of (refusal.Unfit u) = 6
 status_of refusal.WriteFault = 4
 status_of refusal.NoMemory = 7
 
--- A refusal that came after the text was read as far as it counts: a bad text, an unfit command, or a failed write.
+-- A refusal that came after the text was read as far as it counts: a bad text, an unfit command, or
+-- a failed write.
 abbrev pub IsOfText : Refusal → Type 0
 IsOfText refusal.Usage = ⊥
 IsOfText refusal.ReadFault = ⊥

@@ -39,12 +39,12 @@ pub fn read_words(alloc: Global, words: &[String]) -> Result<Command, Refusal>
     }
 }
 
-/// The subject of a command that it fits, driven serially or by threads: for tally the lines of the text, else its matrix or the
-/// generated one, for which nothing is read.
+/// The subject of a command that it fits, driven serially or by threads: for tally the lines of the
+/// text, else its matrix or the generated one, for which nothing is read.
 ///
 /// # Errors
-/// `ReadFault` where the source failed, `BadText` where its text isn't what the command is asked of, `Unfit` with the first test of
-/// fitness that fails, and `NoMemory`.
+/// `ReadFault` where the source failed, `BadText` where its text isn't what the command is asked
+/// of, `Unfit` with the first test of fitness that fails, and `NoMemory`.
 pub fn subject_for<S: Source>(
     alloc: Global,
     command: &Command,

@@ -9,9 +9,11 @@
 //! | [`report`] | says that on a sink |
 //! | [`new_numbers`], [`in_order`] | new numbers of rows or columns; the numbers from 0 on |
 //!
-//! Read `specs/Subjects` first: what a command is asked of, about the text alone. Then `specs/Fitness` and `specs/Numberings`: for which
-//! matrices an application has an answer. `specs/Refusals` has the texts and the statuses, and `specs/Reading` begins with what a source told and
-//! whether a command reads it (`Told`, `reads`), which the contracts of the top calls cite; the rest of it is the code's own.
+//! Read `specs/Subjects` first: what a command is asked of, about the text alone. Then
+//! `specs/Fitness` and `specs/Numberings`: for which matrices an application has an answer.
+//! `specs/Refusals` has the texts and the statuses, and `specs/Reading` begins with what a source
+//! told and whether a command reads it (`Told`, `reads`), which the contracts of the top calls
+//! cite; the rest of it is the code's own.
 #![tactic(auto)]
 
 mod job;

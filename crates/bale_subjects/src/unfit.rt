@@ -31,11 +31,13 @@ pub enum Unfit {
     ColumnPermutation,
     /// A serial drive would send more than rows times entries allow: 16,777,216.
     SerialSize,
-    /// Delta-stepping on a serial drive would send the votes of too many rounds: more than 1,024 rows.
+    /// Delta-stepping on a serial drive would send the votes of too many rounds: more than 1,024
+    /// rows.
     DeltaRows,
 }
 
-/// The first test that fails, of those of the command, for this subject, driven serially or by threads.
+/// The first test that fails, of those of the command, for this subject, driven serially or by
+/// threads.
 ///
 /// # Errors
 /// `NoMemory` where the marks of a list's numbers found none.

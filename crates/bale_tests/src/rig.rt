@@ -1,4 +1,5 @@
-//! What the tests of the top calls share: a run with its source, its sinks and its gate, and what it tells.
+//! What the tests of the top calls share: a run with its source, its sinks and its gate, and what
+//! it tells.
 ghost use Rattle.bale_items.specs.Ledgers.{IsBlankOf};
 
 use bale_cli::{Outcome, run, run_serial};
@@ -54,8 +55,9 @@ pub(crate) struct Told {
 /// How often a hold looks before it gives up.
 const TRIES: u32 = 1_000_000_000;
 
-/// The gate of all runs here: for each of them that had another, the ranks' threads would be compiled anew. It counts how often the turn
-/// 0 of each of two ranks was announced, once in each run, and may hold that of one until the other's was.
+/// The gate of all runs here: for each of them that had another, the ranks' threads would be
+/// compiled anew. It counts how often the turn 0 of each of two ranks was announced, once in each
+/// run, and may hold that of one until the other's was.
 #[derive(Drop)]
 pub(crate) struct Watch {
     held: Option<u32>,

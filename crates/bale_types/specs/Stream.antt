@@ -1,5 +1,5 @@
--- What a source has still to give, what a sink has taken, and what one call moves between them and a
--- buffer. Where an object doesn't tell its bytes, they are None before and after each call.
+-- What a source has still to give, what a sink has taken, and what one call moves between them and
+-- a buffer. Where an object doesn't tell its bytes, they are None before and after each call.
 use Rattle.std.specs.Prelude.{◌≡◌, ◌<◌, ◌≤◌, ◌-◌, ℕ, zero, suc, ◌+◌, List, [], ◌++◌, Option, None, Some}
 use Rattle.std.specs.Prelude.{Result, Ok, Err, OnErr, OnOk, IfOk, IsSome, length, take, drop}
 use Rattle.bale_items.specs.Counters.{RoseOrFull}

@@ -1,7 +1,9 @@
-//! The text of numbers, laid into a buffer behind the bytes that it holds: each call says where the next is laid.
+//! The text of numbers, laid into a buffer behind the bytes that it holds: each call says where the
+//! next is laid.
 //!
-//! Numbers are printed by itoa, except where a line is written for each entry of a matrix: there rows,
-//! columns and most values have at most five digits, and tables lay them down in half the instructions.
+//! Numbers are printed by itoa, except where a line is written for each entry of a matrix: there
+//! rows, columns and most values have at most five digits, and tables lay them down in half the
+//! instructions.
 ghost use Rattle.std.specs.Prelude.{◌≡◌, ◌+◌, ◌/◌, ◌%◌, ◌<◌, ◌≤◌, [], ◌∷◌, length};
 ghost use Rattle.std.specs.Fmt.{decimal, signed_decimal};
 ghost use Rattle.bale_types.specs.Digits.{four, IsLaid};
@@ -24,7 +26,8 @@ pub fn lay_byte(buffer: &mut [u8], at: usize, b: u8) -> usize
     at + 1
 }
 
-/// Lays the decimal text of `n`, for which there must be room for 20 bytes. Up to five digits are written in place.
+/// Lays the decimal text of `n`, for which there must be room for 20 bytes. Up to five digits are
+/// written in place.
 #[inline(always)]
 fn lay_natural(buffer: &mut [u8], at: usize, n: u64) -> usize
     requires { at + 20 ≤ length buffer.old }
@@ -41,8 +44,8 @@ fn lay_natural(buffer: &mut [u8], at: usize, n: u64) -> usize
     }
 }
 
-/// Lays the decimal text of `n`, for which there must be room for 20 bytes, by a look into a table for
-/// most rows and columns.
+/// Lays the decimal text of `n`, for which there must be room for 20 bytes, by a look into a table
+/// for most rows and columns.
 #[inline(always)]
 pub fn lay_natural_by(buffer: &mut [u8], at: usize, fours: &Fours, n: u64) -> usize
     requires { at + 20 ≤ length buffer.old }
@@ -57,7 +60,8 @@ pub fn lay_natural_by(buffer: &mut [u8], at: usize, fours: &Fours, n: u64) -> us
     }
 }
 
-/// Lays the decimal text of a number with or without a sign, for which there must be room for 20 bytes.
+/// Lays the decimal text of a number with or without a sign, for which there must be room for 20
+/// bytes.
 #[inline(always)]
 pub fn lay_integer(buffer: &mut [u8], at: usize, n: i64) -> usize
     requires { at + 20 ≤ length buffer.old }
@@ -91,7 +95,8 @@ pub(crate) fn lay_text(buffer: &mut [u8], at: usize, t: &[u8]) -> usize
     end
 }
 
-/// Writes a number of at most two digits behind the first `at` bytes of a buffer, and says where it ends.
+/// Writes a number of at most two digits behind the first `at` bytes of a buffer, and says where it
+/// ends.
 #[inline(always)]
 fn two_digits(buffer: &mut [u8], at: usize, n: u32) -> usize
     requires room { at + 2 ≤ length buffer.old }
@@ -147,7 +152,8 @@ fn four_by(buffer: &mut [u8], at: usize, fours: &Fours, n: u32) -> usize
     at + 4
 }
 
-/// Writes a number of five digits behind the first `at` bytes by a digit and a look, and says where it ends.
+/// Writes a number of five digits behind the first `at` bytes by a digit and a look, and says where
+/// it ends.
 #[inline(always)]
 fn five_by(buffer: &mut [u8], at: usize, fours: &Fours, n: u32) -> usize
     requires room { at + 5 ≤ length buffer.old }

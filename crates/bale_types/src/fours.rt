@@ -5,7 +5,8 @@ ghost use Rattle.bale_types.specs.Digits.{four, AreDigits};
 /// How many numbers have at most four digits.
 const COUNT: usize = 10_000;
 
-/// The four digits of each number below 10,000, with zeros in front: 40,000 bytes, made once for many lines.
+/// The four digits of each number below 10,000, with zeros in front: 40,000 bytes, made once for
+/// many lines.
 #[derive(Drop)]
 pub struct Fours {
     /// Those of number `n` at index `n`.

@@ -13,12 +13,13 @@
 //! | `lay_byte`, `lay_natural_by`, `lay_integer` | lay a byte or a number into a buffer, for a writer of a line an entry |
 //! | `Fours` | the four digits of each number below 10,000, for such a writer |
 //!
-//! An answer goes out line by line: a `Line` is put together in place, `Out::line` takes it, and the
-//! `Out` hands its buffer to the sink each time that it is full, and at `Out::flush`. After a failure
-//! a sink holds a front of what was appended, the rest still waits in the `Out`, and the sink's count of
-//! faults rose.
+//! An answer goes out line by line: a `Line` is put together in place, `Out::line` takes it, and
+//! the `Out` hands its buffer to the sink each time that it is full, and at `Out::flush`. After a
+//! failure a sink holds a front of what was appended, the rest still waits in the `Out`, and the
+//! sink's count of faults rose.
 //!
-//! The definitions, in the order in which to read them: `Stream` (sources and sinks), `Out`, `Memory` and `Digits`.
+//! The definitions, in the order in which to read them: `Stream` (sources and sinks), `Out`,
+//! `Memory` and `Digits`.
 #![tactic(auto)]
 
 mod digits;

@@ -61,8 +61,8 @@ impl Line {
         self.len = lay_text(&mut self.room, self.len, t);
     }
 
-    /// Appends the decimal text of `n`. There must be room for the longest text of its type, which is
-    /// 20 bytes for 64 bits, signed or not.
+    /// Appends the decimal text of `n`. There must be room for the longest text of its type, which
+    /// is 20 bytes for 64 bits, signed or not.
     pub fn number<I: Integer>(&mut self, n: I)
         requires { length self.old + I.MAX_STR_LEN ≤ LINE_ROOM }
         ensures { HasMore I.MAX_STR_LEN self.old self.new (I.text n) }
@@ -102,7 +102,8 @@ impl Line {
 pub trait LineText {
     ghost text: { Self → List ℕ };
 
-    /// Lays the text behind the first `at` bytes of a buffer, and says where it ends; what follows there may be anything.
+    /// Lays the text behind the first `at` bytes of a buffer, and says where it ends; what follows
+    /// there may be anything.
     fn lay(&self, buffer: &mut [u8], at: usize) -> usize
         requires room { at + LINE_ROOM ≤ length buffer.old }
         ensures { IsLaid LINE_ROOM at result buffer.old buffer.new (text self.now) };
@@ -111,7 +112,8 @@ pub trait LineText {
 impl LineText for Line {
     ghost text = { λ l. l };
 
-    /// Copies the room, or the front of it where the line is short, so that the copy has one of two fixed sizes.
+    /// Copies the room, or the front of it where the line is short, so that the copy has one of two
+    /// fixed sizes.
     #[inline(always)]
     fn lay(&self, buffer: &mut [u8], at: usize) -> usize
         requires room { at + LINE_ROOM ≤ length buffer.old }

@@ -1,5 +1,5 @@
-//! A source and a sink in memory, which fail at the calls that their maker names: for tests, and for
-//! whoever has the bytes at hand.
+//! A source and a sink in memory, which fail at the calls that their maker names: for tests, and
+//! for whoever has the bytes at hand.
 ghost use Rattle.std.specs.Prelude.{◌≡◌, ◌<◌, ◌≤◌, ◌-◌, ◌↔◌, ◌⊎◌, if◌then◌else◌, ℕ, List, Some, [], length, min, is_err, IfOk, IsErr, Contains};
 ghost use Rattle.bale_types.specs.Stream.{after, before, moved, CountsFaults, MovesSome};
 ghost use Rattle.bale_items.specs.Counters.{next_count};

@@ -1,10 +1,10 @@
 //! An output buffer in front of a sink, so that many small pieces make few writes.
 //!
 //! All that was appended is what the sink has taken, and then what the buffer holds: the word
-//! `appended` of the clauses. After a call that failed, the sink holds a front of what was appended,
-//! and the rest still waits in the buffer: no byte is forgotten, so that a flush that answers Ok has
-//! handed on all of them, whatever failed before it. What a sink took stays taken. Nothing here takes
-//! memory.
+//! `appended` of the clauses. After a call that failed, the sink holds a front of what was
+//! appended, and the rest still waits in the buffer: no byte is forgotten, so that a flush that
+//! answers Ok has handed on all of them, whatever failed before it. What a sink took stays taken.
+//! Nothing here takes memory.
 ghost use Rattle.std.specs.Prelude.{◌≡◌, ◌+◌, ◌%◌, ◌<◌, ◌≤◌, [], ◌∷◌, length, take, IfOk, OnOk, OnErr, IsOk};
 ghost use Rattle.std.specs.Fmt.{signed_decimal};
 ghost use Rattle.bale_types.specs.Stream.{after, CountsFaults, IsFront, MovesSome};
@@ -25,8 +25,8 @@ pub struct Out<'a, K> {
     sink: &'a mut K,
     /// The bytes that the sink doesn't have yet: the first `len`.
     buffer: [u8; BUFFER],
-    /// How many those are; a buffer that becomes full is handed over whole and at once, and is still
-    /// full only where that failed.
+    /// How many those are; a buffer that becomes full is handed over whole and at once, and is
+    /// still full only where that failed.
     len: usize,
     ghost within: { len ≤ BUFFER },
 }
@@ -126,8 +126,8 @@ impl<'a, K: Sink> Out<'a, K> {
         Ok(())
     }
 
-    /// Appends as many bytes from the front of `t` as fit into the buffer, at least one, and says how
-    /// many.
+    /// Appends as many bytes from the front of `t` as fit into the buffer, at least one, and says
+    /// how many.
     fn fill(&mut self, t: &[u8]) -> Result<usize, Failed>
         requires { 0 < length t.now }
         ensures some { MovesSome (length t.now) result }
@@ -194,8 +194,8 @@ impl<'a, K: Sink> Out<'a, K> {
     }
 }
 
-/// Hands some of the first `len` bytes to the sink, by one call; the others come to the front, and it
-/// says how many they are.
+/// Hands some of the first `len` bytes to the sink, by one call; the others come to the front, and
+/// it says how many they are.
 fn hand_some<K: Sink>(sink: &mut K, buffer: &mut [u8; BUFFER], len: usize) -> Result<usize, Failed>
     requires { (0 < len) × (len ≤ BUFFER) }
     ensures fewer { IfOk result (λ left. left < len) }

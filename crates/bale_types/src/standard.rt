@@ -1,9 +1,9 @@
 //! Standard input, output and error as a source and two sinks: the trusted edge.
 //!
 //! No contract can say what a terminal, a pipe or a file gives or takes, so these tell no content.
-//! They count their failures: exactly the calls that answer `Failed`. What std answered goes whole to
-//! one helper, whose contract keeps it; what no contract sees, the repository's checks try on real
-//! files, pipes and devices.
+//! They count their failures: exactly the calls that answer `Failed`. What std answered goes whole
+//! to one helper, whose contract keeps it; what no contract sees, the repository's checks try on
+//! real files, pipes and devices.
 ghost use Rattle.std.specs.Prelude.{◌≡◌, ◌<◌, ◌≤◌, ℕ, List, Option, None, Some, Ok, [], length, is_err, IfOk, if◌then◌else◌};
 ghost use Rattle.std.specs.Result.{result_ok};
 ghost use Rattle.bale_types.specs.Stream.{moved, CountsFaults, MovesSome, some_moved};
@@ -91,8 +91,8 @@ impl<R: Print> Sink for StdoutSink<'_, R> {
     }
 }
 
-/// Standard error. It takes text alone, since the runtime prints text there, and each piece whole: bytes
-/// that are no UTF-8 count as a failure.
+/// Standard error. It takes text alone, since the runtime prints text there, and each piece whole:
+/// bytes that are no UTF-8 count as a failure.
 #[derive(Drop)]
 pub struct StderrSink<'a, R> {
     rt: &'a R,

@@ -1,4 +1,5 @@
--- Cutting a long number short changes no answer of a range below the cut, and reading it digit by digit.
+-- Cutting a long number short changes no answer of a range below the cut, and reading it digit by
+-- digit.
 use Rattle.std.proofs.Common.{◌≡◌, ℕ, ◌<◌, ◌+◌, ◌-◌, ◌*◌, ◌^◌, ◌∙◌, min, List, Option, Some, None, refl, sym, ap, ap₂, arith, true, length, take, get_or}
 use Rattle.std.specs.Prelude.{◌&&◌}
 use Rattle.std.specs.List.{list_all}

@@ -48,14 +48,16 @@ abbrev pub has_hyphen : List ℕ → Bool
 has_hyphen [] = false
 has_hyphen (b ∷ bs) = b == 45
 
--- What a word of an option gives, by its name and the value behind `=`, if any; `next` reads on with a name that waits.
+-- What a word of an option gives, by its name and the value behind `=`, if any; `next` reads on
+-- with a name that waits.
 abbrev pub given_by : Option (List ℕ × Option (List ℕ)) → Option (List Given) → (List ℕ → Option (List Given))
     → Option (List Given)
 given_by None rest next = None
 given_by (Some (name, None)) rest next = next name
 given_by (Some (name, Some value)) rest next = with_first name value rest
 
--- The options that some words give, where a name may wait for its value; None where they aren't all options.
+-- The options that some words give, where a name may wait for its value; None where they aren't all
+-- options.
 -- A value in a word of its own doesn't begin with a hyphen.
 abbrev pub given_from : Option (List ℕ) → List (List ℕ) → Option (List Given)
 given_from None [] = Some []

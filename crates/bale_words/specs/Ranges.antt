@@ -33,7 +33,8 @@ TaskInRanges _ = Unit {0}
 
 -- The numbers of a command are within the ranges of their options, and tally, which reads lines,
 -- has no matrix to be generated.
--- The words histo, --buffer, 64 give a command whose buffer is 64, one of the sizes; no words give the buffer 3.
+-- The words histo, --buffer, 64 give a command whose buffer is 64, one of the sizes; no words give
+-- the buffer 3.
 pub record InRanges (c : Command) : Type 0 where
   pub lines : c.task ≡ task.Tally → c.travel.generated ≡ None
   pub travel : TravelInRanges c.travel

@@ -80,12 +80,14 @@ transport_of a text =
     if is_text (codes "convey") text then Some Convey else (if is_text (codes "exstack") text then Some Exstack
     else (if is_text (codes "biconvey") text then (if has_biconvey a then Some Biconvey else None) else None))
 
--- The most entries that a generated matrix of n rows may have: those on or above the diagonal, at most 262,144.
+-- The most entries that a generated matrix of n rows may have: those on or above the diagonal, at
+-- most 262,144.
 abbrev pub most_entries : ℕ → ℕ
 most_entries n = min 262144 (n * (n + 1) / 2)
 
 -- A matrix to be generated: three numbers n, m and a seed, joined by commas.
--- "2,3,42" gives 2 rows, 3 entries and the seed 42; "2,4,42" gives nothing, since there are 3 places.
+-- "2,3,42" gives 2 rows, 3 entries and the seed 42; "2,4,42" gives nothing, since there are 3
+-- places.
 abbrev pub generated_by : List (List ℕ) → Option Generated
 generated_by (n ∷ m ∷ seed ∷ []) = do
   rows ← number_in 1 16384 n

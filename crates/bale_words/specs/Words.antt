@@ -49,7 +49,8 @@ permutations_of None rows cols = do
   cols ← if_given (numbers_in 44 0 (2 ^ 32 - 1)) cols
   Some (Lists rows cols)
 
--- What an application is told: of sssp the source, 1 where it isn't given, and the width of a bucket.
+-- What an application is told: of sssp the source, 1 where it isn't given, and the width of a
+-- bucket.
 abbrev pub search_of : Option (List ℕ) → Option (List ℕ) → Option Task
 search_of source delta = do
   source ← or_default 1 (number_in 0 (2 ^ 32 - 1)) source

@@ -39,7 +39,8 @@ pub struct Generated {
 /// New numbers for rows and columns.
 #[derive(Drop)]
 pub enum Permutations {
-    /// Lists for the rows and for the columns, counted from 1; one that isn't given changes nothing.
+    /// Lists for the rows and for the columns, counted from 1; one that isn't given changes
+    /// nothing.
     Lists(Option<Numbers>, Option<Numbers>),
     /// Both drawn from a seed.
     Seed(u64),

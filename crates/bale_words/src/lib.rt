@@ -1,8 +1,9 @@
 //! The words of the command line, and what they ask for.
 //!
-//! The definitions, in the order in which to read them: `Words` (which lists of words are accepted, and what they ask for), `Options` (how
-//! words are cut into options), `Values` and `Numbers` (what a text gives), `Ranges` (what a command's numbers may be). `Clap`, `Pairs` and
-//! `Reading` are the code's own.
+//! The definitions, in the order in which to read them: `Words` (which lists of words are accepted,
+//! and what they ask for), `Options` (how words are cut into options), `Values` and `Numbers` (what
+//! a text gives), `Ranges` (what a command's numbers may be). `Clap`, `Pairs` and `Reading` are the
+//! code's own.
 #![tactic(auto)]
 
 mod command;

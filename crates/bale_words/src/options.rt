@@ -33,7 +33,8 @@ pub(crate) fn given<'a>(alloc: Global, words: &'a [String]) -> Result<Vec<Pair<'
     }
 }
 
-/// Reads one more word: the value that an option waits for, or an option. Answers the option that waits then.
+/// Reads one more word: the value that an option waits for, or an option. Answers the option that
+/// waits then.
 fn read_word<'a>(
     pairs: &mut Vec<Pair<'a>>,
     waiting: Option<&'a str>,
@@ -84,7 +85,8 @@ fn begins_with_hyphen(word: &str) -> bool
     }
 }
 
-/// The name of an option's word, and the value behind `=` where there is one; None where the word is no option.
+/// The name of an option's word, and the value behind `=` where there is one; None where the word
+/// is no option.
 fn cut(word: &str) -> Option<(&str, Option<&str>)>
     ensures { option_map (λ p. (p.0.now, option_map (λ s. s.now) p.1)) result ≡ long_of word.now }
 {

@@ -39,7 +39,8 @@ fn option_word(alloc: Global, pair: &Pair<'_>) -> Result<String, WordsFault>
     Ok(word)
 }
 
-/// Parses words that were made of accepted options: only memory can be wanting, and each option has its value.
+/// Parses words that were made of accepted options: only memory can be wanting, and each option has
+/// its value.
 pub(crate) fn parse<'a>(
     alloc: Global,
     names: &'a [&'a str],

@@ -22,8 +22,8 @@ use crate::values::{
 use clap::ArgMatches;
 use std::alloc::Global;
 
-/// The command that the words after the program's name give: an application, and then its options, in any order, each at most
-/// once, as `--name value` or `--name=value`.
+/// The command that the words after the program's name give: an application, and then its options,
+/// in any order, each at most once, as `--name value` or `--name=value`.
 ///
 /// # Errors
 /// `Usage` exactly where the words are no command; `NoMemory` where there was none to read them.
@@ -107,7 +107,8 @@ fn travel_by(application: TaskName, matches: &ArgMatches<'_>) -> Option<Travel>
     read_travel(application, via, slots, steady, buffer, drive, gen_text)
 }
 
-/// How the items travel, by the texts of `--via`, `--slots`, `--steady`, `--buffer`, `--drive` and `--gen`.
+/// How the items travel, by the texts of `--via`, `--slots`, `--steady`, `--buffer`, `--drive` and
+/// `--gen`.
 #[tactic(auto, unfolding(crate::specs::Words::travel_of))]
 fn read_travel(
     application: TaskName,

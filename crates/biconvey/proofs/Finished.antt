@@ -1,4 +1,5 @@
--- An exchange of which all ranks are complete, over the lists of any two banks: what is heard, and what the closed rounds tell.
+-- An exchange of which all ranks are complete, over the lists of any two banks: what is heard, and
+-- what the closed rounds tell.
 use Rattle.std.proofs.Common.{◌≡◌, ℕ, suc, ◌<◌, Bool, true, List, [], ◌∷◌, length, get_or, slice_get, slice_index_or, Some, All, refl, sym, ap, subst, ◌∙◌, arith}
 use Rattle.std.proofs.lemmas.List.{length-map}
 use Rattle.std.proofs.lemmas.Option.{get_or_from_slice_get, slice_get-get_or}

@@ -18,7 +18,8 @@ use Rattle.convey.specs.Due.{Wants, NextIs, next_link}
 use Rattle.convey.specs.Rest.{IsBusy}
 use Rattle.convey.proofs.OneRank.{starting-own, ending-own}
 
--- what the turn of rank r tells that moved nothing: old and new are its conveyor before and after the turn's advance
+-- what the turn of rank r tells that moved nothing: old and new are its conveyor before and after
+-- the turn's advance
 pub record IsHalted (dims : List ℕ) (r : ℕ) (old new : State) (sent got : Logs) : Type 0 where
   pub same_dims : old.dims ≡ dims
   pub same_rank : old.rank ≡ r

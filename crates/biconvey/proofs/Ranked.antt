@@ -16,7 +16,8 @@ use Rattle.query_node.specs.Still.{IsStuck}
 use Rattle.query_node.specs.Ranks.{HasRank}
 use Rattle.biconvey.specs.Worlds.{AfterRank, sides_of}
 
--- what a turn tells over the port of rank a of the bank q and that of rank b of the bank r; the ports after it are those of a' and b'
+-- what a turn tells over the port of rank a of the bank q and that of rank b of the bank r; the
+-- ports after it are those of a' and b'
 pub record PortTurns {S : Type 0} (T : Talk S) (cap : ℕ) (n n' : BiState S) (q : Bank) (a : ℕ) (q' : Bank) (a' : ℕ) (r : Bank) (b : ℕ) (r' : Bank) (b' : ℕ) : Type 0 where
   pub queries_rest : others_of a' q' ≡ others_of a q
   pub replies_rest : others_of b' r' ≡ others_of b r

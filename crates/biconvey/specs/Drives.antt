@@ -18,7 +18,8 @@ pub record AreAskers {S : Type 0} (T : Talk S) (p : ℕ) (askers : List S) : Typ
   pub size : length askers ≡ p
   pub each : (r : ℕ) (s : S) → slice_get askers r ≡ Some s → (T.rank s ≡ r) × (T.ranks s ≡ p)
 
--- The queries of the pair (s,d), and the replies of (d,s), of some askers; none where there is no such rank.
+-- The queries of the pair (s,d), and the replies of (d,s), of some askers; none where there is no
+-- such rank.
 abbrev pub queries_of : {S : Type 0} → Talk S → Option S → ℕ → List Item
 queries_of T None d = []
 queries_of T (Some s) d = queries_to T s d
@@ -34,9 +35,12 @@ abbrev pub replies_by : {S : Type 0} → Talk S → List S → ℕ → ℕ → L
 replies_by T askers d s = answers_of T (slice_get askers d) s (queries_by T askers s d)
 
 -- A closed round tells one way of an exchange, in which each rank s had some items for each rank d.
--- bank: it was made as asked. lawful: what holds of every closed round, pairs and their order among it.
--- ended, by_last: each link ended one epoch, and nothing came after it. collected: all parcels were.
--- pushed: each rank pushed toward each what it had for it. all_came: each pulled what was pushed toward it.
+-- bank: it was made as asked. lawful: what holds of every closed round, pairs and their order among
+-- it.
+-- ended, by_last: each link ended one epoch, and nothing came after it. collected: all parcels
+-- were.
+-- pushed: each rank pushed toward each what it had for it. all_came: each pulled what was pushed
+-- toward it.
 -- shape: each parcel is filled as conveyors fill it, steady or not.
 pub record TellsWay (made : Made) (steady : Bool) (items : ℕ → ℕ → List Item) (round : Round) : Type 0 where
   pub bank : record { dims = round.dims; cap = round.cap; slots = round.slots; by_slots = round.by_slots } ≡ made
@@ -54,7 +58,8 @@ pub record TellsExchange {S : Type 0} (T : Talk S) (askers : List S) (made : Mad
   pub asking : TellsWay made steady (queries_by T askers) queries
   pub replying : TellsWay made steady (replies_by T askers) replies
 
--- A rank that hasn't turned, and may push: on its ports nothing was sent or got, and nothing is unread.
+-- A rank that hasn't turned, and may push: on its ports nothing was sent or got, and nothing is
+-- unread.
 pub record IsFresh {S : Type 0} (T : Talk S) (dims : List ℕ) (steady : Bool) (r : ℕ) (n : BiState S) : Type 0 where
   pub same_dims : n.queries.dims ≡ dims
   pub same_rank : n.queries.rank ≡ r

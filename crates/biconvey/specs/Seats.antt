@@ -7,7 +7,8 @@ use Rattle.rank_group.specs.Noted.{HasSame}
 use Rattle.query_node.specs.States.{BiState, IsBiNode}
 use Rattle.biconvey.specs.Worlds.{is_over}
 
--- A rank, its seat at the bank of queries and its seat at that of replies, and how many turns it made.
+-- A rank, its seat at the bank of queries and its seat at that of replies, and how many turns it
+-- made.
 pub record SeatedState (S : Type 0) : Type 0 where
   pub node : BiState S
   pub queries : Manning
@@ -48,7 +49,8 @@ pub record SameSeat (old new : Manning) : Type 0 where
   pub number : new.rank ≡ old.rank
 
 -- Turns took a rank from x to y: it sits where it sat, and is still on the way of its exchange.
--- heard: `told` holds of each of them, by the rank's number and its own, counted from 0 over the whole exchange.
+-- heard: `told` holds of each of them, by the rank's number and its own, counted from 0 over the
+-- whole exchange.
 pub record Ran {S : Type 0} (T : Talk S) (cap : ℕ) (told : ℕ → ℕ → Bool) (x y : SeatedState S) : Type 0 where
   pub queries : SameSeat x.queries y.queries
   pub replies : SameSeat x.replies y.replies
@@ -70,9 +72,9 @@ abbrev pub AreSeated : {S : Type 0} → Talk S → ℕ → Bool → Identity →
 AreSeated {S} T cap steady q p xs = (r : ℕ) (x : SeatedState S) → slice_get xs r ≡ Some x
     → IsSeated T cap steady q p r x
 
--- Turns from x to y made no progress: no parcel of queries or of replies was posted or collected, no
--- query was pushed, and the ways were not completed.
-pub record MadeNone {S : Type 0} (x y : SeatedState S) : Type 0 where
+-- Turns from x to y made no progress: no parcel of queries or of replies was posted or collected,
+-- no query was pushed, and the ways were not completed.
+pub record AskerMadeNone {S : Type 0} (x y : SeatedState S) : Type 0 where
   pub queries : HasSame x.queries y.queries
   pub replies : HasSame x.replies y.replies
   pub asked : y.node.next ≡ x.node.next

@@ -7,7 +7,8 @@ use Rattle.query_node.specs.States.{BiState, Sides}
 use Rattle.biconvey.specs.Drives.{AreFresh, askers_of}
 use Rattle.biconvey.specs.Worlds.{AfterRank, sides_of}
 
--- All ranks, the logs of all links of both banks and the number of turns made so far, at one moment.
+-- All ranks, the logs of all links of both banks and the number of turns made so far, at one
+-- moment.
 pub record AskingScene (S : Type 0) : Type 0 where
   pub ranks : List (BiState S)
   pub sides : Sides

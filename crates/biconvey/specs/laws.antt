@@ -1,2 +1,3 @@
--- Laws of this crate's definitions, with their proofs: what a trait asks for, and nothing to be believed.
+-- Laws of this crate's definitions, with their proofs: what a trait asks for, and nothing to be
+-- believed.
 pub mod SeatLaws

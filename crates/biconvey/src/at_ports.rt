@@ -40,8 +40,8 @@ impl<'a, A: Asker, const CAP: usize, const HOPS: usize> Model for AtPorts<'a, A,
 }
 
 impl<'a, A: Asker, const CAP: usize, const HOPS: usize> Seated for AtPorts<'a, A, CAP, HOPS> {
-    ghost use Rattle.biconvey.specs.Seats.{Ran, MadeNone};
-    ghost use Rattle.biconvey.specs.laws.SeatLaws.{ran_laws, none_laws};
+    ghost use Rattle.biconvey.specs.Seats.{Ran, AskerMadeNone};
+    ghost use Rattle.biconvey.specs.laws.SeatLaws.{ran_laws, asker_none_laws};
     ghost use Rattle.biconvey.specs.Worlds.{is_over};
 
     ghost ran = { λ told x y. Ran A.talk CAP told x y };
@@ -52,11 +52,11 @@ impl<'a, A: Asker, const CAP: usize, const HOPS: usize> Seated for AtPorts<'a, A
 
     ghost over = { λ x. is_over x.node };
 
-    ghost still = { λ x y. MadeNone x y };
+    ghost still = { λ x y. AskerMadeNone x y };
 
     ghost laws = { λ told. ran_laws A.talk CAP told };
 
-    ghost still_laws = { none_laws };
+    ghost still_laws = { asker_none_laws };
 
     fn rank(&self) -> u32 {
         self.queries.rank()

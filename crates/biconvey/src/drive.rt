@@ -28,8 +28,9 @@ use route_tensor::Grid;
 use std::alloc::Global;
 use std::sync::ledger::Ledger;
 
-/// Drives the askers of all ranks over two banks, of queries and of replies, with parcels of `CAP` entries and `slots` (1, 2, 4 or
-/// 8) parcels on a link at a time. Each sweep turns the ranks in the order given, until both ways of each are complete.
+/// Drives the askers of all ranks over two banks, of queries and of replies, with parcels of `CAP`
+/// entries and `slots` (1, 2, 4 or 8) parcels on a link at a time. Each sweep turns the ranks in
+/// the order given, until both ways of each are complete.
 /// Each turn raises `steps` by one.
 ///
 /// # Errors

@@ -1,5 +1,6 @@
-//! Queries and replies at once: each rank asks others, answers what it is asked, and hears the replies, with both ways
-//! underway at the same time. What a rank does is query_node's; here all ranks of a grid are driven over two banks.
+//! Queries and replies at once: each rank asks others, answers what it is asked, and hears the
+//! replies, with both ways underway at the same time. What a rank does is query_node's; here all
+//! ranks of a grid are driven over two banks.
 //!
 //! | Call | What it does |
 //! |---|---|
@@ -7,7 +8,8 @@
 //! | `bi_threads` | the same on threads |
 //! | `drive_both`, `thread_both`, `thread_with` | these, for a capacity and a number of hops that are known when the program is compiled |
 //!
-//! `specs/Drives` says what the two closed rounds tell, and `specs/Worlds` bounds the turns (`turns_of`).
+//! `specs/Drives` says what the two closed rounds tell, and `specs/Worlds` bounds the turns
+//! (`turns_of`).
 #![tactic(auto)]
 
 mod at_ports;

@@ -21,9 +21,10 @@ use std::alloc::Global;
 use std::sync::Wait;
 use std::thread::Threads;
 
-/// Drives the askers of all ranks on threads, as many as `drive_threads` takes and with the ranks assigned as there, over two slot
-/// banks, of queries and of replies, with parcels of `CAP` entries and `slots` (1, 2, 4 or 8) parcels on a link at a time. The gate
-/// is notified of each turn of a rank before it is made.
+/// Drives the askers of all ranks on threads, as many as `drive_threads` takes and with the ranks
+/// assigned as there, over two slot banks, of queries and of replies, with parcels of `CAP` entries
+/// and `slots` (1, 2, 4 or 8) parcels on a link at a time. The gate is notified of each turn of a
+/// rank before it is made.
 ///
 /// It waits for its threads, and returns where they do.
 ///
@@ -67,8 +68,8 @@ pub fn thread_both<
     )
 }
 
-/// `thread_both` with so many workers, of which the first have a thread each, as many as `threads` says. The caller polls the
-/// ranks of the others.
+/// `thread_both` with so many workers, of which the first have a thread each, as many as `threads`
+/// says. The caller polls the ranks of the others.
 ///
 /// # Errors
 /// As those of `thread_both`.

@@ -1,4 +1,5 @@
-//! The ranks of an exchange get their seats at two slot banks and go to their ports, and leave them.
+//! The ranks of an exchange get their seats at two slot banks and go to their ports, and leave
+//! them.
 
 ghost use Rattle.std.specs.Prelude.{◌≡◌, ◌<◌, ◌^◌, Bool, false, List, map, length, replicate, slice_index_or, Some, None, IfOk, OnOk};
 ghost use Rattle.std.specs.List.{All};

@@ -1,7 +1,8 @@
 //! Turns the ranks over two plain banks.
 //!
-//! In a sweep some parcel is posted or collected on one of the ways, or some entry is taken from an inbox; or else both ways are
-//! complete for every rank. Each of these happens only so often, which bounds the number of sweeps.
+//! In a sweep some parcel is posted or collected on one of the ways, or some entry is taken from an
+//! inbox; or else both ways are complete for every rank. Each of these happens only so often, which
+//! bounds the number of sweeps.
 
 ghost use Rattle.std.specs.Prelude.{◌≡◌, ◌≢◌, ℕ, ◌+◌, ◌<◌, ◌≤◌, Bool, length, slice_get, Some, IfOk, OnOk};
 ghost use Rattle.route_tensor.specs.Grid.{ranks};

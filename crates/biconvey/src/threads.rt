@@ -17,8 +17,9 @@ use std::alloc::Global;
 use std::sync::Wait;
 use std::thread::Threads;
 
-/// Drives the askers of all ranks, on threads, as `thread_both` does, over parcels of `cap` entries (a power of
-/// two from 1 to 1,024) and routes of as many hops as the grid has numbers. It waits for its threads, and returns where they do.
+/// Drives the askers of all ranks, on threads, as `thread_both` does, over parcels of `cap` entries
+/// (a power of two from 1 to 1,024) and routes of as many hops as the grid has numbers. It waits
+/// for its threads, and returns where they do.
 ///
 /// # Errors
 /// `NoMemory` where a rank, a bank or the result found none. The askers are dropped.

@@ -1,8 +1,9 @@
 //! Drives chosen by numbers that are known when the program runs.
 //!
-//! A drive is compiled for one capacity of a parcel and one number of hops, so that buffers have a fixed size. The calls here
-//! take the capacity as a number and the hops from the grid, and hand on what they were given to the drive of that case, one
-//! of 33: eleven capacities, and one to three hops. They promise what the drives promise.
+//! A drive is compiled for one capacity of a parcel and one number of hops, so that buffers have a
+//! fixed size. The calls here take the capacity as a number and the hops from the grid, and hand on
+//! what they were given to the drive of that case, one of 33: eleven capacities, and one to three
+//! hops. They promise what the drives promise.
 //!
 //! | Call | Chooses among the cases of |
 //! |---|---|

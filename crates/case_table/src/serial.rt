@@ -15,8 +15,8 @@ use route_tensor::Grid;
 use std::alloc::Global;
 use std::sync::ledger::Ledger;
 
-/// Drives the programs of all ranks on one thread, as `drive_serial` does, over parcels of `cap` entries (a power of two from 1 to 1,024) and
-/// routes of as many hops as the grid has numbers.
+/// Drives the programs of all ranks on one thread, as `drive_serial` does, over parcels of `cap`
+/// entries (a power of two from 1 to 1,024) and routes of as many hops as the grid has numbers.
 ///
 /// # Errors
 /// `NoMemory` where a program, a node, the bank or the result found none. The programs are dropped.

@@ -14,8 +14,8 @@ use std::alloc::Global;
 use std::sync::Wait;
 use std::thread::Threads;
 
-/// Drives the programs of all ranks, on threads, as `drive_threads` does, over parcels of `cap` entries (a power of two from 1 to 1,024) and
-/// routes of as many hops as the grid has numbers.
+/// Drives the programs of all ranks, on threads, as `drive_threads` does, over parcels of `cap`
+/// entries (a power of two from 1 to 1,024) and routes of as many hops as the grid has numbers.
 ///
 /// # Errors
 /// `NoMemory` where a program, a node, the bank or the result found none. The programs are dropped.

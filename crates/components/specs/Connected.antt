@@ -12,8 +12,9 @@ abbrev pub links : List Triple → List Link
 links entries = flat_map (λ t. record { from = t.i; to = t.j } ∷ record { from = t.j; to = t.i } ∷ []) entries
 
 -- A way from vertex u to vertex v: a list of links that join up.
--- IsWay entries u v (l1, .., lk): l1 begins at u, each begins where the one before it ends, and lk ends at v
--- Over the entry (2,5,v) the list (5,2) is a way from 5 to 2, and the empty list is one from 7 to 7.
+-- IsWay entries u v (l1, .., lk): l1 begins at u, each begins where the one before it ends, and lk
+-- ends at v Over the entry (2,5,v) the list (5,2) is a way from 5 to 2, and the empty list is one
+-- from 7 to 7.
 abbrev pub IsWay : List Triple → ℕ → ℕ → List Link → Type 0
 IsWay entries u v [] = u ≡ v
 IsWay entries u v (l ∷ way) = Contains (links entries) l × (l.from ≡ u) × IsWay entries l.to v way

@@ -50,7 +50,8 @@ is_label (n ∷ []) ranks round to from x =
     nat_lt from ranks && nat_lt to ranks && nat_lt x.a n && nat_lt x.b n && x.a % ranks == to && is_item x
 is_label shape ranks round to from x = false
 
--- A bound on the rounds: in each but the last some label falls, and 64 ranks have 16,384 labels below 16,384 at most.
+-- A bound on the rounds: in each but the last some label falls, and 64 ranks have 16,384 labels
+-- below 16,384 at most.
 abbrev pub most_rounds : ℕ
 most_rounds = 64 * 16_384 * 16_384 + 1
 

@@ -22,8 +22,8 @@ pub struct Link {
     pub to: u32,
 }
 
-/// One rank of the run. Vertex `v` belongs to rank `v mod ranks`; each rank has a label for every vertex, and only those of its
-/// own vertices ever fall.
+/// One rank of the run. Vertex `v` belongs to rank `v mod ranks`; each rank has a label for every
+/// vertex, and only those of its own vertices ever fall.
 #[derive(Drop)]
 pub struct Labels {
     alloc: Global,
@@ -51,7 +51,8 @@ impl Model for Labels {
 }
 
 impl Labels {
-    /// A rank before its first round, from 0 to `ranks - 1`: each vertex is labelled by its own number, and all links are active.
+    /// A rank before its first round, from 0 to `ranks - 1`: each vertex is labelled by its own
+    /// number, and all links are active.
     ///
     /// # Errors
     /// `NoMemory` where there was none.

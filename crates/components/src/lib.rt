@@ -1,8 +1,10 @@
-//! Connected components of a graph by label propagation: a whole program in rounds, to be read from top to bottom and copied.
+//! Connected components of a graph by label propagation: a whole program in rounds, to be read from
+//! top to bottom and copied.
 //!
-//! A square matrix is read as a graph: an entry `(i, j)` joins the vertices `i` and `j`. Each vertex has a label, at first its own
-//! number. In each round a vertex whose label fell sends it to its neighbours, and each keeps the least that it heard. A round in
-//! which no label fell is the last. Then the label of a vertex is the least number of its component.
+//! A square matrix is read as a graph: an entry `(i, j)` joins the vertices `i` and `j`. Each
+//! vertex has a label, at first its own number. In each round a vertex whose label fell sends it to
+//! its neighbours, and each keeps the least that it heard. A round in which no label fell is the
+//! last. Then the label of a vertex is the least number of its component.
 //!
 //! | File | What is in it |
 //! |---|---|
@@ -16,8 +18,8 @@
 //! | `proofs/Starts` | that the ranks begin in round 0 of one run |
 //! | `proofs/Rounds`, `Runs` | what holds as a round begins holds as the next begins; the run ends, and each label is then least |
 //!
-//! What says nothing of labels stands in the crate reductions: labels are a `Reduced`, whose reductions commute, and whose rounds and
-//! ends are proved there.
+//! What says nothing of labels stands in the crate reductions: labels are a `Reduced`, whose
+//! reductions commute, and whose rounds and ends are proved there.
 #![tactic(auto)]
 
 mod drives;

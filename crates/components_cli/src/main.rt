@@ -1,8 +1,11 @@
-//! The program `components_cli`: reads a square matrix in Matrix Market form from standard input, and writes a line for each vertex,
-//! its number and the least number of its component, both from 1. Eight ranks find them, on threads.
+//! The program `components_cli`: reads a square matrix in Matrix Market form from standard input,
+//! and writes a line for each vertex, its number and the least number of its component, both from
+//! 1. Eight ranks find them, on threads.
 //!
-//! That the labels are those is proved (`components_threads`); the streams no contract sees. The statuses are those of `bale`:
-//! 0, 3 and 4 where a read or a write failed, 5 and 6 where there is no matrix or no square one, 7 without memory.
+//! That the labels are those is proved (`components_threads`); the streams no contract sees. The
+//! statuses are those of `bale`:
+//! 0, 3 and 4 where a read or a write failed, 5 and 6 where there is no matrix or no square one, 7
+//! without memory.
 #![tactic(auto)]
 
 use bale_types::{Failed, Line, Out, Sink, StdinSource, StdoutSink};

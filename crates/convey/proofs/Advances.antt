@@ -118,7 +118,8 @@ new_agrees st n m outs ins epoch pulled =
       own = λ l h from to. begins_nil [];
     }
 
--- what moving on leaves, in the groups of an advance, where mid is the state before the phase settles
+-- what moving on leaves, in the groups of an advance, where mid is the state before the phase
+-- settles
 module _ {P : Type 0} {cap : ℕ} {M : Type 0} (G : Ghosts P cap M) (old mid : State) (told : Bool) (p q : P)
     (k : MovesOn old mid told (G.sent p) (G.sent q) (G.got p) (G.got q) (G.noted p) (G.noted q) (G.idle q)) where
   pub lists_grow : old.cap ≡ cap → ListsGrow G old p q

@@ -1,5 +1,5 @@
--- What becomes of the agreement, and of the rank's part of the machine, where a parcel is collected and where entries
--- are relayed.
+-- What becomes of the agreement, and of the rank's part of the machine, where a parcel is collected
+-- and where entries are relayed.
 use Rattle.std.proofs.Common.{◌≡◌, ◌≢◌, ℕ, ◌+◌, ◌-◌, ◌<◌, ◌==◌, Bool, false, cond, List, [], ◌∷◌, ◌++◌, length, take, None, refl, sym, ap, subst, ◌∙◌, arith, inl, inr, eq-eqb, ne_eqb, length-append}
 use Rattle.std.specs.List.{All, flat_map}
 use Rattle.std.proofs.lemmas.Bool.{cases_eq}

@@ -132,7 +132,8 @@ in_rises dims r i j g own w q =
       | inr ne ↦ earlier_hop dims _ _ _ _ _ _ g (from_neighbour dims r i g own p) (omega (arith, ne, hops_ascend dims i j _ _ w a (hop_to_has dims j q)))
     ]
 
--- the posts of a sweep over all neighbours, and over those before number k; the collects of a sweep over all
+-- the posts of a sweep over all neighbours, and over those before number k; the collects of a sweep
+-- over all
 module _ (dims : List ℕ) (r : ℕ) (g : IsGrid dims) (own : r < ranks dims) (made : ℕ → Bool) where
   pub all_posts : (n : ℕ) → n ≡ sum dims → swept (λ i. made (link_to dims r i)) (λ i. Post (link_to dims r i)) n ≡ swept (λ l. eqb (sender_at dims l) r && made l) Post (links dims)
   all_posts n all =

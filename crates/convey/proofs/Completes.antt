@@ -54,7 +54,8 @@ module _ (st : State) (s : IsState st) (h : phase_of st ≡ Complete) where
   finished_last l k last =
       of_hop st.dims st.ins is_finished l s.grid k s.all_ins (subst (λ j. list_all is_finished (ins_of_hop st.dims st.ins j) ≡ true) (sym last) (complete_bits st h).read_true)
 
-  -- on an earlier hop: the rank's link to itself on the next hop is closed, so all of this hop has come
+  -- on an earlier hop: the rank's link to itself on the next hop is closed, so all of this hop has
+  -- come
   next_end : (l : ℕ) → l < links st.dims → hop_at st.dims l ≢ length st.dims → EndOf st (hop_link st.dims st.rank st.rank (hop_at st.dims l + 1))
   next_end l k ne =
       let n = number_ends st.dims l s.grid k in

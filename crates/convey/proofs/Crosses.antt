@@ -1,4 +1,5 @@
--- A conveyor may go to another thread. Rattle derives this by itself only where no field is a `Snapshot`.
+-- A conveyor may go to another thread. Rattle derives this by itself only where no field is a
+-- `Snapshot`.
 use denote.RattleType.{RattleType}
 use denote.Param.Send.{IsSend, sendable}
 use Rattle.std.proofs.Crossing.{crosses}

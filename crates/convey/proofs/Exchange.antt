@@ -1,5 +1,6 @@
--- The exchange law. A call changes one rank's part; what it pulls stands next in what its sender pushed, since items
--- arrive in order; and where it completes, its last links have ended, so that all senders are through.
+-- The exchange law. A call changes one rank's part; what it pulls stands next in what its sender
+-- pushed, since items arrive in order; and where it completes, its last links have ended, so that
+-- all senders are through.
 use Rattle.std.proofs.Common.{◌≡◌, ◌≢◌, ℕ, zero, suc, ◌+◌, ◌-◌, ◌<◌, ◌≤◌, ◌==◌, Bool, true, false, cond, List, [], ◌∷◌, ◌++◌, length, slice_get, Some, inl, inr, refl, sym, ap, subst, ◌∙◌, arith, ne_eqb, eqb-true}
 use Rattle.std.proofs.lemmas.Bool.{cases_eq}
 use Rattle.bale_items.specs.declared.item.Item.{Item}
@@ -156,7 +157,8 @@ module _ (dims : List ℕ) (cap slots r : ℕ) (old new : ℕ → Buffers) (sent
       let g = ending_same dims r q got got' ne c.got_elsewhere in
       λ i. part_of (b i) (s i) (g i)
 
-  -- where the called rank's lists of pushed items stay, all do; and so for its epoch and its mark done
+  -- where the called rank's lists of pushed items stay, all do; and so for its epoch and its mark
+  -- done
   pushed_stay : (later r).pushed ≡ (before r).pushed → (q : ℕ) → q < ranks dims → (later q).pushed ≡ (before q).pushed
   pushed_stay own = each_rank (λ q. (later q).pushed ≡ (before q).pushed) own (λ q h ne. ap (λ p. p.pushed) (other_parts q h ne))
 

@@ -73,7 +73,8 @@ open_first : (st : State) → IsState st → st.done ≡ false → OpenFirst st.
 unfolding OpenFirst
 open_first st s not_done l below one = not_true (out_of st l).closed (λ c. false≢true (sym not_done ∙ (closed_end st l s below c).done one))
 
--- the call that says that the rank is done doesn't complete it: its last link to itself hasn't ended
+-- the call that says that the rank is done doesn't complete it: its last link to itself hasn't
+-- ended
 not_at_once : (old mid new : State) (sent got : Logs) → IsState old → old.done ≡ false → Agrees (buffers_of mid) sent got → mid.dims ≡ old.dims → mid.rank ≡ old.rank → mid.outs ≡ old.outs
     → new.dims ≡ mid.dims → new.rank ≡ mid.rank → ((l : ℕ) → (in_of new l).ended ≡ (in_of mid l).ended) → IsOver new → ⊥
 unfolding OpenFirst

@@ -1,4 +1,5 @@
--- What becomes of the agreement, and of the rank's part of the machine, by each thing that happens to its buffers.
+-- What becomes of the agreement, and of the rank's part of the machine, by each thing that happens
+-- to its buffers.
 use Rattle.std.proofs.Common.{◌≡◌, ◌≢◌, ℕ, ◌+◌, ◌-◌, ◌<◌, ◌==◌, Bool, true, false, cond, List, [], ◌∷◌, ◌++◌, length, take, Option, Some, None, refl, sym, ap, subst, ◌∙◌, arith, inl, inr, eq-eqb, ne_eqb}
 use Rattle.std.specs.List.{All, flat_map}
 use Rattle.std.proofs.lemmas.Bool.{cases_eq}

@@ -1,5 +1,5 @@
--- A post keeps the relay law: what waits on a link out is the next of what came, and where the parcel is marked last
--- it is all that came.
+-- A post keeps the relay law: what waits on a link out is the next of what came, and where the
+-- parcel is marked last it is all that came.
 use Rattle.std.proofs.Common.{◌≡◌, ℕ, zero, suc, ◌+◌, ◌<◌, ◌⊎◌, Bool, true, false, cond, [], ◌∷◌, ◌++◌, refl, sym, ap, subst, ◌∙◌, arith, inl, inr}
 use Rattle.std.specs.List.{All}
 use Rattle.std.proofs.lemmas.Bool.{cases_eq, cases_lt}

@@ -21,9 +21,10 @@ use Rattle.convey.specs.Rest.{IsBusy, HasBusy, IsRestingSweep}
 use Rattle.convey.proofs.OneRank.{starting-own, ending-own}
 use Rattle.convey.proofs.Blocks.{HasNext, has_next}
 
--- What the turn of rank r tells, in a sweep in which the bank's lists stay and no entry is relayed: old and new are its
--- states before and after its advance.
--- pushed: it pushed all and said that it is done, or a push was refused, and one of its links is crowded.
+-- What the turn of rank r tells, in a sweep in which the bank's lists stay and no entry is relayed:
+-- old and new are its states before and after its advance.
+-- pushed: it pushed all and said that it is done, or a push was refused, and one of its links is
+-- crowded.
 pub record IsQuiet (dims : List ℕ) (r e : ℕ) (old new : State) (sent got : Logs) : Type 0 where
   pub dims_old : old.dims ≡ dims
   pub rank_old : old.rank ≡ r
@@ -74,8 +75,9 @@ yes_or : (c : Bool) → (c ≡ true) ⊎ (c ≡ false)
 yes_or true = inl refl
 yes_or false = inr refl
 
--- What a link in tells at its reader's turn: it has ended, or all that was sent was got, and in both cases nothing lies
--- in its inbox; or an entry lies there, and a link of the next hop is crowded.
+-- What a link in tells at its reader's turn: it has ended, or all that was sent was got, and in
+-- both cases nothing lies in its inbox; or an entry lies there, and a link of the next hop is
+-- crowded.
 module _ (dims : List ℕ) (r e : ℕ) (old new : State) (sent got : Logs) (q : IsQuiet dims r e old new sent got) where
   sent_marks : (l : ℕ) → l < links dims → sender_at dims l ≡ r → lasts (sent l) ≡ lasts_in e (out_of new l).closed
   sent_marks l h from =
@@ -132,7 +134,8 @@ module _ (dims : List ℕ) (e : ℕ) (old new : ℕ → State) (sent got : Logs)
       let closed : (out_of (new a) l).closed ≡ true = mark_of e (out_of (new a) l).closed (omega arith) in
       ap length (all_got (got l) (sent l) (fronts l h) (sent_last dims a e (old a) (new a) sent got k l h refl closed) same)
 
-  -- a link with parcels on their way is held up by one of the next hop, from a rank of the same epoch
+  -- a link with parcels on their way is held up by one of the next hop, from a rank of the same
+  -- epoch
   held_up : (l : ℕ) → l < links dims → Quiet (sender_at dims l) → IsBusy sent got l → Quiet (reader_at dims l) × HasNext dims (reader_at dims l) l (IsBusy sent got)
   held_up l h k busy =
       let ends = number_ends dims l g h in

@@ -73,8 +73,9 @@ own_loop dims r h g own first last = record {
   hop = hop-on_route dims r r h g own own first last;
 }
 
--- Where no link of hop 1 is closed, the last of a rank's links to itself hasn't ended: such a link has ended only where
--- it is closed, and to close it the one before must have ended, and so on back to the first.
+-- Where no link of hop 1 is closed, the last of a rank's links to itself hasn't ended: such a link
+-- has ended only where it is closed, and to close it the one before must have ended, and so on back
+-- to the first.
 module _ (b : Buffers) (sent got : Logs) (g : IsGrid b.dims) (own : b.rank < ranks b.dims) (a : Agrees b sent got)
     (first_open : (l : ℕ) → l < links b.dims → sender_at b.dims l ≡ b.rank → hop_at b.dims l ≡ 1 → b.closed l ≡ false) where
   ended_mark : (n : ℕ) (c : Bool) → n ≡ lasts_in b.epoch c → b.epoch < n → c ≡ true

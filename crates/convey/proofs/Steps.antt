@@ -1,4 +1,5 @@
--- A push, a pull, an unpull and a reset keep the agreement, and are steps of the rank's own part of the machine.
+-- A push, a pull, an unpull and a reset keep the agreement, and are steps of the rank's own part of
+-- the machine.
 use Rattle.std.proofs.Common.{◌≡◌, ◌≢◌, ℕ, ◌+◌, ◌-◌, ◌<◌, ◌==◌, Bool, true, false, cond, List, [], ◌∷◌, ◌++◌, length, take, map, Some, None, IsSome, refl, sym, ap, subst, ◌∙◌, arith, inl, inr, eq-eqb, ne_eqb, rules}
 use Rattle.std.specs.List.{All, filter, flat_map}
 use Rattle.std.specs.Option.{option_map}
@@ -282,7 +283,8 @@ module _ (b : Buffers) (unread : ℕ → List Entry) (sent got : Logs) (m s : �
 some_is : (x : ℕ) → IsSome (Some x)
 some_is x = search rules
 
--- an unpull puts the entry of the latest pull back: a pull from the buffers after it leads to those before it
+-- an unpull puts the entry of the latest pull back: a pull from the buffers after it leads to those
+-- before it
 pub record UnpulledOn (b : Buffers) (unread : ℕ → List Entry) (m : ℕ) (e : Entry) : Type 0 where
   pub latest : b.latest ≡ Some (m, e)
   pub back : unread m ≡ e ∷ b.unread m

@@ -241,7 +241,8 @@ module _ (dims : List ℕ) (rank i link : ℕ) (b c d : State) (got got' got'' :
     ];
   }
 
--- Serving: the first i links out were served, and the others were not looked at. Each was posted on once at most.
+-- Serving: the first i links out were served, and the others were not looked at. Each was posted on
+-- once at most.
 pub record Serving (dims : List ℕ) (rank i : ℕ) (b c : State) (sent sent' : Logs) (looks looks' : ℕ → ℕ) (crowded' : ℕ → Bool) : Type 0 where
   pub served : (l : ℕ) → l < links dims → sender_at dims l ≡ rank → out_index dims l < i → WasServed c l (looks l) (looks' l) (crowded' l)
   pub to_serve : (l : ℕ) → l < links dims → sender_at dims l ≡ rank → i ≤ out_index dims l → looks' l ≡ looks l

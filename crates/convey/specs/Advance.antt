@@ -22,13 +22,15 @@ use Rattle.convey.specs.Due.{Wants, IsOver, WasServed, NextIs, HeldUp}
 use Rattle.convey.specs.Parts.{part_of}
 use Rattle.convey.specs.Progress.{progress_of, advance_step}
 
--- The port is the conveyor's own: of its grid and its rank, and with lists that agree with its buffers.
+-- The port is the conveyor's own: of its grid and its rank, and with lists that agree with its
+-- buffers.
 pub record IsAtPort {P : Type 0} {cap : ℕ} {M : Type 0} (G : Ghosts P cap M) (st : State) (port : P) : Type 0 where
   pub same_dims : G.dims port ≡ st.dims
   pub same_rank : G.rank port ≡ st.rank
   pub agrees : AgreesWith st (G.sent port) (G.got port)
 
--- What any call at the port keeps: the conveyor agrees with it again, and both are those of the same rank.
+-- What any call at the port keeps: the conveyor agrees with it again, and both are those of the
+-- same rank.
 pub record KeepsPort {P : Type 0} {cap : ℕ} {M : Type 0} (G : Ghosts P cap M) (old new : State)
     (port port' : P) : Type 0 where
   pub agrees : AgreesWith new (G.sent port') (G.got port')
@@ -36,7 +38,8 @@ pub record KeepsPort {P : Type 0} {cap : ℕ} {M : Type 0} (G : Ghosts P cap M) 
   pub rank : new.rank ≡ old.rank
   pub same_port : SamePort G port port'
 
--- The conveyor agrees with the port again, and is that of its rank, in the same epoch and done as told.
+-- The conveyor agrees with the port again, and is that of its rank, in the same epoch and done as
+-- told.
 -- begun: it isn't Dormant.
 -- step: the advance is a step of its part of the exchange machine.
 pub record StaysAtPort {P : Type 0} {cap : ℕ} {M : Type 0} (G : Ghosts P cap M) (told : Bool) (old new : State)
@@ -60,8 +63,9 @@ pub record HasSettled (told : Bool) (new : State) (answer : Progress) : Type 0 w
   pub over : answer ≡ progress.Complete → IsOver new
   pub completes : IsOver new → answer ≡ progress.Complete
 
--- The lists only grow, each by one parcel at most, and the parcels posted are of the conveyor's shape: where it isn't
--- steady, an epoch's entries travel in few parcels (`port_bank::few_parcels_law`).
+-- The lists only grow, each by one parcel at most, and the parcels posted are of the conveyor's
+-- shape: where it isn't steady, an epoch's entries travel in few parcels
+-- (`port_bank::few_parcels_law`).
 pub record ListsGrow {P : Type 0} {cap : ℕ} {M : Type 0} (G : Ghosts P cap M) (old : State)
     (port port' : P) : Type 0 where
   pub sent_grows : (l : ℕ) → Begins (G.sent port l) (G.sent port' l)
@@ -76,8 +80,8 @@ pub record ListsGrow {P : Type 0} {cap : ℕ} {M : Type 0} (G : Ghosts P cap M) 
 
 -- What the links in show of the collects.
 -- left, unasked: one that wanted none got none, and the port noted nothing of it.
--- rose, idle: of one that wanted a parcel and got none the port has listened since it was asked before, and knows of
--- nothing more, but for what was posted there.
+-- rose, idle: of one that wanted a parcel and got none the port has listened since it was asked
+-- before, and knows of nothing more, but for what was posted there.
 -- lies: an inbox holds the end of what it held and of what came.
 pub record WereAsked {P : Type 0} {cap : ℕ} {M : Type 0} (G : Ghosts P cap M) (old new : State)
     (port port' : P) : Type 0 where
@@ -97,7 +101,8 @@ pub record WereAsked {P : Type 0} {cap : ℕ} {M : Type 0} (G : Ghosts P cap M) 
 -- each: one that is due still was looked at in vain.
 -- full, ending, closing: where nothing was sent on a link it is crowded if its parcel was full, or
 -- if its hop has reached its end and it isn't closed.
--- stopped: where entries are left in an inbox below the last hop, the first one is held up at its next link.
+-- stopped: where entries are left in an inbox below the last hop, the first one is held up at its
+-- next link.
 pub record WereServed {P : Type 0} {cap : ℕ} {M : Type 0} (G : Ghosts P cap M) (old new : State)
     (port port' : P) : Type 0 where
   pub each : (l : ℕ) → l < links old.dims → sender_at old.dims l ≡ old.rank

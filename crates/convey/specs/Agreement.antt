@@ -42,10 +42,13 @@ with_latest None l unread = unread
 with_latest (Some p) l unread = if p.0 == l then p.1 ∷ unread else unread
 
 -- The port's lists agree with a rank's buffers.
--- outs, ins: each link out does, and each link in; an entry that an unpull would put back counts as in its inbox.
+-- outs, ins: each link out does, and each link in; an entry that an unpull would put back counts as
+-- in its inbox.
 -- law: the lists meet the relay law.
--- pairs: what came of a pair on hop h is what was sent on, what waits to be sent on, and what is still in the inbox.
--- arrived: on the last hop the entries that are unread, or may be put back, are the latest that came in this epoch.
+-- pairs: what came of a pair on hop h is what was sent on, what waits to be sent on, and what is
+-- still in the inbox.
+-- arrived: on the last hop the entries that are unread, or may be put back, are the latest that
+-- came in this epoch.
 -- own: on a link from the rank to itself, what was got is the front of what was sent.
 pub record Agrees (b : Buffers) (sent got : Logs) : Type 0 where
   pub outs : (l : ℕ) → l < links b.dims → sender_at b.dims l ≡ b.rank

@@ -8,8 +8,10 @@ use Rattle.hop_core.specs.Link.{Out, In}
 use Rattle.hop_core.specs.State.{State, out_at, in_at}
 
 -- The grid, the rank, its epoch, and whether it is done or complete in it.
--- waiting, closed: for each link out, the entries of its open parcel, and whether its last parcel was sent.
--- unread, ended: for each link in, the untaken entries of its inbox, and whether its last parcel was got.
+-- waiting, closed: for each link out, the entries of its open parcel, and whether its last parcel
+-- was sent.
+-- unread, ended: for each link in, the untaken entries of its inbox, and whether its last parcel
+-- was got.
 -- latest: the link and the entry of the latest call, where that was a pull that gave one.
 pub record Buffers : Type 0 where
   pub dims : List ℕ

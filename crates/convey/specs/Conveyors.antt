@@ -26,7 +26,8 @@ pub record Stands (cap : ℕ) (st : State) : Type 0 where
 abbrev pub AgreesWith : State → Logs → Logs → Type 0
 AgreesWith st sent got = Agrees (buffers_of st) sent got
 
--- A call is a step of the rank's part of the exchange machine, over the lists of a port that the call doesn't see.
+-- A call is a step of the rank's part of the exchange machine, over the lists of a port that the
+-- call doesn't see.
 abbrev pub IsStepOf : Step → State → State → Type 0
 IsStepOf step old new = (sent got : Logs) → AgreesWith old sent got
     → IsOwnStep step (part_of (buffers_of old) sent got) (part_of (buffers_of new) sent got)
@@ -48,8 +49,8 @@ pub record StartsOut (dims : List ℕ) (r : ℕ) (st : State) : Type 0 where
   pub agrees : AgreesWith st (λ l. []) (λ l. [])
   pub sound : IsSound (buffers_of st)
 
--- The next pull gives this item of this sender: it is a step of the rank's part of the exchange machine, and keeps
--- the agreement.
+-- The next pull gives this item of this sender: it is a step of the rank's part of the exchange
+-- machine, and keeps the agreement.
 pub record GivesNext (st : State) (from : ℕ) (item : Item) : Type 0 where
   pub value : pull_from st (lowest_unread st) ≡ Some (from, item)
   pub sender : from < ranks st.dims

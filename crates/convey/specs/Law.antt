@@ -32,7 +32,8 @@ pub record IsSound (b : Buffers) : Type 0 where
   pub all_read : b.complete ≡ true → (l : ℕ) → l < links b.dims → reader_at b.dims l ≡ b.rank → b.unread l ≡ []
   pub latest : (l : ℕ) (e : Entry) → b.latest ≡ Some (l, e) → IsLastIn b l
 
--- The conveyors of all ranks agree with the ports of one bank: of each rank's own links its port has the bank's lists.
+-- The conveyors of all ranks agree with the ports of one bank: of each rank's own links its port
+-- has the bank's lists.
 pub record AgreeTogether (dims : List ℕ) (cap slots : ℕ) (all : ℕ → Buffers) (sent got : Logs) : Type 0 where
   pub grid : IsGrid dims
   pub links_keep : (l : ℕ) → l < links dims → LinkLaw cap slots (sent l) (got l)
@@ -45,8 +46,8 @@ pub record AgreeTogether (dims : List ℕ) (cap slots : ℕ) (all : ℕ → Buff
 abbrev pub state_of : List ℕ → (ℕ → Buffers) → Logs → Logs → Ranks
 state_of dims all sent got = λ r. part_of (all r) (starting_at dims r sent) (ending_at dims r got)
 
--- A call on the conveyor of rank r over its port: the other conveyors stay, and so do the lists of the others' links;
--- the bank keeps its law, and the conveyor agrees with its port again.
+-- A call on the conveyor of rank r over its port: the other conveyors stay, and so do the lists of
+-- the others' links; the bank keeps its law, and the conveyor agrees with its port again.
 pub record IsCall (dims : List ℕ) (cap slots r : ℕ) (old new : ℕ → Buffers) (sent sent' got got' : Logs) : Type 0 where
   pub rank : r < ranks dims
   pub others : (q : ℕ) → q < ranks dims → q ≢ r → new q ≡ old q
@@ -64,7 +65,8 @@ StaysTogether = (dims : List ℕ) (cap slots r : ℕ) (old new : ℕ → Buffers
     → AgreeTogether dims cap slots old sent got → IsCall dims cap slots r old new sent sent' got got'
     → AgreeTogether dims cap slots new sent' got'
 
--- The exchange law: where they agree, and a call is a step of its rank's own part, it is a step of the machine.
+-- The exchange law: where they agree, and a call is a step of its rank's own part, it is a step of
+-- the machine.
 abbrev pub ExchangeLaw : Type 0
 ExchangeLaw = (dims : List ℕ) (cap slots r : ℕ) (step : Step) (old new : ℕ → Buffers) (sent sent' got got' : Logs)
     → AgreeTogether dims cap slots old sent got → IsCall dims cap slots r old new sent sent' got got'

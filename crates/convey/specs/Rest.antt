@@ -1,4 +1,5 @@
--- The rest law: where a sweep over the conveyors of all ranks moved nothing, the least epoch is over.
+-- The rest law: where a sweep over the conveyors of all ranks moved nothing, the least epoch is
+-- over.
 use Rattle.std.specs.Prelude.{◌≡◌, ◌⊎◌, ℕ, ◌<◌, ◌≤◌, true, false, List, [], length, slice_get, Some}
 use Rattle.bale_items.specs.declared.item.Entry.{Entry}
 use Rattle.route_tensor.specs.Grid.{ranks, IsGrid}
@@ -24,13 +25,15 @@ pub record HasBusy (dims : List ℕ) (r : ℕ) (sent got : Logs) : Type 0 where
   pub sender : sender_at dims link ≡ r
   pub busy : IsBusy sent got link
 
--- What rank r tells after an advance that moved no parcel, where the lists of the bank are sent and got: old is its
--- conveyor just before that advance, and new just after it.
+-- What rank r tells after an advance that moved no parcel, where the lists of the bank are sent and
+-- got: old is its conveyor just before that advance, and new just after it.
 -- pushed: it is done; else a push was refused, and one of its links out is busy.
 -- read: all that came for it was pulled.
--- lies, kept: of its inboxes, none lost an entry but by passing it on, and none below the last hop passed one on.
+-- lies, kept: of its inboxes, none lost an entry but by passing it on, and none below the last hop
+-- passed one on.
 -- idle: where an inbox wanted a parcel, all that was posted there was collected.
--- stopped: where entries are left in an inbox below the last hop, the next link of the first one is busy.
+-- stopped: where entries are left in an inbox below the last hop, the next link of the first one is
+-- busy.
 -- closing: a link out that may be closed, and isn't, is busy.
 pub record IsAtRest (dims : List ℕ) (r : ℕ) (old new : State) (sent got : Logs) : Type 0 where
   pub same_dims : new.dims ≡ old.dims
@@ -52,8 +55,9 @@ pub record IsAtRest (dims : List ℕ) (r : ℕ) (old new : State) (sent got : Lo
       → HasArrived (buffers_of new) l
       → (out_of new l).closed ≡ false → IsBusy sent got l
 
--- A sweep over the conveyors of all ranks of one bank, in which no parcel was posted or collected and no inbox below
--- the last hop shrank. No rank is in an epoch before e; of those that are in it each was advanced, and is at rest.
+-- A sweep over the conveyors of all ranks of one bank, in which no parcel was posted or collected
+-- and no inbox below the last hop shrank. No rank is in an epoch before e; of those that are in it
+-- each was advanced, and is at rest.
 pub record IsRestingSweep (dims : List ℕ) (cap slots e : ℕ) (old new : ℕ → State) (sent got : Logs) : Type 0 where
   pub grid : IsGrid dims
   pub links_keep : (l : ℕ) → l < links dims → LinkLaw cap slots (sent l) (got l)

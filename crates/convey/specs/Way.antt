@@ -29,7 +29,8 @@ pub record IsReady (dims : List ℕ) (rank : ℕ) (st : State) (sent got : Logs)
 abbrev pub at_rest : Part → Part
 at_rest p = record p { latest = None }
 
--- What each step of an advance leaves: the rank's part of the machine, and its lists but for more at their ends.
+-- What each step of an advance leaves: the rank's part of the machine, and its lists but for more
+-- at their ends.
 -- fills: each parcel that it posts is filled as a conveyor fills it.
 pub record GoesOn (old new : State) (sent sent' got got' : Logs) : Type 0 where
   pub cap : new.cap ≡ old.cap
@@ -43,7 +44,8 @@ pub record GoesOn (old new : State) (sent sent' got got' : Logs) : Type 0 where
   pub fills : (l : ℕ) (more : List Shipped) → sent' l ≡ sent l ++ more → IsConveyorShape old.steady old.cap more
 
 -- What posts on links out leave of the rank's state and of its port.
--- idle: what the port knows of a link in changes only where a parcel was posted on it, from the rank to itself.
+-- idle: what the port knows of a link in changes only where a parcel was posted on it, from the
+-- rank to itself.
 pub record LeftByPosts {P : Type 0} {cap : ℕ} {M : Type 0} (G : Ghosts P cap M) (old new : State)
     (port port' : P) : Type 0 where
   pub ready : IsReady (G.dims port) (G.rank port) new (G.sent port') (G.got port')
@@ -64,8 +66,8 @@ pub record LeftByCollects {P : Type 0} {cap : ℕ} {M : Type 0} (G : Ghosts P ca
 
 -- What became of a link in that was asked where it wanted a parcel.
 -- left: where it didn't want one, nothing was got, and it wasn't asked.
--- rose, idle: where it did, and nothing was got, the port has listened since it was asked before, and knows of
--- nothing more.
+-- rose, idle: where it did, and nothing was got, the port has listened since it was asked before,
+-- and knows of nothing more.
 -- once: no more than one parcel was got.
 pub record WasAsked (st : State) (l : ℕ) (log log' : List Shipped) (noted noted' : ℕ) (is_idle : Bool) : Type 0 where
   pub left : (Wants st l → ⊥) → log' ≡ log
@@ -80,11 +82,13 @@ pub record OneMore (entries : List Entry) (log log' : List Shipped) : Type 0 whe
   pub is : log' ≡ log ++ parcel ∷ []
   pub holds : parcel.entries ≡ entries
 
--- What posting leaves of a link's log, where these entries waited: it is as before, or has one parcel more, of them.
+-- What posting leaves of a link's log, where these entries waited: it is as before, or has one
+-- parcel more, of them.
 abbrev pub WasPosted : List Entry → List Shipped → List Shipped → Type 0
 WasPosted entries log log' = (log' ≡ log) ⊎ OneMore entries log log'
 
--- What a relay leaves, over the lists of a port: entries only move on from an inbox to the end of an open parcel.
+-- What a relay leaves, over the lists of a port: entries only move on from an inbox to the end of
+-- an open parcel.
 pub record PassedOn (dims : List ℕ) (rank : ℕ) (old new : State) (sent got : Logs) : Type 0 where
   pub ready : IsReady dims rank new sent got
   pub goes_on : GoesOn old new sent sent got got
@@ -95,8 +99,8 @@ pub record PassedOn (dims : List ℕ) (rank : ℕ) (old new : State) (sent got :
 
 -- What noting done, collecting, relaying and posting leave together.
 -- left, unasked: a link in that wanted no parcel was not asked.
--- asked, idle: of one that wanted a parcel and got none, the port has listened since it was asked before, and knows of
--- nothing more, but for what was posted there.
+-- asked, idle: of one that wanted a parcel and got none, the port has listened since it was asked
+-- before, and knows of nothing more, but for what was posted there.
 -- lies: the inbox holds the end of what it held and of what came.
 -- waits: where nothing was sent, the open parcel begins with what it held.
 -- one_sent, one_got: each log has at most one parcel more.
@@ -122,7 +126,8 @@ pub record MovesOn (old new : State) (done : Bool) (sent sent' got got' : Logs) 
 -- What they leave where all posts had memory.
 -- served: a link out that is still due was looked at in vain.
 -- full: so was one on which nothing was sent though its parcel was full.
--- stopped: where entries are left in an inbox of an earlier hop, the first one is held up at its next link.
+-- stopped: where entries are left in an inbox of an earlier hop, the first one is held up at its
+-- next link.
 pub record HasServed (old new : State) (sent sent' : Logs) (looks looks' : ℕ → ℕ) (is_crowded : ℕ → Bool) : Type 0 where
   pub served : (l : ℕ) → l < links old.dims → sender_at old.dims l ≡ old.rank
       → WasServed new l (looks l) (looks' l) (is_crowded l)

@@ -17,7 +17,8 @@ use hop_core::RankState;
 use item_buffer::Parcel;
 use port_bank::{Collected, Port};
 
-/// Collects once on each link in that wants a parcel, in ascending order. The spare parcel, which is empty, goes round.
+/// Collects once on each link in that wants a parcel, in ascending order. The spare parcel, which
+/// is empty, goes round.
 pub(crate) fn collect_all<const CAP: usize, const HOPS: usize, P: Port<CAP>>(
     state: &mut RankState<CAP, HOPS>,
     spare: &mut Parcel<CAP>,
@@ -42,7 +43,8 @@ pub(crate) fn collect_all<const CAP: usize, const HOPS: usize, P: Port<CAP>>(
     }
 }
 
-/// Collects once on the link in from this neighbour, where it wants a parcel: into the spare parcel, which the inbox is then exchanged for.
+/// Collects once on the link in from this neighbour, where it wants a parcel: into the spare
+/// parcel, which the inbox is then exchanged for.
 pub(crate) fn collect_one<const CAP: usize, const HOPS: usize, P: Port<CAP>>(
     state: &mut RankState<CAP, HOPS>,
     spare: &mut Parcel<CAP>,

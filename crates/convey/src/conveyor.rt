@@ -30,7 +30,8 @@ use route_tensor::{Grid, Routes};
 use std::alloc::Global;
 use std::marker::Model;
 
-/// One rank's conveyor, for parcels of `CAP` entries and routes of `HOPS` hops. Contracts see the rank's state.
+/// One rank's conveyor, for parcels of `CAP` entries and routes of `HOPS` hops. Contracts see the
+/// rank's state.
 #[derive(Drop)]
 pub struct Conveyor<const CAP: usize, const HOPS: usize> {
     state: RankState<CAP, HOPS>,
@@ -116,7 +117,8 @@ impl<const CAP: usize, const HOPS: usize> Conveyor<CAP, HOPS> {
         self.state.begin();
     }
 
-    /// Puts `item` into the open parcel toward `to`. Where that is full, the caller advances and tries again.
+    /// Puts `item` into the open parcel toward `to`. Where that is full, the caller advances and
+    /// tries again.
     #[inline]
     pub fn push(&mut self, item: Item, to: u32) -> Pushed
         requires working { self.old.phase ≡ Phase.Working }
@@ -153,8 +155,8 @@ impl<const CAP: usize, const HOPS: usize> Conveyor<CAP, HOPS> {
         self.state.pull()
     }
 
-    /// The link in from which the next pull takes, by the number of its neighbour. None exactly where a pull would give
-    /// none.
+    /// The link in from which the next pull takes, by the number of its neighbour. None exactly
+    /// where a pull would give none.
     #[inline]
     pub fn unread(&mut self) -> Option<u32>
         requires begun { self.old.phase ≢ Phase.Dormant }
@@ -170,7 +172,8 @@ impl<const CAP: usize, const HOPS: usize> Conveyor<CAP, HOPS> {
         self.state.unread()
     }
 
-    /// The unread entries of that link, in order. As many pulls give their items, each with its sender.
+    /// The unread entries of that link, in order. As many pulls give their items, each with its
+    /// sender.
     #[inline]
     pub fn batch(&self, number: u32) -> &[Entry]
         requires lowest { lowest_unread self.now ≡ Some number }
@@ -226,8 +229,8 @@ impl<const CAP: usize, const HOPS: usize> Conveyor<CAP, HOPS> {
     /// Advances the exchange: notes done, collects, relays, posts, and tells how far the rank is.
     ///
     /// # Errors
-    /// `NoMemory` comes only from the port's post. What was collected, relayed and posted before it stands, done stays
-    /// noted, the phase is as before, and advance may be called again.
+    /// `NoMemory` comes only from the port's post. What was collected, relayed and posted before it
+    /// stands, done stays noted, the phase is as before, and advance may be called again.
     pub fn advance<P: Port<CAP>>(&mut self, port: &mut P, done: bool) -> Result<Progress, NoMemory>
         requires begun { self.old.phase ≢ Phase.Dormant }
         requires at_port { IsAtPort P.Port self.old port.old }
@@ -251,8 +254,9 @@ impl<const CAP: usize, const HOPS: usize> Conveyor<CAP, HOPS> {
         // The lists only grow.
         ensures grows { ListsGrow P.Port self.old port.old port.new }
 
-        // The calls on the port: a collect on each link in that wanted a parcel, in ascending order, and then a post on each
-        // link out that was due, in ascending order, up to one that found no memory.
+        // The calls on the port: a collect on each link in that wanted a parcel, in ascending
+        // order, and then a post on each link out that was due, in ascending order, up to one that
+        // found no memory.
         ensures calls { OnOk result (P.calls port.new ≡ (P.calls port.old ++ collects_of self.old)
             ++ posts_below self.new (P.sent port.old) (P.sent port.new) (links self.new.dims)) }
         ensures stops { IsErr result → StopsAt self.new (P.sent port.old) (P.sent port.new)
@@ -262,8 +266,9 @@ impl<const CAP: usize, const HOPS: usize> Conveyor<CAP, HOPS> {
         ensures asked { WereAsked P.Port self.old self.new port.old port.new }
         ensures served { OnOk result (WereServed P.Port self.old self.new port.old port.new) }
 
-        // Where nothing was sent on a link out, its open parcel begins with what it held. An entry is left in an inbox
-        // below the last hop only where the open parcel that it goes to was full.
+        // Where nothing was sent on a link out, its open parcel begins with what it held. An entry
+        // is left in an inbox below the last hop only where the open parcel that it goes to was
+        // full.
         ensures waits { (l : ℕ) → l < links self.old.dims → sender_at self.old.dims l ≡ self.old.rank
             → P.sent port.new l ≡ P.sent port.old l
             → Begins (out_of self.old l).parcel.untaken (out_of self.new l).parcel.untaken }

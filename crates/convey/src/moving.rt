@@ -19,8 +19,8 @@ use bale_items::NoMemory;
 use hop_core::{Phase, RankState};
 use port_bank::Port;
 
-/// Notes done, collects, relays and posts, in this order. A rank that is complete has nothing left to move, and one in Cleanup nothing
-/// left to post.
+/// Notes done, collects, relays and posts, in this order. A rank that is complete has nothing left
+/// to move, and one in Cleanup nothing left to post.
 ///
 /// # Errors
 /// `NoMemory` comes only from the port's post. What was done before it stands.

@@ -16,7 +16,8 @@ use hop_core::RankState;
 use item_buffer::Parcel;
 use port_bank::{Port, Posted};
 
-/// Posts once on each link out that is due, in ascending order. The spare parcel, which is empty, goes round.
+/// Posts once on each link out that is due, in ascending order. The spare parcel, which is empty,
+/// goes round.
 ///
 /// # Errors
 /// `NoMemory` comes only from the port's post. What was posted before it stands.
@@ -51,8 +52,8 @@ pub(crate) fn post_all<const CAP: usize, const HOPS: usize, P: Port<CAP>>(
     Ok(())
 }
 
-/// Posts once on the link out to this neighbour, where it is due: the open parcel is exchanged for the spare one, and back where it could not be
-/// sent.
+/// Posts once on the link out to this neighbour, where it is due: the open parcel is exchanged for
+/// the spare one, and back where it could not be sent.
 pub(crate) fn post_one<const CAP: usize, const HOPS: usize, P: Port<CAP>>(
     state: &mut RankState<CAP, HOPS>,
     spare: &mut Parcel<CAP>,

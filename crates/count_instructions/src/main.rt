@@ -1,8 +1,10 @@
-//! Measures conveyors, for `docs/BENCHMARKS.md`: the program sends items between ranks on one thread, and prints a sum of what came, so
-//! that nothing is left out by the compiler. How much work that was is counted from outside, by callgrind.
+//! Measures conveyors, for `docs/BENCHMARKS.md`: the program sends items between ranks on one
+//! thread, and prints a sum of what came, so that nothing is left out by the compiler. How much
+//! work that was is counted from outside, by callgrind.
 //!
-//! The words are five numbers: the bank (0 for the plain bank with one rank, 1 for slot links, 2 for the plain bank with all ranks), the number of
-//! hops (or 16 or 64, for a grid of one number), the buffer size (1, 64 or 1024), the items of each rank and epoch, and the number of epochs.
+//! The words are five numbers: the bank (0 for the plain bank with one rank, 1 for slot links, 2
+//! for the plain bank with all ranks), the number of hops (or 16 or 64, for a grid of one number),
+//! the buffer size (1, 64 or 1024), the items of each rank and epoch, and the number of epochs.
 #![tactic(auto)]
 
 mod plain;

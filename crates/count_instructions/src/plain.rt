@@ -56,7 +56,8 @@ impl<const CAP: usize, const HOPS: usize> OverPlain<CAP, HOPS> {
         Ok(OverPlain { sides, bank })
     }
 
-    /// Begins an epoch for each rank, and turns each in order, sweep after sweep, until the epoch is over for each.
+    /// Begins an epoch for each rank, and turns each in order, sweep after sweep, until the epoch
+    /// is over for each.
     fn run_epoch(self, items: u64) -> Result<Self, NoMemory> {
         let mut all = self;
         let mut begins = true;

@@ -6,8 +6,8 @@ ghost use Rattle.convey.specs.Conveyors.{KeepsAgreement};
 use bale_items::Item;
 use convey::{Conveyor, Phase, Pushed};
 
-/// Pushes items from number `from` on, until one is refused or `items` are pushed. Answers how many are pushed then, and
-/// the next seed.
+/// Pushes items from number `from` on, until one is refused or `items` are pushed. Answers how many
+/// are pushed then, and the next seed.
 pub(crate) fn push_some<const CAP: usize, const HOPS: usize>(
     conveyor: &mut Conveyor<CAP, HOPS>,
     rank_count: u32,

@@ -56,8 +56,8 @@ impl<const CAP: usize, const HOPS: usize> Side<CAP, HOPS> {
         self.sum
     }
 
-    /// Begins an epoch if told so, pushes until a push is refused or `items` are pushed, advances once, and sums what came. Answers
-    /// whether the epoch is over.
+    /// Begins an epoch if told so, pushes until a push is refused or `items` are pushed, advances
+    /// once, and sums what came. Answers whether the epoch is over.
     pub(crate) fn turn<P: Port<CAP>>(
         &mut self,
         port: &mut P,

@@ -67,7 +67,8 @@ fn sides_of<'a, const CAP: usize, const HOPS: usize>(
     Ok(sides)
 }
 
-/// Begins an epoch for each rank, and turns each in order, sweep after sweep, until the epoch is over for each.
+/// Begins an epoch for each rank, and turns each in order, sweep after sweep, until the epoch is
+/// over for each.
 fn run_epoch<const CAP: usize, const HOPS: usize>(
     sides: &mut Vec<AtSeat<'_, CAP, HOPS>>,
     items: u64,

@@ -1,4 +1,5 @@
--- A bucket has at most as many light rounds as there are vertices, and there are at most as many buckets.
+-- A bucket has at most as many light rounds as there are vertices, and there are at most as many
+-- buckets.
 use Rattle.std.proofs.Common.{ℕ, suc, ◌+◌, ◌*◌, ◌≤◌, ◌<◌, ◌≡◌, Bool, true, false, not, cond, List, [], ◌∷◌, ◌++◌, Option, Some, None, length, All, arith, refl, sym, ap, ◌∙◌, subst, inl, inr}
 use Rattle.std.specs.Prelude.{Contains, nat_le}
 use Rattle.std.proofs.lemmas.Bool.{cases_Bool, and_from, and_parts, false≢true, le-leb, leb-true}
@@ -21,7 +22,8 @@ module _ (es : List Triple) (s0 width b top : ℕ) (open' : ℕ → Bool) (x0 x 
   falls : (v n : ℕ) → AtMost (x.found v) n → AtMost (y.found v) n
   falls v n h = offers_fall es (light_sent width b x) (calmed_stage width b x) y round v n h
 
-  -- a light edge out of a vertex of the bucket was tried in the round, or improved nothing before it
+  -- a light edge out of a vertex of the bucket was tried in the round, or improved nothing before
+  -- it
   light_done : (e : Triple) → Contains (lights width es) e → (m : ℕ) → x.found e.i ≡ Some m → m < b * width + width → AtMost (y.found e.j) (m + cost e)
   light_done e has m found low =
       let in_es = was_filtered (is_light width) es e has in

@@ -52,7 +52,8 @@ changed_fresh es sent x y round v = elim (round.each v) [ inl same ↦ inl same.
 
 -- ---- What is owed
 
--- each weight is that of a walk, and an edge that improves a weight has a pending beginning, or is heavy and has an open one
+-- each weight is that of a walk, and an edge that improves a weight has a pending beginning, or is
+-- heavy and has an open one
 pub record Owes (es : List Triple) (s width : ℕ) (open' : ℕ → Bool) (x : Stage) : Type 0 where
   pub walked : Walked es s x.found
   pub start : AtMost (x.found s) 0
@@ -165,7 +166,8 @@ in_bucket_from width b m low high =
     let div : (b * width + (m - b * width)) / width ≡ b = div-mul-add b width (m - b * width) (omega arith) in
     eq-eqb (m / width) b (ap (λ k. k / width) (sym rest) ∙ div)
 
--- what holds of the weights while bucket b is worked on: pending ones are not below it, open ones in it, and all at most top
+-- what holds of the weights while bucket b is worked on: pending ones are not below it, open ones
+-- in it, and all at most top
 pub record Within (width b top : ℕ) (open' : ℕ → Bool) (x : Stage) : Type 0 where
   pub floor : (v m : ℕ) → x.fresh v ≡ true → x.found v ≡ Some m → b * width ≤ m
   pub open_in : (v m : ℕ) → open' v ≡ true → x.found v ≡ Some m → (b * width ≤ m) × (m < b * width + width)
@@ -280,7 +282,8 @@ heavy_beyond es width b top limit open' x y some few room old none round =
 abbrev pub lights : ℕ → List Triple → List Triple
 lights width es = filter (is_light width) es
 
--- a pending weight of the bucket has its walk of light edges from a vertex that was active as the bucket began
+-- a pending weight of the bucket has its walk of light edges from a vertex that was active as the
+-- bucket began
 pub record Origin (es : List Triple) (width b : ℕ) (x0 : Stage) (v m : ℕ) : Type 0 where
   pub from : ℕ
   pub begun : active width b x0 from ≡ true

@@ -1,4 +1,5 @@
--- The canonical run of delta-stepping ends within n (n + 2) + 2 rounds, and then each weight is least.
+-- The canonical run of delta-stepping ends within n (n + 2) + 2 rounds, and then each weight is
+-- least.
 use Rattle.std.proofs.Common.{ℕ, suc, ◌+◌, ◌-◌, ◌*◌, ◌/◌, ◌%◌, ◌^◌, ◌<◌, ◌≤◌, ◌≡◌, ◌≢◌, ◌==◌, not, Bool, List, Some, length, map, get_or, slice_get, arith, refl, sym, ap, ◌∙◌, subst, lit<, lit≤}
 use Rattle.std.proofs.Math.Nat.{mul-le-mul}
 use Rattle.std.proofs.lemmas.Bool.{eq-eqb, ne_eqb}

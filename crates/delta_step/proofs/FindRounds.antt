@@ -1,4 +1,5 @@
--- A find round of the canonical run: vertices stay, and all ranks hear of the least bucket with a pending vertex.
+-- A find round of the canonical run: vertices stay, and all ranks hear of the least bucket with a
+-- pending vertex.
 use Rattle.std.proofs.Common.{ℕ, zero, suc, ◌+◌, ◌*◌, ◌/◌, ◌%◌, ◌^◌, ◌<◌, ◌≤◌, ◌≡◌, min, not, true, false, eqb, List, [], ◌∷◌, ◌++◌, Option, Some, None, map, length, get_or, slice_get, arith, inl, inr, refl, sym, ap, ◌∙◌, subst, ◌⊎◌}
 use Rattle.std.specs.Prelude.{Contains}
 use Rattle.std.specs.List.{fold, range_with_len, list_any}

@@ -23,7 +23,8 @@ use std::mem;
 /// Stands for no bucket.
 const NO_BUCKET: u64 = u64::MAX;
 
-/// One rank's part of delta-stepping. Vertex `i` belongs to rank `i mod ranks`, which keeps it at place `i div ranks`.
+/// One rank's part of delta-stepping. Vertex `i` belongs to rank `i mod ranks`, which keeps it at
+/// place `i div ranks`.
 #[derive(Drop)]
 pub struct Delta {
     alloc: Global,
@@ -43,13 +44,15 @@ pub struct Delta {
     heavy: Table,
     /// own vertices by place; the pending ones are marked
     vertices: Vertices,
-    /// the least bucket that was absorbed in a find round, which is then the bucket that is worked on
+    /// the least bucket that was absorbed in a find round, which is then the bucket that is worked
+    /// on
     bucket: u64,
     /// the places of own vertices that were active in this bucket
     settled: Vec<u32>,
     /// what is sent in this round
     outgoing: Vec<(u32, Item)>,
-    /// what was sent in the round before, or anything: a list whose memory is kept for the next round
+    /// what was sent in the round before, or anything: a list whose memory is kept for the next
+    /// round
     spare: Vec<(u32, Item)>,
 }
 
@@ -368,7 +371,8 @@ fn begin_finding(settled: &mut Vec<u32>, bucket: &mut u64)
     *bucket = NO_BUCKET;
 }
 
-/// Puts word for each rank of the least bucket with a pending vertex in the place of what `outgoing` held, whose memory is kept.
+/// Puts word for each rank of the least bucket with a pending vertex in the place of what
+/// `outgoing` held, whose memory is kept.
 fn announce(
     outgoing: &mut Vec<(u32, Item)>,
     ranks: u32,

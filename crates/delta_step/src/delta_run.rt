@@ -21,9 +21,9 @@ use round_program::Progs;
 use sparse_rows::{Parts, split};
 use std::alloc::Global;
 
-/// The programs of delta-stepping on `ranks` ranks, from 1 to 64, from the vertex `source`, with buckets of `delta` weights,
-/// from 1 to 10^12, in round 0 of a run of at most n (n + 2) + 2 rounds, n the number of vertices. The matrix is square, and
-/// no value is negative.
+/// The programs of delta-stepping on `ranks` ranks, from 1 to 64, from the vertex `source`, with
+/// buckets of `delta` weights, from 1 to 10^12, in round 0 of a run of at most n (n + 2) + 2
+/// rounds, n the number of vertices. The matrix is square, and no value is negative.
 ///
 /// # Errors
 ///
@@ -76,8 +76,8 @@ fn part_of(
     Ok(Delta::new(alloc, rank, ranks, rows, delta, vertices, outgoing))
 }
 
-/// Writes a line for each vertex, in order: its number from 1, and the least weight of a walk to it or `-`. The programs
-/// are those of `delta_start` after their run. No memory is taken.
+/// Writes a line for each vertex, in order: its number from 1, and the least weight of a walk to it
+/// or `-`. The programs are those of `delta_start` after their run. No memory is taken.
 ///
 /// # Errors
 ///

@@ -1,4 +1,5 @@
--- The definitions on one exchange: rank 0 of two asks rank 1 the questions 5, 6 and 7, and each is answered with the next number.
+-- The definitions on one exchange: rank 0 of two asks rank 1 the questions 5, 6 and 7, and each is
+-- answered with the next number.
 use Rattle.std.proofs.Common.{◌≡◌, ℕ, zero, suc, [], ◌∷◌, refl}
 use Rattle.drive_tests.specs.Adders.{AdderState, adder_talk}
 use Rattle.round_program.specs.Replies.{carrying, queries_to, replies_of, heard_by, answered}

@@ -1,11 +1,13 @@
-//! More workers than processors. They fall back to the caller, and a rank that the gate holds is still served.
+//! More workers than processors. They fall back to the caller, and a rank that the gate holds is
+//! still served.
 use crate::gates::TestGate;
 use crate::watched::{Deed, Hands, Watch, is_counted};
 use rank_group::Via;
 use std::sync::atomic::Ordering;
 use std::test::Fail;
 
-/// The gate holds rank 0 until rank 1 was polled, and then until rank 1 absorbed, which may be after the fallback.
+/// The gate holds rank 0 until rank 1 was polled, and then until rank 1 absorbed, which may be
+/// after the fallback.
 #[test]
 fn held_rank_after_the_fallback(rt: HostRuntime) -> Result<(), Fail> {
     let sends: &[u32] = &[1, 1];

@@ -1,4 +1,5 @@
-//! The gate of all runs here. For each run that had a gate of another type, the ranks' threads would be compiled anew.
+//! The gate of all runs here. For each run that had a gate of another type, the ranks' threads
+//! would be compiled anew.
 use crate::watched::Watch;
 use bale_items::NoMemory;
 use rank_group::Gate;
@@ -13,14 +14,16 @@ pub(crate) enum TestGate<'a> {
     Open,
     /// Holds turn 0 of this one of two ranks until turn 0 of the other was announced.
     Held(&'a Watch, u32),
-    /// Holds rank 0's turn 0 until rank 1's turn 1 was announced, and its turn 1 until rank 1 absorbed.
+    /// Holds rank 0's turn 0 until rank 1's turn 1 was announced, and its turn 1 until rank 1
+    /// absorbed.
     Holds(&'a Watch),
     /// Holds no rank, and counts the turns.
     Counts(Numbers),
     /// Holds no rank, counts the turns, and notes if two ranks of one of two workers don't have
     /// their first turns in alternation.
     Alternates(Numbers),
-    /// Counts the turns, gives other threads time at each, and notes if one of them notifies it meanwhile.
+    /// Counts the turns, gives other threads time at each, and notes if one of them notifies it
+    /// meanwhile.
     Alone(Numbers),
 }
 
@@ -40,7 +43,8 @@ impl<'a> TestGate<'a> {
         Ok(TestGate::Alone(Numbers::new(alloc, ranks)?))
     }
 
-    /// Whether it counted so many turns of each rank at least, and none out of the order that it expects.
+    /// Whether it counted so many turns of each rank at least, and none out of the order that it
+    /// expects.
     pub(crate) fn has_counted(&self, least: u64) -> bool {
         match self {
             TestGate::Counts(numbers) | TestGate::Alternates(numbers) | TestGate::Alone(numbers) =>
@@ -132,8 +136,8 @@ impl Numbers {
         }
     }
 
-    /// Notes it if a rank's turn 0 or 1 doesn't come in turn with those of its worker's other rank, two numbers from it. Each rank
-    /// has two turns at least.
+    /// Notes it if a rank's turn 0 or 1 doesn't come in turn with those of its worker's other rank,
+    /// two numbers from it. Each rank has two turns at least.
     fn expect_alternation(&self, rank: u32, n: u64) {
         let other = if rank < 2 {
             self.of(rank.saturating_add(2)) == n
@@ -165,7 +169,8 @@ impl Numbers {
         all
     }
 
-    /// Whether it was notified of so many turns of each rank at least, and of none out of its order.
+    /// Whether it was notified of so many turns of each rank at least, and of none out of its
+    /// order.
     fn are_in_order(&self, least: u64) -> bool {
         !self.skipped.load(Ordering::SeqCst)
             && self

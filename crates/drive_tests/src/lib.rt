@@ -1,5 +1,7 @@
-//! The drives on small programs: ranks in turn and on threads, by both transports, what their gates hold, and refused absorbs.
-//! It has tests alone: they stand above the crates that they run, so that proving one does not prove the other again.
+//! The drives on small programs: ranks in turn and on threads, by both transports, what their gates
+//! hold, and refused absorbs.
+//! It has tests alone: they stand above the crates that they run, so that proving one does not
+//! prove the other again.
 #![tactic(auto)]
 
 #[cfg(test)]

@@ -1,4 +1,5 @@
-//! The order in which `drive_serial` turns the ranks: its clause says that a run in that order ends as this one did, and any order does.
+//! The order in which `drive_serial` turns the ranks: its clause says that a run in that order ends
+//! as this one did, and any order does.
 ghost use Rattle.std.specs.Prelude.{◌<◌};
 ghost use Rattle.bale_items.specs.Ledgers.{IsBlankOf};
 
@@ -12,7 +13,8 @@ use std::marker::Brand;
 use std::sync::ledger::{Blank, Ledger};
 use std::test::Fail;
 
-/// Which of three ranks were turned in the first two sweeps, where the sweeps go from rank 0 up, or from rank 2 down.
+/// Which of three ranks were turned in the first two sweeps, where the sweeps go from rank 0 up, or
+/// from rank 2 down.
 fn turned_by<L: Ledger>(alloc: Global, reversed: bool, blank: Blank) -> Result<u64, NoMemory>
     requires blank { IsBlankOf L.name L.parts blank.name blank.parts }
 {

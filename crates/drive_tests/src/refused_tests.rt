@@ -1,4 +1,5 @@
-//! A rank that refuses each absorb: both drives answer that memory was wanting, and every rank goes on turning.
+//! A rank that refuses each absorb: both drives answer that memory was wanting, and every rank goes
+//! on turning.
 ghost use Rattle.std.specs.Prelude.{◌<◌};
 ghost use Rattle.bale_items.specs.Ledgers.{IsBlankOf};
 
@@ -43,7 +44,8 @@ fn refused_absorbs(rt: HostRuntime) -> Result<(), Fail> {
     Ok(())
 }
 
-/// Whether `drive_serial` answers that memory was wanting, where rank 2 of four refuses each absorb.
+/// Whether `drive_serial` answers that memory was wanting, where rank 2 of four refuses each
+/// absorb.
 fn is_refused_serially<L: Ledger>(alloc: Global, via: Via, blank: Blank) -> Result<bool, NoMemory>
     requires blank { IsBlankOf L.name L.parts blank.name blank.parts }
 {

@@ -1,4 +1,5 @@
-//! Counts by `drive_serial`: conveyors over one to three hops and exstacks, with the ranks of a sweep in both orders.
+//! Counts by `drive_serial`: conveyors over one to three hops and exstacks, with the ranks of a
+//! sweep in both orders.
 ghost use Rattle.std.specs.Prelude.{◌≡◌, ◌+◌, ◌<◌, ◌≤◌, ◌-◌, ◌∷◌, [], cond, length, IfOk};
 ghost use Rattle.item_buffer.specs.Capacity.{IsCap};
 ghost use Rattle.std.specs.List.{All};
@@ -19,7 +20,8 @@ use std::marker::Brand;
 use std::sync::ledger::{Blank, Ledger};
 use std::test::Fail;
 
-/// What a run tells: how often each column was named, the number of closed rounds, and the epochs of the first.
+/// What a run tells: how often each column was named, the number of closed rounds, and the epochs
+/// of the first.
 type Told = ([u64; 3], usize, u64);
 
 /// The rank at a place of an order.

@@ -38,7 +38,8 @@ fn the_caller_drives_what_has_no_thread(rt: HostRuntime) -> Result<(), Fail> {
     Ok(())
 }
 
-/// The ranks of a worker have their turns in alternation: ranks 0 and 2 are one worker's, and ranks 1 and 3 another's.
+/// The ranks of a worker have their turns in alternation: ranks 0 and 2 are one worker's, and ranks
+/// 1 and 3 another's.
 #[test]
 fn ranks_of_a_worker_alternate(rt: HostRuntime) -> Result<(), Fail> {
     let all: &[u32] = &[0, 1, 2, 3, 3];
@@ -68,7 +69,8 @@ fn ranks_of_a_worker_alternate(rt: HostRuntime) -> Result<(), Fail> {
     Ok(())
 }
 
-/// A run that is asked for no thread starts none: whatever the gate waits for, no other rank is polled meanwhile.
+/// A run that is asked for no thread starts none: whatever the gate waits for, no other rank is
+/// polled meanwhile.
 #[test]
 fn no_thread_is_started_unasked(rt: HostRuntime) -> Result<(), Fail> {
     let all: &[u32] = &[0, 1, 2, 3, 3];

@@ -36,7 +36,8 @@ pub(crate) struct Watch {
     one_asked: AtomicBool,
     /// Something was not as it should be.
     pub(crate) noted: AtomicBool,
-    /// Which ranks were turned, one after the other on one thread: each hexadecimal digit is one more than a rank.
+    /// Which ranks were turned, one after the other on one thread: each hexadecimal digit is one
+    /// more than a rank.
     turns: AtomicU64,
 }
 
@@ -211,7 +212,8 @@ fn names_of(alloc: Global, columns: u32, list: &[u32]) -> Result<Vec<u32>, NoMem
     Ok(names)
 }
 
-/// A watched program for each of so many ranks, each of which sends to the ranks that its list names.
+/// A watched program for each of so many ranks, each of which sends to the ranks that its list
+/// names.
 pub(crate) fn progs_of<'a>(
     alloc: Global,
     ranks: u32,

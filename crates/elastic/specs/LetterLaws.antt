@@ -4,7 +4,8 @@ use Rattle.std.specs.List.{All}
 use Rattle.elastic.specs.Spelling.{IsLetter}
 use Rattle.elastic.specs.LetterRules.{LetterRules}
 
--- A state of the same rank in the same round of the same run, with the same letters: what an absorb leaves.
+-- A state of the same rank in the same round of the same run, with the same letters: what an absorb
+-- leaves.
 pub record SameLetters {S : Type 0} (R : LetterRules S) (s t : S) : Type 0 where
   pub valid : R.valid t
   pub rank : R.rank t ≡ R.rank s
@@ -20,7 +21,8 @@ pub record StillSends {S : Type 0} (R : LetterRules S) (s t : S) : Type 0 where
   pub ranks : R.ranks t ≡ R.ranks s
   pub letters : R.letters t ≡ R.letters s
 
--- A state of the same rank in the next round of the same run. The round's number stands still at 2^64 - 1.
+-- A state of the same rank in the next round of the same run. The round's number stands still at
+-- 2^64 - 1.
 pub record NextLetters {S : Type 0} (R : LetterRules S) (s t : S) : Type 0 where
   pub valid : R.valid t
   pub rank : R.rank t ≡ R.rank s

@@ -21,12 +21,14 @@ letters_by R ss d f = letters_to_of R (slice_get ss f) d
 abbrev pub absorb_letters : {S : Type 0} → LetterRules S → S → ℕ → List (List ℕ) → S
 absorb_letters R s from ls = fold (λ t l. R.absorbed t from l) s ls
 
--- A state after a list of letters of each of the senders 0, 1, .., n - 1 was absorbed, sender by sender.
+-- A state after a list of letters of each of the senders 0, 1, .., n - 1 was absorbed, sender by
+-- sender.
 abbrev pub letters_upto : {S : Type 0} → LetterRules S → S → (ℕ → List (List ℕ)) → ℕ → S
 letters_upto R s lists zero = s
 letters_upto R s lists (suc n) = absorb_letters R (letters_upto R s lists n) n (lists n)
 
--- The programs after the absorbs of a round: each has absorbed what ranks 0, 1, .. send it, in this order.
+-- The programs after the absorbs of a round: each has absorbed what ranks 0, 1, .. send it, in this
+-- order.
 abbrev pub letters_absorbed : {S : Type 0} → LetterRules S → List S → List S
 letters_absorbed R ss = map (λ s. letters_upto R s (letters_by R ss (R.rank s)) (length ss)) ss
 
@@ -34,7 +36,8 @@ letters_absorbed R ss = map (λ s. letters_upto R s (letters_by R ss (R.rank s))
 abbrev pub letter_votes : {S : Type 0} → LetterRules S → List S → ℕ
 letter_votes R ss = min (sum_by R.vote ss) (2 ^ 64 - 1)
 
--- The programs after a whole round: absorbs, then votes, then every rank ends the round with their sum.
+-- The programs after a whole round: absorbs, then votes, then every rank ends the round with their
+-- sum.
 abbrev pub letter_round : {S : Type 0} → LetterRules S → List S → List S
 letter_round R ss = map (λ s. R.ended s (letter_votes R (letters_absorbed R ss))) (letters_absorbed R ss)
 
@@ -58,7 +61,8 @@ pub record HasLetterRounds {S : Type 0} (R : LetterRules S) (starts : List S) (n
   pub goes : (m : ℕ) → m + 1 < n → R.goes_on (letter_shape R starts) m (letter_votes_at R starts m) ≡ true
   pub stops : R.goes_on (letter_shape R starts) (n - 1) (letter_votes_at R starts (n - 1)) ≡ false
 
--- A letter program of rank r in round n of a run of p ranks, with the shape and the bound that all ranks share.
+-- A letter program of rank r in round n of a run of p ranks, with the shape and the bound that all
+-- ranks share.
 pub record LetterMember {S : Type 0} (R : LetterRules S) (p n : ℕ) (shape : List ℕ) (most r : ℕ) (s : S) : Type 0 where
   pub valid : R.valid s
   pub own_rank : R.rank s ≡ r

@@ -22,7 +22,8 @@ pub record MailState (S : Type 0) : Type 0 where
 abbrev pub spelled : List (ℕ × List ℕ) → List (ℕ × Item)
 spelled letters = flat_map (λ e. map (λ x. (e.0, x)) (spelling e.1)) letters
 
--- The mailer of a letter program as a round begins: all its letters are to be sent, and no sender has begun one.
+-- The mailer of a letter program as a round begins: all its letters are to be sent, and no sender
+-- has begun one.
 abbrev pub mailing : {S : Type 0} → LetterRules S → S → MailState S
 mailing R s = record { inner = s; outgoing = spelled (R.letters s); begun = replicate (R.ranks s) [] }
 

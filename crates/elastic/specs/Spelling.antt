@@ -18,12 +18,14 @@ pad zero bytes = []
 pad (suc k) [] = 0 ∷ pad k []
 pad (suc k) (b ∷ bs) = b ∷ pad k bs
 
--- The word that holds the first eight bytes of a list, from the lowest eight bits up; what isn't used is 0.
+-- The word that holds the first eight bytes of a list, from the lowest eight bits up; what isn't
+-- used is 0.
 -- "q" is 113, "ba" is 0x6162
 abbrev pub word_of : List ℕ → ℕ
 word_of bytes = from_le_bytes w64 (pad 8 bytes)
 
--- How many items spell what a first item doesn't hold of n bytes: one for each further 24 bytes begun.
+-- How many items spell what a first item doesn't hold of n bytes: one for each further 24 bytes
+-- begun.
 -- further 16 = 0, further 17 = 1, further 65_535 = 2,730
 abbrev pub further : ℕ → ℕ
 further n = (n - 16 + 23) / 24
@@ -58,7 +60,8 @@ bytes_in x = to_le_bytes w64 x.a ++ (to_le_bytes w64 x.b ++ to_le_bytes w64 x.c)
 abbrev pub letter_from : Item → List Item → List ℕ
 letter_from x xs = take (length_in x) (to_le_bytes w64 x.b ++ (to_le_bytes w64 x.c ++ flat_map bytes_in xs))
 
--- The first letters of a list of items, at most so many: each takes as many items as its length tells.
+-- The first letters of a list of items, at most so many: each takes as many items as its length
+-- tells.
 abbrev pub letters_within : ℕ → List Item → List (List ℕ)
 letters_within zero items = []
 letters_within (suc n) [] = []
@@ -66,7 +69,8 @@ letters_within (suc n) (x ∷ xs) =
     if nat_lt (length xs) (further (length_in x)) then []
     else letter_from x (take (further (length_in x)) xs) ∷ letters_within n (drop (further (length_in x)) xs)
 
--- The letters of a list of items: it is cut from the front, and a last letter that isn't whole is none.
+-- The letters of a list of items: it is cut from the front, and a last letter that isn't whole is
+-- none.
 -- letters_of (spelling l ++ spelling m) = l, m
 abbrev pub letters_of : List Item → List (List ℕ)
 letters_of items = letters_within (length items) items

@@ -1,4 +1,5 @@
--- The letters theorem: letters arrive whole, in order and each once, and mailers compute what their letter programs do.
+-- The letters theorem: letters arrive whole, in order and each once, and mailers compute what their
+-- letter programs do.
 use Rattle.std.specs.Prelude.{ℕ, ◌≡◌, List, map}
 use Rattle.std.specs.List.{All, flat_map}
 use Rattle.list_laws.specs.Lists.{Begins}
@@ -28,8 +29,8 @@ EachLetterOnce {S} R =
     → (absorb_each (mail_rules R) (mailing R s) came).inner
     ≡ letters_upto R s (λ f. letters_of (items_of f came)) (R.ranks s)
 
--- The canonical run of mailers is that of their letter programs: states, votes and rounds are the same, and what a rank
--- is sent spells the letters that it is sent.
+-- The canonical run of mailers is that of their letter programs: states, votes and rounds are the
+-- same, and what a rank is sent spells the letters that it is sent.
 pub record SameLetterRuns {S : Type 0} (R : LetterRules S) (p : ℕ) (shape : List ℕ) (most : ℕ)
     (starts : List S) : Type 0 where
   pub in_round : InRound (mail_rules R) p 0 shape most (map (mailing R) starts)

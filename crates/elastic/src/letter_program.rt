@@ -7,7 +7,8 @@ ghost use Rattle.elastic.specs.LetterLaws.{LetterLaws, StillSends};
 
 use bale_items::NoMemory;
 
-/// A letter program, as one rank runs it: a program whose items are letters of at most 65,535 bytes. Rounds count from 0.
+/// A letter program, as one rank runs it: a program whose items are letters of at most 65,535
+/// bytes. Rounds count from 0.
 ///
 /// | Call | Needs | Answer |
 /// |---|---|---|
@@ -16,9 +17,10 @@ use bale_items::NoMemory;
 /// | `absorb_letter(from, bytes)` | a rank, a letter | takes the letter in |
 /// | `vote`, `goes_on(votes)`, `end_round(votes)` | | as of a program |
 ///
-/// Contracts see a letter program as its state. `rules` says what each call answers or makes of a state, and `laws` proves
-/// that the rules are lawful, as those of a program are: letters go to ranks, absorbs of two senders commute, and an absorb
-/// changes neither the round nor what is sent. Every rank may send every letter to every rank.
+/// Contracts see a letter program as its state. `rules` says what each call answers or makes of a
+/// state, and `laws` proves that the rules are lawful, as those of a program are: letters go to
+/// ranks, absorbs of two senders commute, and an absorb changes neither the round nor what is sent.
+/// Every rank may send every letter to every rank.
 pub trait LetterProgram: Drop {
     ghost rules: { LetterRules Self };
 
@@ -56,7 +58,8 @@ pub trait LetterProgram: Drop {
         requires { i < length (rules.letters self.now) }
         ensures { slice_get (map (λ e. e.1) (rules.letters self.now)) i ≡ Some result.now };
 
-    /// Takes in a letter of the rank `from`. After `NoMemory` the rank, the ranks and the letters that it sends are as before.
+    /// Takes in a letter of the rank `from`. After `NoMemory` the rank, the ranks and the letters
+    /// that it sends are as before.
     fn absorb_letter(&mut self, from: u32, bytes: &[u8]) -> Result<(), NoMemory>
         requires rank { from < rules.ranks self.old }
         requires letter { IsLetter bytes.now }
@@ -71,8 +74,8 @@ pub trait LetterProgram: Drop {
     fn goes_on(&self, votes: u64) -> bool
         ensures { result ≡ rules.goes_on (rules.shape self.now) (rules.round self.now) votes };
 
-    /// Ends the round and begins the next, and answers whether it is one of the run. After `NoMemory` the rank, the ranks and
-    /// the letters are as before.
+    /// Ends the round and begins the next, and answers whether it is one of the run. After
+    /// `NoMemory` the rank, the ranks and the letters are as before.
     fn end_round(&mut self, votes: u64) -> Result<bool, NoMemory>
         ensures ended { OnOk result (self.new ≡ rules.ended self.old votes) }
         ensures answer { IfOk result (λ more. more ≡ rules.goes_on (rules.shape self.old)

@@ -1,9 +1,11 @@
-//! Byte strings over programs in rounds: ranks send strings of up to 65,535 bytes, called letters here, and whoever moves
-//! their items moves the letters.
+//! Byte strings over programs in rounds: ranks send strings of up to 65,535 bytes, called letters
+//! here, and whoever moves their items moves the letters.
 //!
-//! A letter travels in fragments. Its first item has its length and its first 16 bytes, each further item the next 24.
-//! `Mailer` makes a program of a letter program: it emits the spellings of its letters, keeps what each sender has begun,
-//! and hands a letter over once it is whole. What is begun as a round ends is dropped.
+//! A letter travels in fragments. Its first item has its length and its first 16 bytes, each
+//! further item the next 24.
+//! `Mailer` makes a program of a letter program: it emits the spellings of its letters, keeps what
+//! each sender has begun, and hands a letter over once it is whole. What is begun as a round ends
+//! is dropped.
 //!
 //! | Item | What it is |
 //! |---|---|
@@ -13,8 +15,9 @@
 //! | [`letters_once`] | a theorem: after each absorb the letter program has absorbed each whole letter, in its sender's order, once |
 //! | [`mailers_run_letters`] | a theorem: mailers compute what their letter programs do |
 //!
-//! The definitions, in the order in which to read them: `Spelling` (letters and items), `LetterRules`, `LetterLaws` and
-//! `LetterRuns` (letter programs, with no word on items), `Mails` (what a mailer does), `Theorem` (the letters theorem).
+//! The definitions, in the order in which to read them: `Spelling` (letters and items),
+//! `LetterRules`, `LetterLaws` and `LetterRuns` (letter programs, with no word on items), `Mails`
+//! (what a mailer does), `Theorem` (the letters theorem).
 #![tactic(auto)]
 
 mod letter_program;

@@ -25,8 +25,8 @@ fn further(len: u64) -> u64
     (len.saturating_sub(16) + 23) / 24
 }
 
-/// Takes an item in from the rank `from`, by what all senders have begun, and answers whether its letter is whole now; then
-/// `letter` is that letter. After `NoMemory` it may hold anything.
+/// Takes an item in from the rank `from`, by what all senders have begun, and answers whether its
+/// letter is whole now; then `letter` is that letter. After `NoMemory` it may hold anything.
 pub(crate) fn take_from(
     begun: &mut Vec<Vec<Item>>,
     letter: &mut Vec<u8>,
@@ -83,7 +83,8 @@ fn forget(begun: &mut Vec<Vec<Item>>, from: usize)
     begun[from].clear();
 }
 
-/// Puts the letter that one item is in the place of what `letter` held. After `NoMemory` it may hold anything.
+/// Puts the letter that one item is in the place of what `letter` held. After `NoMemory` it may
+/// hold anything.
 fn read_first(letter: &mut Vec<u8>, item: Item) -> Result<(), NoMemory>
     ensures { OnOk result (letter.new.items ≡ letter_of (item ∷ [])) }
 {
@@ -91,7 +92,8 @@ fn read_first(letter: &mut Vec<u8>, item: Item) -> Result<(), NoMemory>
     append_letter(letter, item, &[])
 }
 
-/// Puts the letter that items are in the place of what `letter` held. After `NoMemory` it may hold anything.
+/// Puts the letter that items are in the place of what `letter` held. After `NoMemory` it may hold
+/// anything.
 fn read_letter(letter: &mut Vec<u8>, items: &[Item]) -> Result<(), NoMemory>
     ensures { OnOk result (letter.new.items ≡ letter_of items.now) }
 {
@@ -102,7 +104,8 @@ fn read_letter(letter: &mut Vec<u8>, items: &[Item]) -> Result<(), NoMemory>
     }
 }
 
-/// Appends the letter that an item begins and further items go on with, where nothing stands before it.
+/// Appends the letter that an item begins and further items go on with, where nothing stands before
+/// it.
 fn append_letter(letter: &mut Vec<u8>, first: Item, rest: &[Item]) -> Result<(), NoMemory>
     requires { letter.old.items ≡ [] }
     ensures { OnOk result (letter.new.items ≡ letter_from first rest.now) }

@@ -4,14 +4,16 @@ ghost use Rattle.elastic.specs.Theorem.{SpellingsAreRead, FrontsAreRead, EachLet
 
 use crate::letter_program::LetterProgram;
 
-/// The letters of a list of spellings are the letters spelled, and the letters of a front of a list are a front of its letters.
+/// The letters of a list of spellings are the letters spelled, and the letters of a front of a list
+/// are a front of its letters.
 pub fn letters_of_spellings()
     ensures spellings { SpellingsAreRead }
     ensures fronts { FrontsAreRead }
 {}
 
-/// After each absorb, in whatever order the items of the senders came, the letter program has absorbed from each sender the
-/// letters of the items absorbed from it: whole, in order and each once.
+/// After each absorb, in whatever order the items of the senders came, the letter program has
+/// absorbed from each sender the letters of the items absorbed from it: whole, in order and each
+/// once.
 pub fn letters_once<Q: LetterProgram>()
     ensures { EachLetterOnce Q.rules }
 {}

@@ -123,7 +123,8 @@ pub exchange_kept : (cap : ℕ) (st : Stack) (from : ℕ) → IsKept cap st from
     → IsKept cap (record st { stage = Exchanging; outs = map begun_out st.outs; ins = map begun_in st.ins; popped = None }) from
 exchange_kept cap st from k filling = begun_kept cap st from Exchanging st.done k (λ o s. out_exchanges cap st.done o (subst (λ g. IsOut cap g st.done o) filling s)) in_exchanges
 
--- a link as its round begins: its parcel of the round is due, unless the link is through with the epoch
+-- a link as its round begins: its parcel of the round is due, unless the link is through with the
+-- epoch
 link_begun : (e rounds : ℕ) (through due : Bool) (log : List Shipped) → due ≡ false → LinkAgrees e rounds through due log → LinkAgrees e (rounds + 1) through (not through) log
 link_begun e rounds through due log none a = record {
   ended = a.ended;

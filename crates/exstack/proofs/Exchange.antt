@@ -1,5 +1,6 @@
--- The exchange law. A call changes one rank's part; what it pops stands next in what its sender pushed, since items arrive
--- in order; and where it completes, all links in have ended, so that all senders are through.
+-- The exchange law. A call changes one rank's part; what it pops stands next in what its sender
+-- pushed, since items arrive in order; and where it completes, all links in have ended, so that all
+-- senders are through.
 use Rattle.std.proofs.Common.{◌≡◌, ◌≢◌, ℕ, ◌+◌, ◌<◌, Bool, true, false, cond, [], ◌∷◌, ◌++◌, length, slice_get, Some, inl, inr, refl, sym, ap, subst, ◌∙◌, arith, eq-eqb, ne_eqb}
 use Rattle.std.proofs.lemmas.Bool.{cases_eq}
 use Rattle.bale_items.specs.declared.item.Item.{Item}

@@ -11,8 +11,8 @@ use Rattle.port_bank.specs.Frames.{OutsElsewhere, InsElsewhere}
 use Rattle.exstack.specs.State.{number}
 use Rattle.exstack.specs.Steps.{latest, was_moved, WasPosted, WasCollected, InVain}
 
--- what a port shows of a link out: its log, how often the port looked for room, and whether it is crowded; and of a
--- link in: its log, what was noted of it, and whether it is idle
+-- what a port shows of a link out: its log, how often the port looked for room, and whether it is
+-- crowded; and of a link in: its log, what was noted of it, and whether it is idle
 pub record Sight : Type 0 where
   pub log : List Shipped
   pub count : ℕ

@@ -1,4 +1,5 @@
--- On one hop: the numbers of links and their ends, and that the relay law asks for tags without digits alone.
+-- On one hop: the numbers of links and their ends, and that the relay law asks for tags without
+-- digits alone.
 use Rattle.std.proofs.Common.{◌≡◌, ℕ, zero, suc, ◌-◌, ◌*◌, ◌/◌, ◌%◌, ◌<◌, ◌≤◌, List, [], ◌∷◌, length, refl, sym, ap, subst, ◌∙◌, arith}
 use Rattle.std.specs.List.{All}
 use Rattle.std.proofs.Math.Nat.{mod-eq_of_lt}

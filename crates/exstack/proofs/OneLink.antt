@@ -147,7 +147,8 @@ module _ (e n : ℕ) (log : List Shipped) (p : Shipped) (now : lasts log ≡ e) 
 pub exchanged_then : (e : ℕ) (log : List Shipped) (p : Shipped) → e ≢ lasts log → entries_exchanged e (log ++ p ∷ []) ≡ entries_exchanged e log
 exchanged_then e log p other = ap (λ (xs : List Shipped). flat_map (λ (q : Shipped). q.entries) (odd_ones xs)) (segment_then e log p other)
 
--- what is unread of a link in in a round is the end of what came, and of the exchange parcel of the cycle
+-- what is unread of a link in in a round is the end of what came, and of the exchange parcel of the
+-- cycle
 pub record Reads (e n : ℕ) (log : List Shipped) (unread : List Entry) : Type 0 where
   pub came : Ends (entries_exchanged e log) unread
   pub in_cycle : Ends (entries_in (exchange_parcel e n log)) unread

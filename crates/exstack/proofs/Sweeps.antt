@@ -1,9 +1,11 @@
--- A step on each link in turn: what was done on the links before, and that nothing was done on those after.
+-- A step on each link in turn: what was done on the links before, and that nothing was done on
+-- those after.
 use Rattle.std.proofs.Common.{◌≡◌, ◌≢◌, ℕ, ◌+◌, ◌<◌, ◌≤◌, List, length, get_or, set, refl, sym, subst, ◌∙◌, arith, inl, inr}
 use Rattle.std.proofs.lemmas.Bool.{cases_eq, cases_lt}
 use Rattle.std.proofs.lemmas.List.{length-set, get_or-set_same, get_or-set_other, get_or_default}
 
--- Step tells what a step did on one link: the link before and after it, and what the port shows there before and after.
+-- Step tells what a step did on one link: the link before and after it, and what the port shows
+-- there before and after.
 pub record Sweep {X Y : Type 0} (Step : X → X → Y → Y → Type 0) (d : X) (link : ℕ → ℕ) (upto : ℕ) (xs ys : List X) (before after : ℕ → Y) : Type 0 where
   pub count : length ys ≡ length xs
   pub done : (k : ℕ) → k < upto → k < length xs → Step (get_or xs k d) (get_or ys k d) (before (link k)) (after (link k))

@@ -13,7 +13,8 @@ use Rattle.exstack.specs.Links.{In, with_put_back}
 use Rattle.exstack.specs.State.{Stack, out_at, in_at, dims_of, link_to, link_from}
 use Rattle.exstack.specs.Cycles.{exchange_parcel, entries_in, entries_exchanged}
 
--- How many rounds of its epoch an exstack has begun, in cycle n: each cycle has a proceed round and an exchange round.
+-- How many rounds of its epoch an exstack has begun, in cycle n: each cycle has a proceed round and
+-- an exchange round.
 -- While it fills its buffers in cycle 1 it has begun three.
 abbrev pub rounds_in : ℕ → Stage → ℕ
 rounds_in n Start = 0
@@ -33,13 +34,14 @@ cycle_after n Full = n + 1
 cycle_after n AllDone = n
 
 -- A link whose parcel of this round may be due, against its log.
--- ended: it has ended as many epochs as there were, and the current one exactly where it is through with it.
+-- ended: it has ended as many epochs as there were, and the current one exactly where it is through
+-- with it.
 -- by_last: where it is through, nothing stands after the parcel marked last.
 -- each_round: else the current segment has one parcel for each round, but for that which is due.
--- until: where it is through, that segment has one for each round up to that in which it ended, which
--- is this one or an earlier one.
--- Example: a link that was closed in cycle 0 has one parcel, the proceed parcel of that cycle, while the
--- exstack goes on to cycle 3.
+-- until: where it is through, that segment has one for each round up to that in which it ended,
+-- which is this one or an earlier one.
+-- Example: a link that was closed in cycle 0 has one parcel, the proceed parcel of that cycle,
+-- while the exstack goes on to cycle 3.
 pub record LinkAgrees (epoch rounds : ℕ) (through due : Bool) (log : List Shipped) : Type 0 where
   pub ended : lasts log ≡ lasts_in epoch through
   pub by_last : through ≡ true → EndsLast log
@@ -55,7 +57,8 @@ back_first (Some p) a i = if p == a then (with_put_back i.back i).unread else i.
 -- outs, ins: each link out does, and each link in.
 -- shapes: the logs of the links out have the exstack shape.
 -- law: the lists meet the relay law.
--- came: what is unread of a sender, or may be put back, is the latest that came in exchange parcels of this epoch.
+-- came: what is unread of a sender, or may be put back, is the latest that came in exchange parcels
+-- of this epoch.
 -- in_cycle: and it is the end of the exchange parcel of cycle n.
 -- own: on the link from the rank to itself, what was got is the front of what was sent.
 pub record AgreesIn (n : ℕ) (st : Stack) (sent got : Logs) : Type 0 where

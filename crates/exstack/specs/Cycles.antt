@@ -6,7 +6,8 @@ use Rattle.bale_items.specs.declared.item.Entry.{Entry}
 use Rattle.item_buffer.specs.Contents.{Shipped}
 use Rattle.port_bank.specs.Logs.{segment}
 
--- Parcel number 2n of a segment is the proceed parcel of cycle n, and parcel number 2n + 1 its exchange parcel.
+-- Parcel number 2n of a segment is the proceed parcel of cycle n, and parcel number 2n + 1 its
+-- exchange parcel.
 -- In the segment p, q, r the proceed parcels of the cycles 0 and 1 are p and r, and q is the
 -- exchange parcel of cycle 0.
 abbrev pub proceed_parcel : ℕ → ℕ → List Shipped → Option Shipped

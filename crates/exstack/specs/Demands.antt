@@ -4,7 +4,8 @@ use Rattle.exstack.specs.declared.stage.Stage.TheVariants.{Filling}
 use Rattle.exstack.specs.Links.{In, no_in, has_unread}
 use Rattle.exstack.specs.State.{Stack}
 
--- An item may be pushed toward this rank: the buffers are filled, and the rank hasn't said that it is done.
+-- An item may be pushed toward this rank: the buffers are filled, and the rank hasn't said that it
+-- is done.
 pub record MayPush (st : Stack) (to : ℕ) : Type 0 where
   pub filling : st.stage ≡ Filling
   pub not_done : st.done ≡ false

@@ -13,7 +13,8 @@ use Rattle.exstack.specs.Agreement.{AgreesWith}
 use Rattle.exstack.specs.Parts.{part_of, AreOwnSteps, proceed_steps}
 use Rattle.exstack.specs.Standing.{IsStack}
 
--- The exstacks of all ranks agree with the ports of one bank: of each rank's own links its port has the bank's lists.
+-- The exstacks of all ranks agree with the ports of one bank: of each rank's own links its port has
+-- the bank's lists.
 pub record AgreeTogether (ranks cap slots : ℕ) (all : ℕ → Stack) (sent got : Logs) : Type 0 where
   pub few : ranks ≤ 64
   pub links_keep : (l : ℕ) → l < links (ranks ∷ []) → LinkLaw cap slots (sent l) (got l)
@@ -26,8 +27,8 @@ pub record AgreeTogether (ranks cap slots : ℕ) (all : ℕ → Stack) (sent got
 abbrev pub state_of : ℕ → (ℕ → Stack) → Logs → Logs → Ranks
 state_of ranks all sent got = λ r. part_of (all r) (starting_at (ranks ∷ []) r sent) (ending_at (ranks ∷ []) r got)
 
--- A call on the exstack of rank r over its port: the other exstacks stay, and so do the lists of the others' links; the
--- bank keeps its law, and the exstack agrees with its port again.
+-- A call on the exstack of rank r over its port: the other exstacks stay, and so do the lists of
+-- the others' links; the bank keeps its law, and the exstack agrees with its port again.
 pub record IsCall (ranks cap slots r : ℕ) (old new : ℕ → Stack) (sent sent' got got' : Logs) : Type 0 where
   pub rank : r < ranks
   pub others : (q : ℕ) → q < ranks → q ≢ r → new q ≡ old q
@@ -45,7 +46,8 @@ StaysTogether = (ranks cap slots r : ℕ) (old new : ℕ → Stack) (sent sent' 
     → AgreeTogether ranks cap slots old sent got → IsCall ranks cap slots r old new sent sent' got got'
     → AgreeTogether ranks cap slots new sent' got'
 
--- The exchange law: where they agree, and a call is a step of its rank's own part, it is a step of the machine.
+-- The exchange law: where they agree, and a call is a step of its rank's own part, it is a step of
+-- the machine.
 abbrev pub ExchangeLaw : Type 0
 ExchangeLaw = (ranks cap slots r : ℕ) (step : Step) (old new : ℕ → Stack) (sent sent' got got' : Logs)
     → AgreeTogether ranks cap slots old sent got → IsCall ranks cap slots r old new sent sent' got got'

@@ -6,16 +6,17 @@ use Rattle.bale_items.specs.declared.item.Tag.{Tag}
 use Rattle.bale_items.specs.declared.item.Entry.{Entry}
 use Rattle.item_buffer.specs.Contents.{Shipped}
 
--- A link out: the entries that wait for its next exchange parcel; whether it is closed, that is, its last parcel of
--- this epoch was posted; and whether its parcel of this round is due, that is, still to be posted.
+-- A link out: the entries that wait for its next exchange parcel; whether it is closed, that is,
+-- its last parcel of this epoch was posted; and whether its parcel of this round is due, that is,
+-- still to be posted.
 pub record Out : Type 0 where
   pub waiting : List Entry
   pub closed : Bool
   pub due : Bool
 
--- A link in: the entries that came and are unread; the one that was read last, if it can be put back; whether the link
--- has ended, that is, its last parcel of this epoch was collected; and whether its parcel of this
--- round is due, that is, still to be collected.
+-- A link in: the entries that came and are unread; the one that was read last, if it can be put
+-- back; whether the link has ended, that is, its last parcel of this epoch was collected; and
+-- whether its parcel of this round is due, that is, still to be collected.
 pub record In : Type 0 where
   pub unread : List Entry
   pub back : Option Entry
@@ -69,15 +70,16 @@ begun_out o = record o { due = not o.closed }
 abbrev pub begun_in : In → In
 begun_in i = record { unread = []; back = None; ended = i.ended; due = not i.ended }
 
--- The parcel of a link out in a round, and the link after it was posted: it is closed where that was the last one.
+-- The parcel of a link out in a round, and the link after it was posted: it is closed where that
+-- was the last one.
 abbrev pub parcel_of : Bool → ℕ → Out → Shipped
 parcel_of last epoch o = record { entries = o.waiting; last = last; epoch = epoch }
 
 abbrev pub gone : Bool → Out
 gone last = record { waiting = []; closed = last; due = false }
 
--- A link in after it collected a parcel: of an exchange parcel the entries are unread, those of a proceed parcel are
--- dropped.
+-- A link in after it collected a parcel: of an exchange parcel the entries are unread, those of a
+-- proceed parcel are dropped.
 abbrev pub came : Bool → Shipped → In
 came exchange p = record { unread = if exchange then p.entries else []; back = None; ended = p.last; due = false }
 

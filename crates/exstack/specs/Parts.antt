@@ -14,7 +14,8 @@ use Rattle.exstack.specs.State.{popped_from}
 use Rattle.exstack.specs.Cycles.{entries_sent, entries_exchanged, items}
 use Rattle.exstack.specs.Agreement.{AgreesIn, AgreesWith}
 
--- What a rank pushed toward d in an epoch: what it sent there and, in its current epoch, what waits for d.
+-- What a rank pushed toward d in an epoch: what it sent there and, in its current epoch, what waits
+-- for d.
 -- With [x] sent and [y] waiting it is [x, y].
 abbrev pub pushed_to : Stack → Logs → ℕ → ℕ → List Item
 pushed_to st sent e d =
@@ -46,7 +47,8 @@ part_of st sent got = record {
   pulled = for_ranks st.ranks (pulled_of st got);
 }
 
--- A call is a step of the rank's part of the exchange machine, over the lists of a port that the call doesn't see.
+-- A call is a step of the rank's part of the exchange machine, over the lists of a port that the
+-- call doesn't see.
 abbrev pub IsStepOf : Step → Stack → Stack → Type 0
 IsStepOf step old new = (n : ℕ) (sent got : Logs) → AgreesIn n old sent got
     → IsOwnStep step (part_of old sent got) (part_of new sent got)
@@ -61,7 +63,8 @@ pub record IsAtPort {P : Type 0} {cap : ℕ} {M : Type 0} (G : Ghosts P cap M) (
   pub same_rank : G.rank port ≡ st.rank
   pub agrees : AgreesWith st (G.sent port) (G.got port)
 
--- What any call at the port keeps: the exstack agrees with it again, and both are those of the same rank.
+-- What any call at the port keeps: the exstack agrees with it again, and both are those of the same
+-- rank.
 pub record KeepsPort {P : Type 0} {cap : ℕ} {M : Type 0} (G : Ghosts P cap M) (old new : Stack)
     (port port' : P) : Type 0 where
   pub agrees : AgreesWith new (G.sent port') (G.got port')
@@ -75,7 +78,8 @@ pub record StaysWithRank (old new : Stack) : Type 0 where
   pub rank : new.rank ≡ old.rank
   pub kept : (sent got : Logs) → AgreesWith old sent got → AgreesWith new sent got
 
--- What a pop is to a port that it doesn't see and to the machine, by its answer: an item of a rank, or nothing unread.
+-- What a pop is to a port that it doesn't see and to the machine, by its answer: an item of a rank,
+-- or nothing unread.
 pub record IsPop (answer : Option (ℕ × Item)) (old new : Stack) : Type 0 where
   pub sender : IfSome answer (λ p. p.0 < old.ranks)
   pub none_unread : answer ≡ None → unread_of old ≡ 0
@@ -94,15 +98,16 @@ abbrev pub AreOwnSteps : List Step → Part → Part → Type 0
 AreOwnSteps [] old new = new ≡ old
 AreOwnSteps (s ∷ ss) old new = IsOwnStep s old (after s old) × AreOwnSteps ss (after s old) new
 
--- The steps that a proceed poll is: Done where it notes done for the first time in the epoch, and Complete where it
--- answers AllDone; Idle where neither. The call that says that the rank is done may be the one that completes it.
+-- The steps that a proceed poll is: Done where it notes done for the first time in the epoch, and
+-- Complete where it answers AllDone; Idle where neither. The call that says that the rank is done
+-- may be the one that completes it.
 abbrev pub proceed_steps : Bool → Bool → Bool → List Step
 proceed_steps was now complete =
     if (now && not was) then (if complete then Done ∷ Complete ∷ [] else Done ∷ [])
     else (if complete then Complete ∷ [] else Idle ∷ [])
 
--- The next pop gives this item of this sender: it is a step of the rank's part of the exchange machine, and keeps the
--- agreement.
+-- The next pop gives this item of this sender: it is a step of the rank's part of the exchange
+-- machine, and keeps the agreement.
 pub record GivesNext (st : Stack) (from : ℕ) (item : Item) : Type 0 where
   pub value : pop_from st (lowest_unread st) ≡ Some (from, item)
   pub step : IsStepOf (Pull from item) st (popped_from st (lowest_unread st))

@@ -8,7 +8,8 @@ use Rattle.exstack.specs.Links.{Out, In}
 use Rattle.exstack.specs.State.{Stack, in_at, is_proceeding, is_exchanging, may_read}
 use Rattle.exstack.specs.Parts.{is_all_done}
 
--- Whether entries may wait on a link out: while buffers are filled, and in the exchange until they are posted.
+-- Whether entries may wait on a link out: while buffers are filled, and in the exchange until they
+-- are posted.
 abbrev pub may_wait : Stage → Bool → Bool
 may_wait Start due = false
 may_wait Proceeding due = false
@@ -17,9 +18,9 @@ may_wait Exchanging due = due
 may_wait Full due = false
 may_wait AllDone due = false
 
--- A link out holds at most its capacity. It is closed only where the rank is done, and where the rank is done it is
--- closed unless its parcel is due; a closed one is empty, and nothing is due on it. Parcels are due
--- within rounds alone, and exchange parcels from ranks alone that aren't done.
+-- A link out holds at most its capacity. It is closed only where the rank is done, and where the
+-- rank is done it is closed unless its parcel is due; a closed one is empty, and nothing is due on
+-- it. Parcels are due within rounds alone, and exchange parcels from ranks alone that aren't done.
 pub record IsOut (cap : ℕ) (stage : Stage) (done : Bool) (o : Out) : Type 0 where
   pub fits : length o.waiting ≤ cap
   pub closed_empty : o.closed ≡ true → o.waiting ≡ []
@@ -30,8 +31,8 @@ pub record IsOut (cap : ℕ) (stage : Stage) (done : Bool) (o : Out) : Type 0 wh
   pub due_exchange : o.due ≡ true → is_exchanging stage ≡ true → done ≡ false
   pub sent_on : may_wait stage o.due ≡ false → o.waiting ≡ []
 
--- A link in on which a parcel is due is empty and hasn't ended; outside of exchanges every link in is empty, and at
--- AllDone each has ended.
+-- A link in on which a parcel is due is empty and hasn't ended; outside of exchanges every link in
+-- is empty, and at AllDone each has ended.
 pub record IsIn (stage : Stage) (i : In) : Type 0 where
   pub due_open : i.due ≡ true → i.ended ≡ false
   pub due_empty : i.due ≡ true → i.unread ≡ []

@@ -13,9 +13,9 @@ use Rattle.exstack.specs.declared.stage.Proceed.TheVariants as proceed
 use Rattle.exstack.specs.Links.{Out, In, no_out, no_in, with_entry, with_first_read, with_put_back, plain, headroom_of}
 use Rattle.exstack.specs.Links.{has_unread, begun_out, begun_in, reopened, resumed}
 
--- An exstack: how many ranks there are, whose it is, its stage, whether the rank said that it is done in this epoch,
--- the epoch, its links out and in by the rank at their other end, and the sender of the item that the latest call
--- popped, where it popped one.
+-- An exstack: how many ranks there are, whose it is, its stage, whether the rank said that it is
+-- done in this epoch, the epoch, its links out and in by the rank at their other end, and the
+-- sender of the item that the latest call popped, where it popped one.
 pub record Stack : Type 0 where
   pub ranks : ℕ
   pub rank : ℕ
@@ -129,7 +129,8 @@ is_exchanging Exchanging = true
 is_exchanging Full = false
 is_exchanging AllDone = false
 
--- Whether a proceed round may begin or go on: at the start of an epoch, after an exchange, and within the round.
+-- Whether a proceed round may begin or go on: at the start of an epoch, after an exchange, and
+-- within the round.
 -- Whether an exchange round may: after a proceed round that goes on, and within the round.
 abbrev pub may_proceed : Stage → Bool
 may_proceed Start = true
@@ -156,7 +157,8 @@ may_read Exchanging = true
 may_read Full = true
 may_read AllDone = false
 
--- A proceed round, or an exchange round, has begun: where it hadn't, a parcel is due on each open link.
+-- A proceed round, or an exchange round, has begun: where it hadn't, a parcel is due on each open
+-- link.
 abbrev pub in_proceed : Bool → Stack → Stack
 in_proceed done st = if is_proceeding st.stage then record st { popped = None }
     else record st {
@@ -171,7 +173,8 @@ abbrev pub in_exchange : Stack → Stack
 in_exchange st = if is_exchanging st.stage then record st { popped = None }
     else record st { stage = Exchanging; outs = map begun_out st.outs; ins = map begun_in st.ins; popped = None }
 
--- The link that a round still waits for: the lowest link out on which a parcel is due, or else the lowest such link in.
+-- The link that a round still waits for: the lowest link out on which a parcel is due, or else the
+-- lowest such link in.
 abbrev pub missing_in : ℕ → ℕ → Option ℕ → Option ℕ
 missing_in ranks rank None = None
 missing_in ranks rank (Some a) = Some (number ranks a rank)
@@ -187,8 +190,8 @@ missing_link st = missing_out st.ranks st.rank (position (λ o. o.due) st.outs) 
 abbrev pub all_ended : Stack → Bool
 all_ended st = list_all (λ i. i.ended) st.ins
 
--- The answer of a proceed poll, by the link that the round still waits for and whether every link in has ended; and
--- the answer of an exchange poll.
+-- The answer of a proceed poll, by the link that the round still waits for and whether every link
+-- in has ended; and the answer of an exchange poll.
 abbrev pub proceed_answer : Option ℕ → Bool → Proceed
 proceed_answer (Some link) ended = proceed.NotYet link
 proceed_answer None ended = if ended then proceed.AllDone else proceed.GoOn

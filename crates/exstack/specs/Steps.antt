@@ -21,33 +21,36 @@ was_moved old new = old && not new
 abbrev pub latest : List Shipped → Shipped
 latest log = slice_index_or log (length log - 1) (record { entries = []; last = false; epoch = 0 })
 
--- A link out in a round: where its parcel was posted it stands at the end of the log, and nothing else changes.
+-- A link out in a round: where its parcel was posted it stands at the end of the log, and nothing
+-- else changes.
 pub record WasPosted (last : Bool) (epoch : ℕ) (old new : Out) (log log' : List Shipped) : Type 0 where
   pub link : new ≡ (if was_moved old.due new.due then gone last else old)
   pub sent : log' ≡ (if was_moved old.due new.due then log ++ parcel_of last epoch old ∷ [] else log)
 
--- A link in in a round: where a parcel was collected it stands at the end of the log, and nothing else changes.
+-- A link in in a round: where a parcel was collected it stands at the end of the log, and nothing
+-- else changes.
 pub record WasCollected (exchange : Bool) (old new : In) (log log' : List Shipped) : Type 0 where
   pub link : new ≡ (if was_moved old.due new.due then came exchange (latest log') else old)
   pub got : log' ≡ (if was_moved old.due new.due then log ++ latest log' ∷ [] else log)
 
--- A link whose parcel is still due was asked in vain: the port looked for room, or listened, in this call, and the link
--- is crowded, or idle.
+-- A link whose parcel is still due was asked in vain: the port looked for room, or listened, in
+-- this call, and the link is crowded, or idle.
 pub record InVain (count count' : ℕ) (stuck : Bool) : Type 0 where
   pub rose : RoseOrFull count count'
   pub in_vain : stuck ≡ true
 
--- The posts of a round to the first n ranks, and its collects from them, in ascending order: one for each parcel that is
--- due as it begins.
--- Of two ranks rank 0, whose parcels are both due, posts on link 0 and then on link 1, and collects from link 0 and then
--- from link 2.
+-- The posts of a round to the first n ranks, and its collects from them, in ascending order: one
+-- for each parcel that is due as it begins.
+-- Of two ranks rank 0, whose parcels are both due, posts on link 0 and then on link 1, and collects
+-- from link 0 and then from link 2.
 abbrev pub posts_to : ℕ → ℕ → List Out → ℕ → List Call
 posts_to ranks rank outs n = swept (λ b. (slice_index_or outs b no_out).due) (λ b. Post (number ranks rank b)) n
 
 abbrev pub collects_from : ℕ → ℕ → List In → ℕ → List Call
 collects_from ranks rank ins n = swept (λ a. (slice_index_or ins a no_in).due) (λ a. Collect (number ranks a rank)) n
 
--- Where a round without memory stopped: at a link out whose parcel is due still, after the posts on the links below it.
+-- Where a round without memory stopped: at a link out whose parcel is due still, after the posts on
+-- the links below it.
 pub record StopsAt (ranks rank : ℕ) (begun outs : List Out) (before calls : List Call) : Type 0 where
   pub to : ℕ
   pub below : to < ranks
@@ -75,7 +78,8 @@ pub record IsPortOf {P : Type 0} {cap : ℕ} {M : Type 0} (G : Ghosts P cap M) (
   pub within : me < ranks
   pub few : ranks ≤ 64
 
--- A round, or what a poll makes of it: on each link out at most one post, and on each link in at most one collect.
+-- A round, or what a poll makes of it: on each link out at most one post, and on each link in at
+-- most one collect.
 pub record MadeRound (last exchange : Bool) (old new : Stack) (sent sent' got got' : Logs) : Type 0 where
   pub posted : (b : ℕ) → b < old.ranks
       → WasPosted last old.epoch (out_at old b) (out_at new b) (sent (link_to old b)) (sent' (link_to old b))

@@ -135,8 +135,8 @@ impl<const CAP: usize> Exstack<CAP> {
         least_room(&self.outs)
     }
 
-    /// Puts `item` into the buffer toward `to`, where there is room. Answers the headroom that was there before: 0 is the
-    /// refusal.
+    /// Puts `item` into the buffer toward `to`, where there is room. Answers the headroom that was
+    /// there before: 0 is the refusal.
     #[inline]
     pub fn push(&mut self, item: Item, to: u32) -> u64
         requires may { MayPush self.old to }

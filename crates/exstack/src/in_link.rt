@@ -137,8 +137,8 @@ impl<const CAP: usize> InLink<CAP> {
         self.ended = false;
     }
 
-    /// Collects the parcel of this round where it is due. The entries of a proceed parcel are dropped: only a peer that
-    /// is no exstack sends any.
+    /// Collects the parcel of this round where it is due. The entries of a proceed parcel are
+    /// dropped: only a peer that is no exstack sends any.
     pub fn collect<P: Port<CAP>>(&mut self, port: &mut P, link: u32, epoch: u64, exchange: bool)
         requires link { link < links (P.dims port.old) }
         requires ends_here { reader_at (P.dims port.old) link ≡ P.rank port.old }

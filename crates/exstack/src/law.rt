@@ -2,16 +2,17 @@
 ghost use Rattle.exstack.specs.Law.{StaysTogether, ExchangeLaw, ProceedLaw, ClosesLaw, CyclesLaw};
 ghost use Rattle.exstack.specs.Lockstep.{RoomLaw, ArrivalLaw};
 
-/// Where the exstacks of all ranks agree with the ports of one bank, every call on any of them, in any order, is a step
-/// of the exchange machine, and a proceed poll one or two, after which they agree again.
+/// Where the exstacks of all ranks agree with the ports of one bank, every call on any of them, in
+/// any order, is a step of the exchange machine, and a proceed poll one or two, after which they
+/// agree again.
 pub fn exchange_law()
     ensures together { StaysTogether }
     ensures step { ExchangeLaw }
     ensures proceed { ProceedLaw }
 {}
 
-/// Where they agree so, what a rank pulled is the front of what its sender pushed; and in each epoch that some rank has
-/// completed every rank was done, and what was pulled is what was pushed.
+/// Where they agree so, what a rank pulled is the front of what its sender pushed; and in each
+/// epoch that some rank has completed every rank was done, and what was pulled is what was pushed.
 pub fn closes_law()
     ensures { ClosesLaw }
 {}
@@ -21,8 +22,8 @@ pub fn cycles_law()
     ensures { CyclesLaw }
 {}
 
-/// Ranks that have finished as many rounds never keep each other: what a rank has to post finds room, even with one slot, and
-/// once all have posted, what it has to collect is there.
+/// Ranks that have finished as many rounds never keep each other: what a rank has to post finds
+/// room, even with one slot, and once all have posted, what it has to collect is there.
 pub fn lockstep_law()
     ensures room { RoomLaw }
     ensures arrival { ArrivalLaw }

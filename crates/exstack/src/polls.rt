@@ -18,11 +18,13 @@ use bale_items::NoMemory;
 use port_bank::Port;
 
 impl<const CAP: usize> Exstack<CAP> {
-    /// Makes the posts that are missing in a proceed round, and then the missing collects. Where none is in progress one
-    /// begins; `done` says whether the rank pushes nothing more in this epoch.
+    /// Makes the posts that are missing in a proceed round, and then the missing collects. Where
+    /// none is in progress one begins; `done` says whether the rank pushes nothing more in this
+    /// epoch.
     ///
     /// # Errors
-    /// `NoMemory` comes only from the port's post. What was posted before it stands, and the poll may be made again.
+    /// `NoMemory` comes only from the port's post. What was posted before it stands, and the poll
+    /// may be made again.
     pub fn poll_proceed<P: Port<CAP>>(
         &mut self,
         port: &mut P,
@@ -71,11 +73,12 @@ impl<const CAP: usize> Exstack<CAP> {
         Ok(self.settle_proceed(missing))
     }
 
-    /// Makes the posts that are missing in an exchange round, and then the missing collects. Where none is in progress one
-    /// begins.
+    /// Makes the posts that are missing in an exchange round, and then the missing collects. Where
+    /// none is in progress one begins.
     ///
     /// # Errors
-    /// `NoMemory` comes only from the port's post. What was posted before it stands, and the poll may be made again.
+    /// `NoMemory` comes only from the port's post. What was posted before it stands, and the poll
+    /// may be made again.
     pub fn poll_exchange<P: Port<CAP>>(&mut self, port: &mut P) -> Result<Poll, NoMemory>
         requires may { may_exchange self.old.stage ≡ true }
         requires at_port { IsAtPort P.Port self.old port.old }
@@ -110,7 +113,8 @@ impl<const CAP: usize> Exstack<CAP> {
         ensures asks { OnOk result (AsksOnce P.Port (in_exchange self.old) self.new port.old port.new) }
         ensures stops { IsErr result → StopsShort P.Port (in_exchange self.old) self.new port.old port.new }
 
-        // A parcel that this poll collected is the exchange parcel of its cycle, and all of it is unread.
+        // A parcel that this poll collected is the exchange parcel of its cycle, and all of it is
+        // unread.
         ensures whole { (n a : ℕ) → AgreesIn n self.old (P.sent port.old) (P.got port.old) → a < self.old.ranks
             → (in_at (in_exchange self.old) a).due ≡ true → (in_at self.new a).due ≡ false
             → (in_at self.new a).unread
@@ -152,8 +156,8 @@ impl<const CAP: usize> Exstack<CAP> {
         self.stage = Stage::Exchanging;
     }
 
-    /// Makes the posts that are missing in a round, and then the missing collects. Answers the link for which the round
-    /// still waits.
+    /// Makes the posts that are missing in a round, and then the missing collects. Answers the link
+    /// for which the round still waits.
     fn go_round<P: Port<CAP>>(
         &mut self,
         port: &mut P,

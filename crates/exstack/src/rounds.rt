@@ -1,4 +1,5 @@
-//! A round over all links of a rank: what begins it, what is posted and collected in it, and what it still waits for.
+//! A round over all links of a rank: what begins it, what is posted and collected in it, and what
+//! it still waits for.
 ghost use Rattle.std.specs.Prelude.{◌≡◌, ℕ, ◌+◌, ◌*◌, ◌<◌, ◌≤◌, ◌++◌, true, false, map, replicate, length, slice_index_or, IfOk, IfSome, OnOk, IsOk, IsErr};
 ghost use Rattle.std.specs.List.{list_all, position, sum_by};
 ghost use Rattle.list_laws.specs.Lists.{Begins};
@@ -150,8 +151,8 @@ pub fn collect_all<const CAP: usize, P: Port<CAP>>(
     }
 }
 
-/// The link for which a round still waits: the lowest link out on which a parcel is due, or else the lowest such link
-/// in.
+/// The link for which a round still waits: the lowest link out on which a parcel is due, or else
+/// the lowest such link in.
 pub fn missing<const CAP: usize>(
     outs: &[OutLink<CAP>],
     ins: &[InLink<CAP>],
@@ -228,8 +229,8 @@ pub fn least_room<const CAP: usize>(outs: &[OutLink<CAP>]) -> u64
     least
 }
 
-/// The lowest link in that has an unread item, where none below `from` has one. Most often it is `from` itself, which is
-/// looked at before the search.
+/// The lowest link in that has an unread item, where none below `from` has one. Most often it is
+/// `from` itself, which is looked at before the search.
 #[inline]
 pub fn next_unread<const CAP: usize>(ins: &[InLink<CAP>], from: u32) -> Option<u32>
     requires below { NoneBelow ins.now from }

@@ -1,4 +1,5 @@
--- As many pulls as an inbox has unread items: they give these items, in order, and leave the inbox empty.
+-- As many pulls as an inbox has unread items: they give these items, in order, and leave the inbox
+-- empty.
 use Rattle.std.proofs.Common.{ℕ, zero, suc, ◌≡◌, ◌+◌, ◌-◌, ◌<◌, ◌≤◌, Bool, false, List, [], ◌∷◌, length, drop, get_or, sum, slice_get, Option, Some, arith, refl, sym, ap, subst, inl, inr, ◌∙◌, eqb, eq-eqb, true, add-one}
 use Rattle.std.specs.List.{All}
 use Rattle.std.specs.Option.{IsSome, is_some, option_map}

@@ -1,4 +1,5 @@
--- That a rank's state stands where an open parcel is taken out, put back, or an inbox is filled, by an exchange.
+-- That a rank's state stands where an open parcel is taken out, put back, or an inbox is filled, by
+-- an exchange.
 use Rattle.std.proofs.Common.{ℕ, ◌≡◌, ◌<◌, ◌≤◌, ◌+◌, ◌-◌, Bool, true, false, List, length, drop, get_or, set, sum, min, None, arith, refl, sym, ap, subst, ◌∙◌, inl, inr}
 use Rattle.std.specs.Int.{from_bool}
 use Rattle.std.specs.List.{All, list_all}

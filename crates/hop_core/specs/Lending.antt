@@ -19,8 +19,8 @@ pub record IsLentToSend (st : State) (i : ℕ) : Type 0 where
   pub fresh : IsFresh (lent_parcel st.lent)
   pub fair : All (λ e. IsFair st.dims (hop_to st.dims i) e.tag) (lent_parcel st.lent).untaken
 
--- The inbox of neighbour i is lent, and no other call was made since: in its place is an empty parcel, and the link has
--- not ended.
+-- The inbox of neighbour i is lent, and no other call was made since: in its place is an empty
+-- parcel, and the link has not ended.
 pub record IsLentToFill (st : State) (i : ℕ) : Type 0 where
   pub lent : st.lent ≡ ToFill i
   pub place : in_at st i ≡ record { parcel = blank st.epoch; ended = false }

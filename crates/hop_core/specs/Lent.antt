@@ -6,7 +6,8 @@ use Rattle.hop_core.specs.declared.loan.Loan.TheVariants as loan
 
 -- What became of a rank's spare parcel.
 -- Nothing: it is at hand, and nothing is lent.
--- ToSend: it is in the place of the open parcel toward a neighbour, which is lent with these contents.
+-- ToSend: it is in the place of the open parcel toward a neighbour, which is lent with these
+-- contents.
 -- ToFill: it is in the place of the inbox of a neighbour, which is lent empty.
 -- Given: it was given away for good, so that nothing can be lent.
 pub data Lent : Type 0 where
@@ -15,7 +16,8 @@ pub data Lent : Type 0 where
   ToFill : ℕ → Lent
   Given : Lent
 
--- The same, as the code keeps it: the mark of an open parcel that is lent stands beside its contents.
+-- The same, as the code keeps it: the mark of an open parcel that is lent stands beside its
+-- contents.
 abbrev pub lent_by : {cap : ℕ} → Loan cap → Lent
 lent_by (loan.Nothing parcel) = Nothing
 lent_by (loan.ToSend number last parcel) = ToSend number (record parcel.value { last = last })

@@ -4,7 +4,8 @@ use Rattle.std.specs.Prelude.{slice_index_or, drop, Option, Some, None, ◌+◌,
 use Rattle.bale_items.specs.declared.item.Entry.{Entry}
 use Rattle.item_buffer.specs.Contents.{Contents, blank, skipped}
 
--- A link out: its open parcel, and whether it is closed, that is, its last parcel of this epoch was sent.
+-- A link out: its open parcel, and whether it is closed, that is, its last parcel of this epoch was
+-- sent.
 pub record Out : Type 0 where
   pub parcel : Contents
   pub closed : Bool
@@ -24,8 +25,8 @@ no_in = record { parcel = blank 0; ended = false }
 abbrev pub is_empty : Contents → Bool
 is_empty c = length c.untaken == 0
 
--- Whether an open parcel is to be sent: it is full, or the state is steady and it isn't empty, or its hop has reached
--- its end and the link isn't closed.
+-- Whether an open parcel is to be sent: it is full, or the state is steady and it isn't empty, or
+-- its hop has reached its end and the link isn't closed.
 -- At capacity 2, not steady and before the end of its hop, [x] isn't due and [x, y] is.
 abbrev pub is_due : ℕ → Bool → Bool → Out → Bool
 is_due cap steady at_end o =
@@ -39,7 +40,8 @@ is_wanted i = is_empty i.parcel && not i.ended
 abbrev pub is_finished : In → Bool
 is_finished i = i.ended && is_empty i.parcel
 
--- A search from link `from` on finds the lowest link whose inbox has an entry, and nothing only where none has.
+-- A search from link `from` on finds the lowest link whose inbox has an entry, and nothing only
+-- where none has.
 pub record FindsUnread (from : ℕ) (ins : List In) (found : Option ℕ) : Type 0 where
   pub from_here : (r : ℕ) → found ≡ Some r → from ≤ r
   pub within : (r : ℕ) → found ≡ Some r → r < length ins

@@ -15,25 +15,26 @@ use Rattle.list_laws.specs.Lists.{EachAt}
 use Rattle.hop_core.specs.State.{State}
 use Rattle.hop_core.specs.Standing.{IsOut}
 
--- What passing on the entries of link in number i asks of the rank's links out: there is a hop after the link's, and
--- each keeps what a link out of its hop does.
+-- What passing on the entries of link in number i asks of the rank's links out: there is a hop
+-- after the link's, and each keeps what a link out of its hop does.
 pub record MayPassOn (dims : List ℕ) (cap i : ℕ) (outs : List Out) : Type 0 where
   pub number : i < sum dims
   pub hop : hop_to dims i < length dims
   pub all : length outs ≡ sum dims
   pub each : EachAt (λ o out. IsOut dims cap (hop_to dims o) out) outs
 
--- The number of the link in over which the entries of s come to a rank on hop h, and that of the link out over which
--- those for d leave it.
--- In the grid 2x2x2, from 1 to 6 through rank 0: link in number 1 on hop 1, link out number 3 on hop 2.
+-- The number of the link in over which the entries of s come to a rank on hop h, and that of the
+-- link out over which those for d leave it.
+-- In the grid 2x2x2, from 1 to 6 through rank 0: link in number 1 on hop 1, link out number 3 on
+-- hop 2.
 abbrev pub way_in : List ℕ → ℕ → ℕ → ℕ
 way_in dims s h = links_before dims h + coord dims s h
 
 abbrev pub way_out : List ℕ → ℕ → ℕ → ℕ
 way_out dims d h = links_before dims h + coord dims d h
 
--- The items of a pair that a rank holds between hop h and hop h + 1: first those that were passed on and stand in the
--- open parcel, then those that wait in the inbox.
+-- The items of a pair that a rank holds between hop h and hop h + 1: first those that were passed
+-- on and stand in the open parcel, then those that wait in the inbox.
 abbrev pub held_by : List ℕ → List Out → List In → ℕ → ℕ → ℕ → List Item
 held_by dims outs ins s d h =
     items_of_pair dims s d (h + 1) (slice_index_or outs (way_out dims d (h + 1)) no_out).parcel.untaken
@@ -42,14 +43,15 @@ held_by dims outs ins s d h =
 abbrev pub held : State → ℕ → ℕ → ℕ → List Item
 held st s d h = held_by st.dims st.outs st.ins s d h
 
--- Nothing can be passed on from a link in of hop h: it is empty, or the open parcel of its first entry is full.
+-- Nothing can be passed on from a link in of hop h: it is empty, or the open parcel of its first
+-- entry is full.
 abbrev pub IsStopped : List ℕ → ℕ → ℕ → List Out → In → Type 0
 IsStopped dims cap h outs x = (e : Entry) → slice_get x.parcel.untaken 0 ≡ Some e →
     length (slice_index_or outs (links_before dims (h + 1) + digit e.tag (h + 1)) no_out).parcel.untaken ≡ cap
 
--- What a relay passed on of one link in, number i of hop h, for the pairs that pass through: for a pair that comes over
--- that link, what was passed on stands in the open parcel of its next link, in order, and the rest waits; the open
--- parcels of other pairs got nothing of theirs.
+-- What a relay passed on of one link in, number i of hop h, for the pairs that pass through: for a
+-- pair that comes over that link, what was passed on stands in the open parcel of its next link, in
+-- order, and the rest waits; the open parcels of other pairs got nothing of theirs.
 pub record PassesOn (dims : List ℕ) (r h i : ℕ) (outs outs' : List Out) (x x' : In) : Type 0 where
   pub mine : (s d : ℕ) → PassesThrough dims r s d h → way_in dims s h ≡ i →
       items_of_pair dims s d (h + 1) (slice_index_or outs' (way_out dims d (h + 1)) no_out).parcel.untaken
@@ -60,8 +62,8 @@ pub record PassesOn (dims : List ℕ) (r h i : ℕ) (outs outs' : List Out) (x x
       items_of_pair dims s d (h + 1) (slice_index_or outs' (way_out dims d (h + 1)) no_out).parcel.untaken
       ≡ items_of_pair dims s d (h + 1) (slice_index_or outs (way_out dims d (h + 1)) no_out).parcel.untaken
 
--- Of the links out, those of other hops than h are as before, and those of hop h are open or closed as before, and
--- what stood in their parcels still stands there first.
+-- Of the links out, those of other hops than h are as before, and those of hop h are open or closed
+-- as before, and what stood in their parcels still stands there first.
 pub record AddsToHop (dims : List ℕ) (h : ℕ) (outs outs' : List Out) : Type 0 where
   pub count : length outs' ≡ length outs
   pub others : (o : ℕ) → hop_to dims o ≢ h → slice_index_or outs' o no_out ≡ slice_index_or outs o no_out
@@ -70,8 +72,8 @@ pub record AddsToHop (dims : List ℕ) (h : ℕ) (outs outs' : List Out) : Type 
       → take (length (slice_index_or outs o no_out).parcel.untaken) (slice_index_or outs' o no_out).parcel.untaken
       ≡ (slice_index_or outs o no_out).parcel.untaken
 
--- Of the links in, those of other hops than h are as before, and those of hop h have ended or not as before, and hold
--- the rest of what they held.
+-- Of the links in, those of other hops than h are as before, and those of hop h have ended or not
+-- as before, and hold the rest of what they held.
 pub record TakesFromHop (dims : List ℕ) (h : ℕ) (ins ins' : List In) : Type 0 where
   pub count : length ins' ≡ length ins
   pub others : (i : ℕ) → hop_to dims i ≢ h → slice_index_or ins' i no_in ≡ slice_index_or ins i no_in

@@ -14,16 +14,16 @@ use Rattle.route_tensor.specs.Tag.{IsFair}
 use Rattle.hop_core.specs.Link.{Out, In, is_empty}
 use Rattle.hop_core.specs.State.{State, in_at, at_end}
 
--- A link out of hop h: its open parcel is fresh, holds at most its capacity, and every entry has a tag that is fair
--- there; a closed one is empty.
+-- A link out of hop h: its open parcel is fresh, holds at most its capacity, and every entry has a
+-- tag that is fair there; a closed one is empty.
 pub record IsOut (dims : List ℕ) (cap h : ℕ) (o : Out) : Type 0 where
   pub fresh : IsFresh o.parcel
   pub fits : length o.parcel.untaken ≤ cap
   pub fair : All (λ e. IsFair dims h e.tag) o.parcel.untaken
   pub closed_empty : o.closed ≡ true → o.parcel.untaken ≡ []
 
--- A link in of hop h: its inbox holds at most its capacity, and every entry has a tag that is fair there, that which
--- could be put back too.
+-- A link in of hop h: its inbox holds at most its capacity, and every entry has a tag that is fair
+-- there, that which could be put back too.
 pub record IsIn (dims : List ℕ) (cap h : ℕ) (x : In) : Type 0 where
   pub fits : length x.parcel.untaken ≤ cap
   pub fair : All (λ e. IsFair dims h e.tag) x.parcel.untaken
@@ -51,8 +51,9 @@ pub record IsState (st : State) : Type 0 where
 abbrev pub failing : {X : Type 0} → (X → Bool) → List X → ℕ
 failing test xs = sum_by (λ x. from_bool (not (test x))) xs
 
--- What the code keeps besides: which hops have reached their end, a link below which no link in of the last hop has an
--- entry, how many links out are not closed, and how many links in of the last hop have not ended.
+-- What the code keeps besides: which hops have reached their end, a link below which no link in of
+-- the last hop has an entry, how many links out are not closed, and how many links in of the last
+-- hop have not ended.
 pub record IsKept (st : State) (ends : List Bool) (from still_open still_coming : ℕ) : Type 0 where
   pub standing : IsState st
   pub ends_all : length ends ≡ 3

@@ -13,8 +13,10 @@ use Rattle.hop_core.specs.declared.phase.Phase.TheVariants.{Working, Endgame, Cl
 use Rattle.hop_core.specs.Lent.{Lent}
 use Rattle.hop_core.specs.Link.{Out, In, no_out, no_in, is_empty, is_finished, with_entry, with_first_taken, with_back}
 
--- The state of one rank. The links out and in stand by the number of the neighbour at the other end.
--- Example: on the grid 2, rank 0 has two links out and two links in, number 0 of itself and number 1 of rank 1.
+-- The state of one rank. The links out and in stand by the number of the neighbour at the other
+-- end.
+-- Example: on the grid 2, rank 0 has two links out and two links in, number 0 of itself and number
+-- 1 of rank 1.
 pub record State : Type 0 where
   pub dims : List ℕ
   pub rank : ℕ
@@ -45,8 +47,8 @@ with_in st i x = record st { ins = slice_set st.ins i x }
 abbrev pub ins_of_hop : List ℕ → List In → ℕ → List In
 ins_of_hop dims ins h = take (dim dims h) (drop (links_before dims h) ins)
 
--- Whether a hop has reached its end: hop 1 once done was set, hop h+1 once all links in of hop h have ended and all
--- their entries were passed on.
+-- Whether a hop has reached its end: hop 1 once done was set, hop h+1 once all links in of hop h
+-- have ended and all their entries were passed on.
 unfoldable pub at_end : List ℕ → List In → Bool → ℕ → Bool
 at_end dims ins done h = if h == 1 then done else list_all is_finished (ins_of_hop dims ins (h - 1))
 
@@ -57,8 +59,9 @@ all_closed outs = list_all (λ o. o.closed) outs
 abbrev pub all_read : State → Bool
 all_read st = list_all is_finished (ins_of_hop st.dims st.ins (length st.dims))
 
--- The phase of an epoch that has begun: Working until done is set, Endgame until every link out is closed, Cleanup
--- until every link in of the last hop has ended and every item is read, then Complete.
+-- The phase of an epoch that has begun: Working until done is set, Endgame until every link out is
+-- closed, Cleanup until every link in of the last hop has ended and every item is read, then
+-- Complete.
 unfoldable pub phase_of : State → Phase
 phase_of st =
     if not st.done then Working
@@ -111,7 +114,8 @@ unpulled st (Some i) =
       pulled = None;
     }
 
--- What a push leaves: the item, with its first tag, is the last entry of the open parcel toward the rank's first stop.
+-- What a push leaves: the item, with its first tag, is the last entry of the open parcel toward the
+-- rank's first stop.
 -- On the grid 2 rank 0's item for rank 1 stands at the end of open parcel number 1.
 abbrev pub with_pushed : Item → ℕ → State → State
 with_pushed item to st =

@@ -1,5 +1,5 @@
-//! The way of parcels out of a rank's hands and into them, by the number of the neighbour: each call exchanges one for a parcel of the
-//! caller's, which is empty.
+//! The way of parcels out of a rank's hands and into them, by the number of the neighbour: each
+//! call exchanges one for a parcel of the caller's, which is empty.
 
 ghost use Rattle.std.specs.Prelude.{◌≡◌, ◌<◌, ◌≤◌, length, sum, slice_set, true, false, None};
 ghost use Rattle.std.specs.List.{All};
@@ -63,8 +63,9 @@ impl<const CAP: usize, const HOPS: usize> RankState<CAP, HOPS> {
         self.ins[number as usize].is_wanted()
     }
 
-    /// Takes the open parcel toward this neighbour out, which is due, for the empty one at hand. It is marked last if and
-    /// only if its hop has reached its end. The state is borrowed until the parcel is noted as sent or put back.
+    /// Takes the open parcel toward this neighbour out, which is due, for the empty one at hand. It
+    /// is marked last if and only if its hop has reached its end. The state is borrowed until the
+    /// parcel is noted as sent or put back.
     #[inline]
     pub fn take_out(&mut self, number: u32, parcel: &mut Parcel<CAP>) -> Outgoing<'_, CAP, HOPS>
         requires number { number < sum self.old.dims }
@@ -135,8 +136,8 @@ impl<const CAP: usize, const HOPS: usize> RankState<CAP, HOPS> {
         self.still_open -= 1;
     }
 
-    /// Takes a parcel that came from this neighbour into the inbox, which is wanted, for the empty one there. The link has
-    /// ended from now on where the parcel is marked last.
+    /// Takes a parcel that came from this neighbour into the inbox, which is wanted, for the empty
+    /// one there. The link has ended from now on where the parcel is marked last.
     #[inline]
     pub fn take_in(&mut self, number: u32, parcel: &mut Parcel<CAP>)
         requires number { number < sum self.old.dims }

@@ -116,7 +116,8 @@ impl<const CAP: usize> InLink<CAP> {
         self.parcel.len() == 0
     }
 
-    /// Exchanges the parcel at hand for the inbox. The link has ended from now on where that parcel is marked last.
+    /// Exchanges the parcel at hand for the inbox. The link has ended from now on where that parcel
+    /// is marked last.
     /// Answers whether the link is finished.
     #[inline]
     pub fn exchange(&mut self, parcel: &mut Parcel<CAP>) -> bool
@@ -163,8 +164,8 @@ pub fn hop_finished<const CAP: usize>(routes: &Routes, links: &[InLink<CAP>], h:
     all_finished(links, from as usize, routes.first_of(h + 1) as usize)
 }
 
-/// The lowest link from `from` on whose inbox has an entry. Most often it is `from` itself, which is looked at before
-/// the search.
+/// The lowest link from `from` on whose inbox has an entry. Most often it is `from` itself, which
+/// is looked at before the search.
 #[inline]
 pub fn first_unread<const CAP: usize>(links: &[InLink<CAP>], from: u32) -> Option<u32>
     requires within { from ≤ length links.now }

@@ -1,5 +1,5 @@
-//! Parcels lent by a move, by the number of the link: an open parcel that is due, and an inbox that is wanted. The rank's spare
-//! parcel is in the place of the one that is lent.
+//! Parcels lent by a move, by the number of the link: an open parcel that is due, and an inbox that
+//! is wanted. The rank's spare parcel is in the place of the one that is lent.
 
 ghost use Rattle.std.specs.Prelude.{◌≡◌, ◌<◌, ◌&&◌, slice_set, true, false, None};
 ghost use Rattle.std.specs.List.{All};
@@ -20,7 +20,8 @@ use item_buffer::Parcel;
 use std::snapshot::Snapshot;
 
 impl<const CAP: usize, const HOPS: usize> RankState<CAP, HOPS> {
-    /// Gives the spare parcel away, for a caller that carries parcels with `take_out` and `take_in`. From now on nothing can be lent.
+    /// Gives the spare parcel away, for a caller that carries parcels with `take_out` and
+    /// `take_in`. From now on nothing can be lent.
     pub fn take_spare(&mut self) -> Parcel<CAP>
         requires none_lent { self.old.lent ≡ Nothing }
         ensures parcel { result ≡ blank self.old.epoch }
@@ -32,8 +33,8 @@ impl<const CAP: usize, const HOPS: usize> RankState<CAP, HOPS> {
         spare
     }
 
-    /// Lends the open parcel of a link that is due, marked last if and only if its hop has reached its end. It comes back by
-    /// `note_sent`, before any other call.
+    /// Lends the open parcel of a link that is due, marked last if and only if its hop has reached
+    /// its end. It comes back by `note_sent`, before any other call.
     pub fn lend_out(&mut self, link: u32) -> Parcel<CAP>
         requires link { link < links self.old.dims }
         requires starts_here { sender_at self.old.dims link ≡ self.old.rank }
@@ -66,8 +67,8 @@ impl<const CAP: usize, const HOPS: usize> RankState<CAP, HOPS> {
         parcel
     }
 
-    /// Takes back the open parcel of a link, or the empty one that a post left in its place if it was sent. The link is closed
-    /// from now on if the parcel was sent and was marked last.
+    /// Takes back the open parcel of a link, or the empty one that a post left in its place if it
+    /// was sent. The link is closed from now on if the parcel was sent and was marked last.
     pub fn note_sent(&mut self, link: u32, p: Parcel<CAP>, sent: bool)
         requires link { link < links self.old.dims }
         requires starts_here { sender_at self.old.dims link ≡ self.old.rank }
@@ -92,7 +93,8 @@ impl<const CAP: usize, const HOPS: usize> RankState<CAP, HOPS> {
         self.loan = Loan::Nothing(parcel);
     }
 
-    /// Lends the inbox of a link that is wanted, empty. It comes back by `note_got`, before any other call.
+    /// Lends the inbox of a link that is wanted, empty. It comes back by `note_got`, before any
+    /// other call.
     pub fn lend_in(&mut self, link: u32) -> Parcel<CAP>
         requires link { link < links self.old.dims }
         requires ends_here { reader_at self.old.dims link ≡ self.old.rank }
@@ -114,8 +116,8 @@ impl<const CAP: usize, const HOPS: usize> RankState<CAP, HOPS> {
         parcel
     }
 
-    /// Takes back the inbox of a link, filled if `got`, and empty otherwise. The link has ended from now on if a parcel came that
-    /// is marked last.
+    /// Takes back the inbox of a link, filled if `got`, and empty otherwise. The link has ended
+    /// from now on if a parcel came that is marked last.
     pub fn note_got(&mut self, link: u32, p: Parcel<CAP>, got: bool)
         requires link { link < links self.old.dims }
         requires ends_here { reader_at self.old.dims link ≡ self.old.rank }

@@ -1,15 +1,18 @@
 //! One rank's part of a conveyor: its buffers, the relay between its hops, and the endgame.
 //!
-//! A rank has one *open parcel* for each link that starts there, which `push` and `relay` fill, and one
-//! *inbox* for each link that ends there, which `relay` and `pull` empty. Whoever carries parcels between
-//! ranks exchanges them for an empty one: `take_out` for an open parcel that is due, which borrows the state until
-//! the parcel is noted as `sent` or `put_back`; `take_in` for an inbox that is wanted. Or they borrow them: `lend_out` and `note_sent`,
-//! `lend_in` and `note_got`. A lent parcel leaves the state by a move, and the rank's spare one is in its place
-//! until it comes back. No entry is copied.
+//! A rank has one *open parcel* for each link that starts there, which `push` and `relay` fill, and
+//! one *inbox* for each link that ends there, which `relay` and `pull` empty. Whoever carries
+//! parcels between ranks exchanges them for an empty one: `take_out` for an open parcel that is
+//! due, which borrows the state until the parcel is noted as `sent` or `put_back`; `take_in` for an
+//! inbox that is wanted. Or they borrow them: `lend_out` and `note_sent`, `lend_in` and `note_got`.
+//! A lent parcel leaves the state by a move, and the rank's spare one is in its place until it
+//! comes back. No entry is copied.
 //!
-//! An epoch ends by *last marks*. A hop has reached its end when nothing more can come to it: hop 1 once
-//! `set_done` was called, hop h + 1 once every link in of hop h has ended and its entries were passed on.
-//! From then on each link out of that hop is due until its last parcel, which may be empty, was sent.
+//! An epoch ends by *last marks*. A hop has reached its end when nothing more can come to it: hop 1
+//! once `set_done` was called, hop h + 1 once every link in of hop h has ended and its entries were
+//! passed on.
+//! From then on each link out of that hop is due until its last parcel, which may be empty, was
+//! sent.
 //!
 //! | Phase | After `settle` it is this one exactly where |
 //! |---|---|
@@ -35,11 +38,13 @@
 //!
 //! No call after `RankState::new` takes memory.
 //!
-//! A rank's calls name a link by the number of the neighbour at its other end, ports by its number in the grid:
-//! route_tensor's `specs/Neighbour` leads from one to the other (`link_to`, `link_from`) and back (`out_index`, `in_index`).
+//! A rank's calls name a link by the number of the neighbour at its other end, ports by its number
+//! in the grid:
+//! route_tensor's `specs/Neighbour` leads from one to the other (`link_to`, `link_from`) and back
+//! (`out_index`, `in_index`).
 //!
-//! The definitions, in the order in which to read them: `Link`, `Lent` and `State` (what contracts see of a rank), `Lending` (what holds
-//! while a parcel is lent), `Relay` (what it passes on).
+//! The definitions, in the order in which to read them: `Link`, `Lent` and `State` (what contracts
+//! see of a rank), `Lending` (what holds while a parcel is lent), `Relay` (what it passes on).
 //! `Standing` is what the code keeps up.
 #![tactic(auto)]
 

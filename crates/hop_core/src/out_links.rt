@@ -52,7 +52,8 @@ impl<const CAP: usize> OutLink<CAP> {
         self.parcel.try_push(entry)
     }
 
-    /// Whether the parcel is to be sent now, where `at_end` says whether the link's hop has reached its end.
+    /// Whether the parcel is to be sent now, where `at_end` says whether the link's hop has reached
+    /// its end.
     #[inline]
     pub fn is_due(&self, steady: bool, at_end: bool) -> bool
         ensures { result ≡ is_due CAP steady at_end self.now }

@@ -8,8 +8,9 @@ use crate::state::RankState;
 use item_buffer::Parcel;
 use std::snapshot::Snapshot;
 
-/// What `take_out` leaves open: whether the parcel was sent. The state stays borrowed until `sent` or `put_back` says so,
-/// and a value of this type cannot be dropped, so one of them is the next call on the state.
+/// What `take_out` leaves open: whether the parcel was sent. The state stays borrowed until `sent`
+/// or `put_back` says so, and a value of this type cannot be dropped, so one of them is the next
+/// call on the state.
 pub struct Outgoing<'a, const CAP: usize, const HOPS: usize> {
     pub(crate) state: &'a mut RankState<CAP, HOPS>,
     pub(crate) number: u32,
@@ -41,7 +42,8 @@ impl<'a, const CAP: usize, const HOPS: usize> Outgoing<'a, CAP, HOPS> {
         }
     }
 
-    /// The parcel, which could not be sent, is put back as it was handed over, for the empty one in its place.
+    /// The parcel, which could not be sent, is put back as it was handed over, for the empty one in
+    /// its place.
     #[inline]
     pub fn put_back(self, parcel: &mut Parcel<CAP>)
         requires taken { IsTakenOut self.state.now self.number self.lent.value }

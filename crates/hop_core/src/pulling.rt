@@ -16,13 +16,15 @@ use bale_items::{Entry, Item, Tag};
 use route_tensor::Routes;
 
 impl<const CAP: usize, const HOPS: usize> RankState<CAP, HOPS> {
-    /// Passes entries on from the links in of hop `h` to the open parcels of the next hop, in order, until each of these
-    /// links is empty or the open parcel of its first entry is full. Answers how many it passed on.
+    /// Passes entries on from the links in of hop `h` to the open parcels of the next hop, in
+    /// order, until each of these links is empty or the open parcel of its first entry is full.
+    /// Answers how many it passed on.
     pub fn relay(&mut self, h: u32) -> u64
         requires first { 1 ≤ h }
         requires last { h < length self.old.dims }
 
-        // Of each pair of ranks that passes through, the rank holds the same items in the same order.
+        // Of each pair of ranks that passes through, the rank holds the same items in the same
+        // order.
         ensures held { (s d : ℕ) → PassesThrough self.old.dims self.old.rank s d h
             → held self.new s d h ≡ held self.old s d h }
         ensures adds { AddsToHop self.old.dims (h + 1) self.old.outs self.new.outs }
@@ -32,7 +34,8 @@ impl<const CAP: usize, const HOPS: usize> RankState<CAP, HOPS> {
         ensures count { result + waiting self.new.ins ≡ waiting self.old.ins }
         ensures rest { self.new ≡ record self.old { outs = self.new.outs; ins = self.new.ins; pulled = None } }
 
-        // The links in have their turns in ascending order, and nothing of a parcel changes but its entries and what was taken.
+        // The links in have their turns in ascending order, and nothing of a parcel changes but its
+        // entries and what was taken.
         ensures in_turn { record { outs = self.new.outs; ins = self.new.ins }
             ≡ relayed_hop self.old.dims self.old.rank self.old.cap h
             (record { outs = self.old.outs; ins = self.old.ins }) }
@@ -61,8 +64,8 @@ impl<const CAP: usize, const HOPS: usize> RankState<CAP, HOPS> {
         Some((sender::<HOPS>(&self.routes, from, entry.tag), entry.item))
     }
 
-    /// The link in of the last hop from which the next pull takes, by the number of its neighbour: the lowest one that has
-    /// an unread item.
+    /// The link in of the last hop from which the next pull takes, by the number of its neighbour:
+    /// the lowest one that has an unread item.
     #[inline]
     pub fn unread(&mut self) -> Option<u32>
         requires begun { self.old.phase ≢ Phase.Dormant }
@@ -82,7 +85,8 @@ impl<const CAP: usize, const HOPS: usize> RankState<CAP, HOPS> {
         }
     }
 
-    /// The unread entries of the link in from which the next pull takes, in order: so many pulls give their items.
+    /// The unread entries of the link in from which the next pull takes, in order: so many pulls
+    /// give their items.
     #[inline]
     pub fn batch(&self, number: u32) -> &[Entry]
         requires lowest { lowest_unread self.now ≡ Some number }
@@ -94,7 +98,8 @@ impl<const CAP: usize, const HOPS: usize> RankState<CAP, HOPS> {
         self.ins[number as usize].unread()
     }
 
-    /// The sender of an entry that came with this tag on the last hop, from neighbour number `number`.
+    /// The sender of an entry that came with this tag on the last hop, from neighbour number
+    /// `number`.
     #[inline]
     pub fn sender_of(&self, number: u32, tag: Tag) -> u32
         requires number { number < sum self.now.dims }
@@ -135,7 +140,8 @@ impl<const CAP: usize, const HOPS: usize> RankState<CAP, HOPS> {
     }
 }
 
-/// The sender of an entry that came with this tag on the last hop, from neighbour number `i`: on one hop that neighbour.
+/// The sender of an entry that came with this tag on the last hop, from neighbour number `i`: on
+/// one hop that neighbour.
 #[inline]
 fn sender<const HOPS: usize>(routes: &Routes, i: u32, tag: Tag) -> u32
     requires hops { length routes.now.dims ≡ HOPS }

@@ -16,8 +16,8 @@ use crate::out_links::OutLink;
 use bale_items::{Entry, Item};
 use route_tensor::Routes;
 
-/// Passes the entries of link in number `i` on, in order, until none is left or the open parcel of the first one is
-/// full. Answers how many it passed on.
+/// Passes the entries of link in number `i` on, in order, until none is left or the open parcel of
+/// the first one is full. Answers how many it passed on.
 pub fn relay_link<const CAP: usize>(
     routes: &Routes,
     outs: &mut Vec<OutLink<CAP>>,
@@ -47,8 +47,9 @@ pub fn relay_link<const CAP: usize>(
     count as u64
 }
 
-/// Appends the entries of link in number `i` to the open parcels of their next links, in order, until all are there or
-/// the open parcel of the next one is full. Answers how many it appended; they are still to be taken.
+/// Appends the entries of link in number `i` to the open parcels of their next links, in order,
+/// until all are there or the open parcel of the next one is full. Answers how many it appended;
+/// they are still to be taken.
 fn pass_on<const CAP: usize>(
     routes: &Routes,
     outs: &mut Vec<OutLink<CAP>>,

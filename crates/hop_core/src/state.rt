@@ -20,7 +20,8 @@ use route_tensor::{Grid, Onward, Routes};
 use std::alloc::Global;
 use std::marker::Model;
 
-/// The buffers, marks and phase of one rank, for parcels of `CAP` entries and routes of `HOPS` hops.
+/// The buffers, marks and phase of one rank, for parcels of `CAP` entries and routes of `HOPS`
+/// hops.
 #[derive(Drop)]
 pub struct RankState<const CAP: usize, const HOPS: usize> {
     pub(crate) routes: Routes,
@@ -191,7 +192,8 @@ impl<const CAP: usize, const HOPS: usize> RankState<CAP, HOPS> {
     }
 }
 
-/// Where an entry for `to` goes first: on one hop to that rank itself, by no table and with a tag of zeros.
+/// Where an entry for `to` goes first: on one hop to that rank itself, by no table and with a tag
+/// of zeros.
 #[inline]
 fn first_of<const HOPS: usize>(routes: &Routes, to: u32) -> Onward
     requires hops { length routes.now.dims ≡ HOPS }

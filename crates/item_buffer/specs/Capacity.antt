@@ -12,7 +12,8 @@ pub record IsCap (cap : ℕ) : Type 0 where
 abbrev pub capacities : List ℕ
 capacities = 1 ∷ 2 ∷ 4 ∷ 8 ∷ 16 ∷ 32 ∷ 64 ∷ 128 ∷ 256 ∷ 512 ∷ 1024 ∷ []
 
--- Whether the product is compiled for parcels of this capacity: it is for 64, and for 3 and 2,048 it isn't.
+-- Whether the product is compiled for parcels of this capacity: it is for 64, and for 3 and 2,048
+-- it isn't.
 abbrev pub is_capacity : ℕ → Bool
 is_capacity cap = list_any (λ size. size == cap) capacities
 

@@ -3,9 +3,10 @@ use Rattle.std.specs.Prelude.{◌≡◌, ℕ, ◌+◌, ◌-◌, ◌==◌, Bool, 
 use Rattle.std.specs.Prelude.{None}
 use Rattle.bale_items.specs.declared.item.Entry.{Entry}
 
--- A parcel: the entries that nobody took yet, its two marks, the entry that `untake` would put back, and
--- the number of entries taken since the last clear and not put back.
--- Example: at capacity 3, after pushing x and y and taking one, untaken is [y], back is Some x, taken is 1.
+-- A parcel: the entries that nobody took yet, its two marks, the entry that `untake` would put
+-- back, and the number of entries taken since the last clear and not put back.
+-- Example: at capacity 3, after pushing x and y and taking one, untaken is [y], back is Some x,
+-- taken is 1.
 pub record Contents : Type 0 where
   pub untaken : List Entry
   pub last : Bool

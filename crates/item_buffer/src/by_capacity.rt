@@ -1,6 +1,7 @@
 //! One case for each capacity.
 
-/// Calls a function that is compiled for each capacity, for one that `is_capacity` tells: each case hands the values on.
+/// Calls a function that is compiled for each capacity, for one that `is_capacity` tells: each case
+/// hands the values on.
 #[macro_export]
 macro_rules! by_capacity {
     ($cap:expr, $drive:ident::<$hops:tt, $($param:ty),*>, ($($value:expr),*)) => {

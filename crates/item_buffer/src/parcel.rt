@@ -8,12 +8,14 @@ use bale_items::{Entry, NoMemory};
 use std::alloc::Global;
 use std::marker::Model;
 
-/// At most `CAP` entries in the order in which they were pushed, of which the first ones may be taken,
-/// with two marks for their reader: whether the parcel is the last of its epoch, and the epoch.
+/// At most `CAP` entries in the order in which they were pushed, of which the first ones may be
+/// taken, with two marks for their reader: whether the parcel is the last of its epoch, and the
+/// epoch.
 #[derive(Drop)]
 pub struct Parcel<const CAP: usize> {
     held: Box<Held<CAP>>,
-    /// Counts from 0. It is beside the counts so that a reader of the entries writes none of their memory.
+    /// Counts from 0. It is beside the counts so that a reader of the entries writes none of their
+    /// memory.
     epoch: u64,
     /// How many of the places, from the first one on, hold an entry pushed since the last clear.
     pushed: u16,
@@ -77,7 +79,8 @@ impl<const CAP: usize> Parcel<CAP> {
         })
     }
 
-    /// Appends `entry`, or answers `false` where the parcel is full. None of its entries may be taken.
+    /// Appends `entry`, or answers `false` where the parcel is full. None of its entries may be
+    /// taken.
     #[inline]
     pub fn try_push(&mut self, entry: Entry) -> bool
         requires fresh { self.old.taken ≡ 0 }

@@ -1,4 +1,5 @@
--- Every walk has a walk with the same ends that meets no vertex twice and weighs at most as much: cycles are cut.
+-- Every walk has a walk with the same ends that meets no vertex twice and weighs at most as much:
+-- cycles are cut.
 use Rattle.std.proofs.Common.{ℕ, ◌+◌, ◌≤◌, ◌<◌, ◌≡◌, Bool, true, false, eqb, List, [], ◌∷◌, length, All, arith, inl, inr, refl, sym, subst}
 use Rattle.std.specs.Prelude.{◌||◌}
 use Rattle.std.specs.List.{list_any, IsDistinct, AllByRecursion}

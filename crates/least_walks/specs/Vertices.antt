@@ -47,7 +47,8 @@ weight_in width bucket (Some m) = m / width == bucket
 abbrev pub in_bucket : ℕ → ℕ → Vertex → Bool
 in_bucket width bucket v = weight_in width bucket v.weight
 
--- The places of the improved vertices that pass a test, ascending, of vertices of which the first stands at place k.
+-- The places of the improved vertices that pass a test, ascending, of vertices of which the first
+-- stands at place k.
 abbrev pub picked_from : (Vertex → Bool) → ℕ → List Vertex → List ℕ
 picked_from test k [] = []
 picked_from test k (v ∷ vs) =

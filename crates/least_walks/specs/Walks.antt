@@ -4,9 +4,11 @@ use Rattle.std.specs.List.{sum_by, list_all}
 use Rattle.bale_items.specs.declared.triple.Triple.{Triple}
 use Rattle.mtx_text.specs.Sparse.{Sparse}
 
--- A walk from vertex s to vertex t: a list of entries that join up, each an edge from its row to its column.
--- IsWalk entries s t (e1, .., ek): e1 begins at s, each begins where the one before it ends, and ek ends at t
--- Over (0,1,3), (1,2,2) the list (0,1,3), (1,2,2) is a walk from 0 to 2, and the empty list is one from 1 to 1.
+-- A walk from vertex s to vertex t: a list of entries that join up, each an edge from its row to
+-- its column.
+-- IsWalk entries s t (e1, .., ek): e1 begins at s, each begins where the one before it ends, and ek
+-- ends at t Over (0,1,3), (1,2,2) the list (0,1,3), (1,2,2) is a walk from 0 to 2, and the empty
+-- list is one from 1 to 1.
 abbrev pub IsWalk : List Triple → ℕ → ℕ → List Triple → Type 0
 IsWalk entries s t [] = s ≡ t
 IsWalk entries s t (e ∷ walk) = Contains entries e × (e.i ≡ s) × IsWalk entries e.j t walk

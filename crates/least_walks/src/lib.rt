@@ -1,7 +1,8 @@
-//! Least weights of walks over the entries of a matrix: what they are, and what a rank keeps of its own vertices.
+//! Least weights of walks over the entries of a matrix: what they are, and what a rank keeps of its
+//! own vertices.
 //!
-//! An entry `(i, j, v)` is an edge from vertex `i` to vertex `j`, and a walk weighs the sum of its edges
-//! (`specs/Walks`). Vertex `i` belongs to rank `i mod P`, which keeps it at place `i div P`.
+//! An entry `(i, j, v)` is an edge from vertex `i` to vertex `j`, and a walk weighs the sum of its
+//! edges (`specs/Walks`). Vertex `i` belongs to rank `i mod P`, which keeps it at place `i div P`.
 //!
 //! | Item | What it is |
 //! |---|---|
@@ -11,8 +12,10 @@
 //! | [`no_negative`] | whether the entries can be edges |
 //! | [`write_vertex`] | the line of a vertex |
 //!
-//! `proofs/Settled` has the lemma on which every answer stands: where no edge improves a weight, each is least.
-//! `proofs/Simple` cuts cycles out of walks, for bounds on rounds alone. `specs/code/Spans` tells how a table keeps its edges.
+//! `proofs/Settled` has the lemma on which every answer stands: where no edge improves a weight,
+//! each is least.
+//! `proofs/Simple` cuts cycles out of walks, for bounds on rounds alone. `specs/code/Spans` tells
+//! how a table keeps its edges.
 #![tactic(auto)]
 
 mod lines;

@@ -62,8 +62,8 @@ impl Table {
         }
     }
 
-    /// The edges of so many places with weights from `low` to `high`, in the order of the entries. It is fast where the entries
-    /// of each vertex stand together.
+    /// The edges of so many places with weights from `low` to `high`, in the order of the entries.
+    /// It is fast where the entries of each vertex stand together.
     ///
     /// # Errors
     ///
@@ -194,8 +194,8 @@ fn edge_of(ranks: u32, t: Triple) -> Edge
     }
 }
 
-/// Puts what the vertices at some places offer along their edges, place by place, in the place of what `outgoing` held, whose
-/// memory is kept.
+/// Puts what the vertices at some places offer along their edges, place by place, in the place of
+/// what `outgoing` held, whose memory is kept.
 ///
 /// # Errors
 ///
@@ -231,7 +231,8 @@ fn edges_at(table: &Table, places: &[u32]) -> usize
     count
 }
 
-/// Appends what a vertex with a weight offers along its edges. Room is looked for once for them all.
+/// Appends what a vertex with a weight offers along its edges. Room is looked for once for them
+/// all.
 fn offer_all(outgoing: &mut Vec<(u32, Item)>, weight: u64, edges: &[Edge]) -> Result<(), NoMemory>
     ensures { OnOk result (outgoing.new.items ≡ outgoing.old.items ++ map (offer weight) edges.now) }
 {

@@ -111,8 +111,9 @@ module _ {T : Type 0} (w : Wiring) where
     found = ok.found;
   }
 
--- A collect that answers Nothing leaves its link unmarked, with all that was seen taken. So where the link's bit isn't set either, as right
--- after a hear of its doorbell, each parcel offered so far is taken: none is left that was offered before the port listened.
+-- A collect that answers Nothing leaves its link unmarked, with all that was seen taken. So where
+-- the link's bit isn't set either, as right after a hear of its doorbell, each parcel offered so
+-- far is taken: none is left that was offered before the port listened.
 pub none_left : {T : Type 0} (w : Wiring) (l : ℕ) (o : OutLog T) (i : InLog T) (words : List ℕ) → BellOk w l o i words → bit_at (get_or words (bell_word w l) 0) (w.bit l) ≡ 0 → i.marked ≡ false → length i.seen ≡ i.taken → o.offered ≤ i.taken
 none_left w l o i words ok unset unmarked all =
     ⊎_elim (λ set. absurd (omega arith)) (⊎_elim (λ marked. absurd (let no : true ≡ false = sym marked ∙ unmarked in cc)) (λ seen. omega arith)) ok.told

@@ -242,7 +242,8 @@ module _ {D T : Type 0} (Blank : T → Type 0) (Good : ℕ → List T → T → 
         ),
       )
 
-  -- a seat lays down all that it holds and takes it up again, and nothing is changed but the order in its hands
+  -- a seat lays down all that it holds and takes it up again, and nothing is changed but the order
+  -- in its hands
   brought : (s : State T (View D T)) (ok : Rule s) (id k : ℕ) (v : View D T) (c : List (ℕ × T)) (j : ℕ) (y : ℕ × T) → get_elem? s.views id ≡ some v → Speaks v → Holds Blank w v.pick (own_logs v) c → get_elem? c j ≡ some y
       → Rule (record { words = set s.words k (get_or s.words k 0); homes = homes_after s.homes c (fetch c j y); views = set s.views id v })
   brought s ok id k v c j y at speaks held there =

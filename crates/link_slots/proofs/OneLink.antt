@@ -1,4 +1,5 @@
--- One link stays in order under each single move: a slot is taken, or given back with the step on a counting word.
+-- One link stays in order under each single move: a slot is taken, or given back with the step on a
+-- counting word.
 use Rattle.std.proofs.Common.{◌≡◌, ◌≢◌, ℕ, suc, ◌+◌, ◌*◌, ◌^◌, ◌%◌, ◌<◌, ◌≤◌, Bool, List, [], ◌∷◌, ◌++◌, length, get_or, take, set, sym, ap, ◌∙◌, subst, ⊎_elim, arith, length-append, get_or-set_same, get_or-set_other}
 use Rattle.std.proofs.lemmas.List.{take-append-le}
 use Rattle.std.proofs.Math.Seq.{take-length}

@@ -1,4 +1,5 @@
--- One rank's lists change in the view that has them, and the rule holds of the other ranks and seats as before.
+-- One rank's lists change in the view that has them, and the rule holds of the other ranks and
+-- seats as before.
 use Rattle.std.proofs.Common.{◌≡◌, ◌≢◌, ℕ, zero, suc, ◌+◌, ◌*◌, ◌^◌, ◌<◌, Bool, cond, eqb, List, [], ◌∷◌, length, get_or, set, sym, refl, ap, ◌∙◌, subst, ⊎_elim, arith, Option, Some, None, length-set, get_or-set_same, get_or-set_other, eq-eqb, ne_eqb}
 use mathlib.Core.Logic.{dite}
 use mathlib.Core.Option as maybe
@@ -31,7 +32,8 @@ module _ {A : Type 0} where
   pub put_else : (f : ℕ → A) (r : ℕ) (a : A) (q : ℕ) → q ≢ r → put f r a q ≡ f q
   put_else f r a q n = ap (λ (b : Bool). cond b a (f q)) (ne_eqb q r n)
 
--- what a step at the link l does to the words: the others' counts stay, and so do the bits that are set for them
+-- what a step at the link l does to the words: the others' counts stay, and so do the bits that are
+-- set for them
 pub record WordsKept (w : Wiring) (l : ℕ) (ws ws' : List ℕ) : Type 0 where
   pub counts : (k : ℕ) → k < 16 * (2 * w.links) → k ≢ posted_word l → k ≢ released_word l → get_or ws' k 0 ≡ get_or ws k 0
   pub bits : (m : ℕ) → m < w.links → m ≢ l → bit_at (get_or ws (bell_word w m) 0) (w.bit m) ≡ 1 → bit_at (get_or ws' (bell_word w m) 0) (w.bit m) ≡ 1

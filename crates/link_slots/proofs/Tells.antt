@@ -38,7 +38,8 @@ module _ {S V : Type 0} (holds : State S V → Type 0) (slots id i : ℕ) (me : 
   looked f P s ok at false same t =
       (me.0, keeps, tt, subst (λ (z : List ℕ × List V). holds (record { words = z.0; homes = s.homes; views = z.1 })) (λ k. (sym (set-get_or s.words i 0) k, sym (set_again s.views id me.0 at) k)) ok, refl)
 
-  -- A load may be the step where that would leave the number as it is, and where it wouldn't the load changes nothing.
+  -- A load may be the step where that would leave the number as it is, and where it wouldn't the
+  -- load changes nothing.
   looks_first : (f : ℕ → ℕ) (P : ℕ → Me S V → Type 0) (is_same : ℕ → Bool) → ((n : ℕ) → is_same n ≡ true → f n ≡ n)
       → Allows holds slots id me i f P → Allows holds slots id me i (λ n. n) (λ n m'. LookedFirst (is_same n) (P n) me m')
   looks_first f P is_same same allows s ok deep at fits = let n : ℕ = get_or s.words i 0 in looked f (P n) s ok at (is_same n) (same n) (allows s ok deep at fits)
@@ -159,7 +160,8 @@ pub rung_is : (cap : ℕ) (shape : Shape) (l : ℕ) (m : Me Contents Knowing) (w
 rung_is cap shape l m word mask count n m' manned inside at bit told =
     subst (λ (z : Shape). l < links z.dims → word ≡ bell_word (wiring z) l → mask ≡ 2 ^ (wiring z).bit l → rung cap z l m m') manned.of (told l) inside at bit
 
--- the same with a look before it, as code reads the word: where the look finds the bit set, it is the ring
+-- the same with a look before it, as code reads the word: where the look finds the bit set, it is
+-- the ring
 module _ (cap : ℕ) (shape : Shape) (l : ℕ) (m : Me Contents Knowing) (word mask count n : ℕ) (m' : Me Contents Knowing) (manned : IsManned shape m) (inside : l < links shape.dims) (mine : sender_at shape.dims l ≡ m.0.pick)
     (at : word ≡ bell_word (wiring shape) l) (bit : mask ≡ 2 ^ (wiring shape).bit l) (told : ring_look_told cap (step count word 0 0 none) m n m') where
   look_is : LookedFirst (eqb (bit_at n ((wiring shape).bit l)) 1) (rung cap shape l m) m m'
@@ -174,7 +176,8 @@ module _ (cap : ℕ) (shape : Shape) (l : ℕ) (m : Me Contents Knowing) (word m
   pub rung_after_look : bit_and n mask ≡ 0 → (k : ℕ) (m'' : Me Contents Knowing) → ring_told cap (step count word mask 0 none) m' k m'' → rung cap shape l m m''
   rung_after_look unset k m'' = subst (λ (z : Me Contents Knowing). ring_told cap (step count word mask 0 none) z k m'' → rung cap shape l m m'') (sym (not_yet_rung unset)) (rung_is cap shape l m word mask count k m'' manned inside at bit)
 
--- what a hear of the doorbell b with a look before it tells: where the look finds no bit set, it is the hear
+-- what a hear of the doorbell b with a look before it tells: where the look finds no bit set, it is
+-- the hear
 module _ (cap : ℕ) (shape : Shape) (b : ℕ) (m : Me Contents Knowing) (word count n : ℕ) (m' : Me Contents Knowing) (manned : IsManned shape m) (at : word ≡ 16 * (2 * (wiring shape).links + b))
     (told : hear_look_told cap (step count word 0 0 none) m n m') where
   found_is : LookedFirst (eqb n 0) (heard cap shape b m n) m m'

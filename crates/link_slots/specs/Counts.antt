@@ -32,8 +32,8 @@ pub record HasPosted (slots : ℕ) (o o' : OutLog Contents) (p : Contents) (answ
   pub all_room : answer ≡ NoRoom → slots ≤ o'.room
   pub not_sent : answer ≡ NoRoom → o'.sent ≡ o.sent
 
--- The sender counts what it posted, modulo 2^64, and its empty slots at hand. Once it has looked for room,
--- its room is at least all slots.
+-- The sender counts what it posted, modulo 2^64, and its empty slots at hand. Once it has looked
+-- for room, its room is at least all slots.
 -- Example: with 2 slots, after three posts and one look that found all taken: sent 3, spare 2.
 pub record IsOutEnd {T : Type 0} (slots : ℕ) (o : OutLog T) (sent spare : ℕ) : Type 0 where
   pub sent_is : sent ≡ length o.sent % 2 ^ 64
@@ -41,20 +41,21 @@ pub record IsOutEnd {T : Type 0} (slots : ℕ) (o : OutLog T) (sent spare : ℕ)
   pub few : spare ≤ slots
   pub looked : (o.room ≡ 0) ⊎ (slots ≤ o.room)
 
--- How often a link had been listened for when its doorbell had been heard so often: only a collect of
--- the link looks into it.
+-- How often a link had been listened for when its doorbell had been heard so often: only a collect
+-- of the link looks into it.
 abbrev pub noted_by : {T : Type 0} → ℕ → InLog T → ℕ
 noted_by hears i = counted (hears + i.look_ins)
 
--- The reader counts what it took in the same two ways, the parcels at hand, and how often it had heard
--- the link's doorbell at the end of its latest collect.
+-- The reader counts what it took in the same two ways, the parcels at hand, and how often it had
+-- heard the link's doorbell at the end of its latest collect.
 pub record IsInEnd {T : Type 0} (slots : ℕ) (i : InLog T) (taken waiting noted : ℕ) : Type 0 where
   pub taken_is : taken ≡ i.taken % 2 ^ 64
   pub waiting_is : length i.seen ≡ i.taken + waiting
   pub few : waiting ≤ slots
   pub noted_before : noted ≤ counted i.hears
 
--- The links into a rank on hop h: each is marked where its bit is set, and their doorbell was heard so often.
+-- The links into a rank on hop h: each is marked where its bit is set, and their doorbell was heard
+-- so often.
 pub record IsHeard (shape : Shape) (rank h : ℕ) (x : Lists Contents) (marks hears : ℕ) : Type 0 where
   pub marked : (l : ℕ) → l < links shape.dims → reader_at shape.dims l ≡ rank → hop_at shape.dims l ≡ h
       → (in_of x l).marked ≡ (bit_at marks ((wiring shape).bit l) == 1)
@@ -67,7 +68,8 @@ AreGood cap shape l i = (n : ℕ) (p : Contents) → get_elem? i.seen n ≡ some
     → MayFollow shape.dims cap l (take n i.seen) p
 
 -- What is kept of a link by its number: the word and the bit of its doorbell, and its hop less 1.
--- bell = 2*links + r*k + h - 1 and mask = 2^c, for a link of hop h to rank r from a rank whose coordinate h is c
+-- bell = 2*links + r*k + h - 1 and mask = 2^c, for a link of hop h to rank r from a rank whose
+-- coordinate h is c
 pub record IsWire (dims : List ℕ) (l bell mask hop : ℕ) : Type 0 where
   pub bell_is : bell ≡ 16 * (2 * links dims + (reader_at dims l * length dims + (hop_at dims l - 1)))
   pub mask_is : mask ≡ 2 ^ coord dims (sender_at dims l) (hop_at dims l)

@@ -19,7 +19,8 @@ module _ {T : Type 0} where
   HeardWhere true i j = (j ≡ heard_by (j.heard - i.heard) i) × (j.heard ≤ suc i.heard)
   HeardWhere false i j = j ≡ i
 
-  -- What a link in becomes by a look in, where it was marked: what is seen then is `seen`, and the mark is taken away.
+  -- What a link in becomes by a look in, where it was marked: what is seen then is `seen`, and the
+  -- mark is taken away.
   abbrev pub looked_where_marked : List T → InLog T → InLog T
   looked_where_marked seen i =
       record i { seen = seen; marked = false; look_ins = i.look_ins + one_where i.marked }

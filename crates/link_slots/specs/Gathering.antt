@@ -18,7 +18,8 @@ use Rattle.link_slots.specs.Own.{IsOwn}
 use Rattle.list_laws.specs.Counts.{counted}
 use Rattle.link_slots.specs.Closed.{logs_at, ended_of}
 
--- What contracts see of it: its bank, the lists of each rank that has no seat, and which ranks' seats were given out.
+-- What contracts see of it: its bank, the lists of each rank that has no seat, and which ranks'
+-- seats were given out.
 -- Example: at first the lists of all ranks are there and empty, and no rank is given out.
 pub record Gathering : Type 0 where
   pub id : TableId

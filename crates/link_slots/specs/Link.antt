@@ -1,4 +1,5 @@
--- One link of a lawful bank: its two words, its slots, its doorbell bit, and what its sender and its reader know.
+-- One link of a lawful bank: its two words, its slots, its doorbell bit, and what its sender and
+-- its reader know.
 use Rattle.std.specs.Prelude.{◌≡◌, ◌⊎◌, ℕ, ◌+◌, ◌^◌, ◌%◌, ◌<◌, ◌≤◌, Bool, true, false, List, take, length}
 use Rattle.std.specs.Prelude.{slice_index_or}
 use Rattle.std.specs.Int.{bit_at}
@@ -39,8 +40,9 @@ module _ {T : Type 0} (w : Wiring) where
   -- Part (vi) for a link l: no parcel is offered that was not posted; where the doorbell's bit is
   -- not set and the link is not marked, all offered parcels are seen; each look in answers one bit
   -- that was heard; and where the reader has heard the doorbell since the sender last rang, and the
-  -- link is not marked, all offered parcels are seen: no hear is counted that passes over a ring. And
-  -- where the sender has looked for room since the latest release, it may use every slot that is free:
+  -- link is not marked, all offered parcels are seen: no hear is counted that passes over a ring.
+  -- And where the sender has looked for room since the latest release, it may use every slot that
+  -- is free:
   -- no look is counted that passes over a release.
   pub record BellOk (l : ℕ) (o : OutLog T) (i : InLog T) (words : List ℕ) : Type 0 where
     pub offered_sent : o.offered ≤ length o.sent

@@ -5,8 +5,8 @@ use Rattle.std.specs.Prelude.{ℕ, suc, ◌+◌, ◌∷◌, ◌++◌, Bool, fals
 -- The sender's side of a link: the parcels that it posted, in order; the numbers below which it may
 -- post; how many parcels had been posted when it last rang; how often it looked for room; and how
 -- often its reader had heard the doorbell when it last rang.
--- Example: with 2 slots, after two posts and a third that found no room, `sent` has two parcels, and
--- `room` is 2.
+-- Example: with 2 slots, after two posts and a third that found no room, `sent` has two parcels,
+-- and `room` is 2.
 pub record OutLog (T : Type 0) : Type 0 where
   pub sent : List T
   pub room : ℕ
@@ -32,13 +32,14 @@ module _ {T : Type 0} where
   abbrev pub got : InLog T → List T
   got i = take i.taken i.seen
 
-  -- How often the reader listened for the link: the hears of its doorbell and the looks into the link.
+  -- How often the reader listened for the link: the hears of its doorbell and the looks into the
+  -- link.
   abbrev pub listens : InLog T → ℕ
   listens i = i.hears + i.look_ins
 
 module _ {T : Type 0} where
-  -- One parcel more is posted; all that are posted are offered, where the reader had heard the doorbell
-  -- so often; one parcel more is taken, where the sender had looked for room so often.
+  -- One parcel more is posted; all that are posted are offered, where the reader had heard the
+  -- doorbell so often; one parcel more is taken, where the sender had looked for room so often.
   abbrev pub sent_more : OutLog T → T → OutLog T
   sent_more o p = record o { sent = o.sent ++ p ∷ [] }
 
@@ -48,7 +49,8 @@ module _ {T : Type 0} where
   abbrev pub taken_more : InLog T → ℕ → InLog T
   taken_more i looks = record i { taken = suc i.taken; released_at = looks }
 
-  -- A look for room found every slot taken: the sender may post no more, and nothing else is changed.
+  -- A look for room found every slot taken: the sender may post no more, and nothing else is
+  -- changed.
   abbrev pub found_full : OutLog T → OutLog T
   found_full o = record o { room = length o.sent; looks = suc o.looks }
 

@@ -34,8 +34,8 @@ BellLaw cap = (shape : Shape) (s : State Contents Knowing) (l : ℕ) → (bank :
     → IsUnset shape l s → IsSettledFor (in_of (bank.logs (reader_at shape.dims l)) l)
     → (out_of (bank.logs (sender_at shape.dims l)) l).offered ≤ (in_of (bank.logs (reader_at shape.dims l)) l).taken
 
--- And so has one that has heard the doorbell since the sender last rang, whether it is rung anew or not: a
--- hear that is counted was made.
+-- And so has one that has heard the doorbell since the sender last rang, whether it is rung anew or
+-- not: a hear that is counted was made.
 abbrev pub HeardLaw : ℕ → Type 0
 HeardLaw cap = (shape : Shape) (s : State Contents Knowing) (l : ℕ) → (bank : IsLawful cap shape s)
     → l < links shape.dims
@@ -43,8 +43,8 @@ HeardLaw cap = (shape : Shape) (s : State Contents Knowing) (l : ℕ) → (bank 
     → IsSettledFor (in_of (bank.logs (reader_at shape.dims l)) l)
     → (out_of (bank.logs (sender_at shape.dims l)) l).offered ≤ (in_of (bank.logs (reader_at shape.dims l)) l).taken
 
--- And the step that counts a hear marks the link, unless every offered parcel is seen: from the state s to
--- s' the link's sender did nothing, and its reader heard once more.
+-- And the step that counts a hear marks the link, unless every offered parcel is seen: from the
+-- state s to s' the link's sender did nothing, and its reader heard once more.
 abbrev pub HearLaw : ℕ → Type 0
 HearLaw cap = (shape : Shape) (s s' : State Contents Knowing) (l : ℕ) → (was : IsLawful cap shape s)
     → (now : IsLawful cap shape s') → l < links shape.dims

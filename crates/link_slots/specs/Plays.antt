@@ -1,4 +1,5 @@
--- What each step tells the seat that makes it. After each of them the seat holds the slots of its own numbers.
+-- What each step tells the seat that makes it. After each of them the seat holds the slots of its
+-- own numbers.
 use Rattle.std.specs.Prelude.{◌≡◌, ℕ, zero, suc, if◌then◌else◌, ◌+◌, ◌-◌, ◌^◌, ◌%◌, ◌≤◌, Bool, true, false, eqb, List}
 use Rattle.std.specs.Prelude.{[], ◌∷◌, ◌++◌, length, take}
 use Rattle.std.specs.Int.{bit_at}
@@ -50,7 +51,8 @@ LookedFirst true Done m m' = Done m'
 LookedFirst false Done m m' = m' ≡ m
 
 module _ {D T : Type 0} (Blank : T → Type 0) (Good : ℕ → List T → T → Type 0) (w : Wiring) where
-  -- Look for room: the sender may post K more than were released, and takes the slots that came free.
+  -- Look for room: the sender may post K more than were released, and takes the slots that came
+  -- free.
   abbrev pub found_room : ℕ → Me T (View D T) → ℕ → Me T (View D T) → Type 0
   found_room l m n m' =
       let x = own_logs m.0 in let o = out_of x l in
@@ -72,7 +74,8 @@ module _ {D T : Type 0} (Blank : T → Type 0) (Good : ℕ → List T → T → 
       ))
       × Holds Blank w m.0.pick (own_logs m'.0) m'.1
 
-  -- Look in: the reader sees the parcels that were posted, takes their slots, and takes the mark away.
+  -- Look in: the reader sees the parcels that were posted, takes their slots, and takes the mark
+  -- away.
   abbrev pub looked_in : ℕ → Me T (View D T) → ℕ → Me T (View D T) → Type 0
   looked_in l m n m' =
       let x = own_logs m.0 in let i = in_of x l in let i' = in_of (own_logs m'.0) l in
@@ -84,8 +87,8 @@ module _ {D T : Type 0} (Blank : T → Type 0) (Good : ℕ → List T → T → 
       (record i { seen = i'.seen; marked = false; look_ins = suc i.look_ins })))
       × Holds Blank w m.0.pick (own_logs m'.0) m'.1
 
-  -- Release: one parcel more is taken, and its slot goes home; the bank keeps how often the sender had
-  -- looked for room then.
+  -- Release: one parcel more is taken, and its slot goes home; the bank keeps how often the sender
+  -- had looked for room then.
   abbrev pub released : ℕ → Me T (View D T) → Me T (View D T) → Type 0
   released l m m' =
       let x = own_logs m.0 in let i = in_of x l in
@@ -112,8 +115,8 @@ module _ {D T : Type 0} (Blank : T → Type 0) (Good : ℕ → List T → T → 
       × Holds Blank w m.0.pick x m'.1
       × (w.from l ≡ m.0.pick → Begins i.seen (out_of x l).sent)
 
-  -- Ring: all parcels posted so far are offered, and the bank keeps how often their reader had heard
-  -- the doorbell then.
+  -- Ring: all parcels posted so far are offered, and the bank keeps how often their reader had
+  -- heard the doorbell then.
   abbrev pub rung : ℕ → Me T (View D T) → Me T (View D T) → Type 0
   rung l m m' =
       let x = own_logs m.0 in let o = out_of x l in

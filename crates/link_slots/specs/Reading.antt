@@ -14,8 +14,8 @@ use Rattle.link_slots.specs.Shape.{Shape}
 use Rattle.link_slots.specs.Told.{Knowing, IsAtIn, StaysSeated}
 use Rattle.link_slots.specs.Counts.{IsInEnd, IsWire, IsHeard, ElseKept}
 
--- A rank's seat m in its place, and link l, which ends at the rank. What the rank counts of the link and of
--- its hop's doorbell, beside the table, is what the seat's lists tell.
+-- A rank's seat m in its place, and link l, which ends at the rank. What the rank counts of the
+-- link and of its hop's doorbell, beside the table, is what the seat's lists tell.
 pub record ReadsLink (shape : Shape) (table place : TableId) (m : Me Contents Knowing) (l : ℕ) (counts : InEnd)
     (way : Wire) (bell : Ear) : Type 0 where
   pub at : IsAtIn shape table place m l
@@ -24,8 +24,8 @@ pub record ReadsLink (shape : Shape) (table place : TableId) (m : Me Contents Kn
   pub wire : IsWire shape.dims l way.bell way.mask way.hop
   pub ear : IsHeard shape m.0.pick (hop_at shape.dims l) (own_logs m.0) bell.marks bell.hears
 
--- What a rank's step on that link leaves, from m to m': its counts tell again what its lists do, the lists are all that
--- changed of the seat, and of the other links what a hear tells alone.
+-- What a rank's step on that link leaves, from m to m': its counts tell again what its lists do,
+-- the lists are all that changed of the seat, and of the other links what a hear tells alone.
 pub record HasRead (shape : Shape) (place place' : TableId) (m m' : Me Contents Knowing) (l : ℕ) (counts : InEnd)
     (bell : Ear) : Type 0 where
   pub stays : StaysSeated shape place place' m'

@@ -24,7 +24,8 @@ pub record IsShape (s : Shape) : Type 0 where
   pub few : s.slots ≤ 8
   pub counts : IsSlots s.slots
 
--- The doorbell of rank r and hop h is number r*k + h - 1; bit c of it is rung by the sender whose coordinate h is c.
+-- The doorbell of rank r and hop h is number r*k + h - 1; bit c of it is rung by the sender whose
+-- coordinate h is c.
 -- Example: in the grid 2, link 1 leads from rank 0 to rank 1 and has bit 0 of doorbell 1.
 abbrev pub wiring : Shape → Wiring
 wiring s = record {

@@ -1,4 +1,5 @@
--- The plays of the slot bank's steps: the link, or the doorbell, is read off the word that the step is made on.
+-- The plays of the slot bank's steps: the link, or the doorbell, is read off the word that the step
+-- is made on.
 use Rattle.std.specs.Prelude.{◌≡◌, ℕ, ◌+◌, ◌*◌, ◌^◌, ◌<◌, eqb}
 use Rattle.std.specs.Int.{bit_at}
 use Rattle.item_buffer.specs.Contents.{Contents}
@@ -27,7 +28,8 @@ pub record IsManned (shape : Shape) (m : Me Contents Knowing) : Type 0 where
   pub speaks : Speaks m.0
   pub holds : Holds IsBlank (wiring shape) m.0.pick (own_logs m.0) m.1
 
--- A rank's seat m in its place at the bank's table, and a link that starts at the rank; or one that ends there.
+-- A rank's seat m in its place at the bank's table, and a link that starts at the rank; or one that
+-- ends there.
 pub record IsAtOut (shape : Shape) (table place : TableId) (m : Me Contents Knowing) (l : ℕ) : Type 0 where
   pub here : place ≡ table
   pub board : IsBoard shape table

@@ -18,7 +18,8 @@ pub record Wiring : Type 0 where
 abbrev pub word_at : ℕ → ℕ
 word_at n = 16 * n
 
--- The words that count the parcels posted on a link, and those released by its reader; both modulo 2^64.
+-- The words that count the parcels posted on a link, and those released by its reader; both modulo
+-- 2^64.
 abbrev pub posted_word : ℕ → ℕ
 posted_word l = word_at (2 * l)
 
@@ -27,7 +28,8 @@ released_word l = word_at (2 * l + 1)
 
 module _ (w : Wiring) where
   -- The slot through which parcel number n of a link goes: K*l + n mod K.
-  -- Example: with 2 slots, parcels 0, 2 and 4 of link 3 go through slot 6, parcels 1 and 3 through slot 7.
+  -- Example: with 2 slots, parcels 0, 2 and 4 of link 3 go through slot 6, parcels 1 and 3 through
+  -- slot 7.
   abbrev pub slot_of : ℕ → ℕ → ℕ
   slot_of l n = w.slots * l + n % w.slots
 
@@ -35,7 +37,8 @@ module _ (w : Wiring) where
   abbrev pub bell_word : ℕ → ℕ
   bell_word l = word_at (2 * w.links + w.bell l)
 
-  -- Each link has one bit of one doorbell, all of a doorbell's links have one reader, and a link has at least one slot.
+  -- Each link has one bit of one doorbell, all of a doorbell's links have one reader, and a link
+  -- has at least one slot.
   pub record IsWired : Type 0 where
     pub some_slots : 0 < w.slots
     pub few_slots : w.slots ≤ 64

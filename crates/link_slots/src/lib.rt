@@ -1,9 +1,10 @@
 //! Links between ranks by slot exchange: a bank that threads share without a lock.
 //!
-//! A link has 1, 2, 4 or 8 slots, each with a parcel in it. To post, a rank exchanges its full parcel for the empty
-//! one in a slot; to collect, its empty one for the full one. Two words for each link count what was posted and what
-//! was released, and one doorbell word for each rank and hop tells a reader which links were rung for. After `new`
-//! no memory is taken, and no call waits. docs/SLOT_LINKS.md tells which accident each step prevents.
+//! A link has 1, 2, 4 or 8 slots, each with a parcel in it. To post, a rank exchanges its full
+//! parcel for the empty one in a slot; to collect, its empty one for the full one. Two words for
+//! each link count what was posted and what was released, and one doorbell word for each rank and
+//! hop tells a reader which links were rung for. After `new` no memory is taken, and no call waits.
+//! docs/SLOT_LINKS.md tells which accident each step prevents.
 //!
 //! | Call | Answer |
 //! |---|---|
@@ -19,10 +20,12 @@
 //! | `room_law` | a post that answers NoRoom after a look found every slot taken |
 //! | `SlotRound::ranks`, `SlotRound::epochs` | the number of ranks; how many epochs every link has ended |
 //!
-//! The definitions, in the order in which to read them: `Logs` (what a rank knows of its links), `Shape` (grid and slots), `Seen` (a bank and
-//! a seat, as contracts see them), `Doorbell` (when a collect hears and looks), `Offered` and `Room` (what Nothing and NoRoom say), `Does` (a call on a port), `Closed` (a closed round) and
-//! `Gathering` (a gathering seat, as contracts see it).
-//! `Wiring`, `View`, `Link`, `Bank`, `Told` and `Plays` are the rule of the table and its steps; the others are the code's own.
+//! The definitions, in the order in which to read them: `Logs` (what a rank knows of its links),
+//! `Shape` (grid and slots), `Seen` (a bank and a seat, as contracts see them), `Doorbell` (when a
+//! collect hears and looks), `Offered` and `Room` (what Nothing and NoRoom say), `Does` (a call on
+//! a port), `Closed` (a closed round) and `Gathering` (a gathering seat, as contracts see it).
+//! `Wiring`, `View`, `Link`, `Bank`, `Told` and `Plays` are the rule of the table and its steps;
+//! the others are the code's own.
 #![tactic(auto)]
 
 mod port;

@@ -1,4 +1,5 @@
-//! A rank's seat: what the rank knows of its links at the bank's table, and what it counts beside it.
+//! A rank's seat: what the rank knows of its links at the bank's table, and what it counts beside
+//! it.
 ghost use Rattle.std.specs.Prelude.{◌≡◌, ◌≢◌, ◌⊎◌, ℕ, ◌<◌, ◌≤◌, false, length, slice_set, slice_index_or};
 ghost use Rattle.item_buffer.specs.Contents.{shipped, arrived, blank};
 ghost use Rattle.route_tensor.specs.Link.{links};
@@ -30,7 +31,8 @@ use item_buffer::Parcel;
 use port_bank::{Collected, Posted};
 use std::marker::Model;
 
-/// One rank's seat at a bank. It may go to another thread; a port is made of it where the rank's parcels are.
+/// One rank's seat at a bank. It may go to another thread; a port is made of it where the rank's
+/// parcels are.
 #[derive(Drop)]
 pub struct SlotSeat<const CAP: usize> {
     pub(crate) place: Place<CAP>,
@@ -40,7 +42,8 @@ pub struct SlotSeat<const CAP: usize> {
     pub(crate) ins: Vec<InEnd>,
     /// By the hop, from 0.
     pub(crate) ears: [Ear; 3],
-    /// How many parcels marked last were collected of each link in; it stands still at the last number.
+    /// How many parcels marked last were collected of each link in; it stands still at the last
+    /// number.
     pub(crate) ended: Vec<u64>,
 }
 
@@ -115,8 +118,9 @@ impl<const CAP: usize> SlotSeat<CAP> {
 
     /// Collects the next parcel of a link into this rank.
     ///
-    /// Where the rank knows of a parcel, that is all. Else it hears the doorbell of the link's hop where a hear is due, which marks every link
-    /// whose bit it finds; and then it looks in where the link is marked.
+    /// Where the rank knows of a parcel, that is all. Else it hears the doorbell of the link's hop
+    /// where a hear is due, which marks every link whose bit it finds; and then it looks in where
+    /// the link is marked.
     #[inline]
     pub fn collect(
         &mut self,

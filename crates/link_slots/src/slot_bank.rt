@@ -30,7 +30,8 @@ use std::alloc::Global;
 use std::marker::Model;
 use std::snapshot::Snapshot;
 
-/// A bank of links by slot exchange, for the parcels of capacity `CAP`. Threads share it by reference.
+/// A bank of links by slot exchange, for the parcels of capacity `CAP`. Threads share it by
+/// reference.
 #[derive(Drop)]
 pub struct SlotBank<const CAP: usize> {
     pub(crate) board: Board<CAP>,
@@ -53,8 +54,8 @@ impl<const CAP: usize> Model for SlotBank<CAP> {
 }
 
 impl<const CAP: usize> SlotBank<CAP> {
-    /// A bank on which nothing was sent, and its gathering seat, which has given out no rank's seat. It takes all the memory that the links
-    /// ever need. A link has 1, 2, 4 or 8 slots.
+    /// A bank on which nothing was sent, and its gathering seat, which has given out no rank's
+    /// seat. It takes all the memory that the links ever need. A link has 1, 2, 4 or 8 slots.
     pub fn new(
         alloc: Global,
         grid: &Grid,
@@ -90,8 +91,9 @@ impl<const CAP: usize> SlotBank<CAP> {
 }
 
 impl<const CAP: usize> SlotBank<CAP> {
-    /// Ends the exchange, where each rank's seat was gathered or never given out: what each rank pulled is the front of what the others
-    /// pushed toward it, and all of it in each epoch that every link has ended. Of each gathered rank, the round has the logs of its seat.
+    /// Ends the exchange, where each rank's seat was gathered or never given out: what each rank
+    /// pulled is the front of what the others pushed toward it, and all of it in each epoch that
+    /// every link has ended. Of each gathered rank, the round has the logs of its seat.
     pub fn close(self, g: GatherSeat<CAP>) -> SlotRound
         requires bank { (g.id ≡ self.id) × (g.shape ≡ self.shape) }
         requires all_there { AllThere self.shape g.lists }

@@ -1,4 +1,5 @@
-//! The table that the threads share: its rule, what is told once of it, what a seat at it knows, and each step that a seat makes.
+//! The table that the threads share: its rule, what is told once of it, what a seat at it knows,
+//! and each step that a seat makes.
 
 pub(crate) mod plan;
 pub(crate) mod plays;

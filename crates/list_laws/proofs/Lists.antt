@@ -67,7 +67,8 @@ got_map f xs i y e =
 pub map_set : {X Y : Type 0} (f : X → Y) (xs : List X) (i : ℕ) (y : X) → map f (slice_set xs i y) ≡ slice_set (map f xs) i (f y)
 map_set f xs i y = map-set f xs i y
 
--- a write into a list that is seen through a map: of a changed element, or of one that looks the same
+-- a write into a list that is seen through a map: of a changed element, or of one that looks the
+-- same
 pub map_changed : {X Y : Type 0} (f : X → Y) (xs : List X) (i : ℕ) (x y : X) (d : Y) (g : Y → Y) → slice_get xs i ≡ Some x → f y ≡ g (f x) → map f (slice_set xs i y) ≡ changed_at (map f xs) i d g
 map_changed f xs i x y d g e h =
     map-set f xs i y ∙ ap (slice_set (map f xs) i) (h ∙ ap g (sym (get_or_from_slice_get (map f xs) i (f x) d (get_map f xs i x e))))

@@ -1,9 +1,11 @@
 //! Measures how many items a second ranks exchange, on threads, over conveyors on slot links.
 //!
-//! The words are `P N B [REPS] [GRID]`: each of P ranks sends N items to ranks that a seed chooses, B of which travel together (1, 2, 8, 64 or
-//! 1,024). After a run that isn't measured come REPS others (5), over the grid GRID (one number, P). For each it prints how many items a second
-//! that was, and a checksum of what came; with 0 for REPS the first run's checksum alone. With 0 for N nobody sends in many rounds, and it prints
-//! how many epochs a second that was, of which each round has two.
+//! The words are `P N B [REPS] [GRID]`: each of P ranks sends N items to ranks that a seed chooses,
+//! B of which travel together (1, 2, 8, 64 or 1,024). After a run that isn't measured come REPS
+//! others (5), over the grid GRID (one number, P). For each it prints how many items a second that
+//! was, and a checksum of what came; with 0 for REPS the first run's checksum alone. With 0 for N
+//! nobody sends in many rounds, and it prints how many epochs a second that was, of which each
+//! round has two.
 #![tactic(auto)]
 
 mod command;

@@ -9,7 +9,8 @@ use std::marker::Model;
 use std::sync::atomic::{AtomicU64, Ordering};
 use std::time::{Clock, Instant};
 
-/// A clock that notes when the first rank made its first turn and when the last one ended its last round.
+/// A clock that notes when the first rank made its first turn and when the last one ended its last
+/// round.
 #[derive(Drop)]
 pub struct StopWatch<'a, R> {
     rt: &'a R,

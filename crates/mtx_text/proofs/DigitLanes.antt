@@ -1,4 +1,5 @@
--- The bytes that are no digits, found by one comparison of a vector, and the number of a word's digits, by three multiplications.
+-- The bytes that are no digits, found by one comparison of a vector, and the number of a word's
+-- digits, by three multiplications.
 use Rattle.std.proofs.Common.{◌≡◌, ℕ, zero, suc, ◌+◌, ◌-◌, ◌*◌, ◌/◌, ◌%◌, ◌^◌, ◌<◌, ◌≤◌, Bool, true, false, cond, leb, List, [], ◌∷◌, length, get_or, take, bit_and, refl, ap, ◌∙◌, arith}
 use Rattle.std.proofs.lemmas.Bool.{and_parts, leb-true}
 use Rattle.std.proofs.lemmas.Int.Digits.{digits_value_more}
@@ -123,7 +124,8 @@ shifted_4 word a b c d r A B C D is = omega (arith, is)
 shifted_5 : (word a b c d e r : ℕ) → a ≤ 9 → b ≤ 9 → c ≤ 9 → d ≤ 9 → e ≤ 9 → word ≡ a + 48 + 256 * (b + 48 + 256 * (c + 48 + 256 * (d + 48 + 256 * (e + 48 + 256 * r)))) → shifted word 5 ≡ (a + 256 * (b + 256 * (c + 256 * (d + 256 * e)))) * 256 ^ 3
 shifted_5 word a b c d e r A B C D E is = omega (arith, is)
 
--- What is said of a text's first `len` bytes, all digits: they are small, the shifted word has them at its end, and their number.
+-- What is said of a text's first `len` bytes, all digits: they are small, the shifted word has them
+-- at its end, and their number.
 pub record Front (text : List ℕ) (len : ℕ) : Type 0 where
   pub small : (k : ℕ) → k < 8 → padded text len k ≤ 9
   pub word : shifted (word_of text) len ≡ word_from (padded text len)

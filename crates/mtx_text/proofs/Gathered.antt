@@ -123,7 +123,8 @@ gathered_append xs ts =
     ∙ raised_gathered (gathered xs) ts (gathered_ordered xs)
     ∙ sym (fold-append (λ cells t. raised t cells) [] xs ts)
 
--- what holds of the cells and of a triple holds once they were raised to it, where two at one place keep it
+-- what holds of the cells and of a triple holds once they were raised to it, where two at one place
+-- keep it
 pub raised_keeps : (P : Triple → Type 0) → ((s t : Triple) → s.i ≡ t.i → s.j ≡ t.j → P s → P t → P (greater s t)) → (t : Triple) (cells : List Triple) → P t → All P cells → All P (raised t cells)
 raised_keeps P both t [] p h = All-cons P t [] p h
 raised_keeps P both t (c ∷ cells) p h =

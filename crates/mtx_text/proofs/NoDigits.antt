@@ -1,4 +1,5 @@
--- The bytes that are no digits, as a vector's comparison finds them, and the digits in front of the first of them.
+-- The bytes that are no digits, as a vector's comparison finds them, and the digits in front of the
+-- first of them.
 use Rattle.std.proofs.Common.{◌≡◌, ℕ, zero, suc, ◌+◌, ◌-◌, ◌*◌, ◌/◌, ◌%◌, ◌^◌, ◌<◌, ◌≤◌, Bool, true, false, not, ◌&&◌, cond, leb, T, List, [], ◌∷◌, ◌++◌, map, length, take, drop, replicate, refl, sym, ap, ap₂, ◌∙◌, subst, ◌⊎◌, inl, inr, arith, w8, Fits, not-suc-le-zero, one-add}
 use Rattle.std.proofs.Math.Nat.{div-div-eq-div-mul, pow-succ', zero-div, eq-zero-or-pos}
 use Rattle.std.proofs.lemmas.Bool.{cases_order}

@@ -1,4 +1,5 @@
--- A plain line, word by word: digits and a space in front of a line's rest, and a last word with LF behind it.
+-- A plain line, word by word: digits and a space in front of a line's rest, and a last word with LF
+-- behind it.
 use Rattle.std.proofs.Common.{◌≡◌, ◌≢◌, ℕ, zero, suc, ◌+◌, ◌-◌, ◌*◌, ◌%◌, ◌^◌, ◌<◌, ◌≤◌, nat_lt, true, false, List, [], ◌∷◌, length, get_or, take, drop, map, refl, sym, ◌∙◌, ap, subst, add-one, ne_eqb, length-take-le, arith}
 use native.Mathlib.Numerals.{unary_clauses}
 use Rattle.std.proofs.Math.Nat.{pow-le-pow_right}

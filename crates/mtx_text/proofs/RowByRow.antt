@@ -1,4 +1,5 @@
--- One walk over entries whose rows never fall: a column's stamp is one more than the last row that was met there.
+-- One walk over entries whose rows never fall: a column's stamp is one more than the last row that
+-- was met there.
 use Rattle.std.proofs.Common.{◌≡◌, ◌≢◌, ℕ, ◌+◌, ◌≤◌, ◌<◌, List, length, get_or, set, replicate, get_or-set_same, get_or-set_other, ap, ◌∙◌, inl, inr, arith}
 use Rattle.std.proofs.lemmas.Bool.{cases_eq, cases_lt}
 use Rattle.std.proofs.lemmas.List.{get_or_default, get_or-replicate, get_or_past, length-replicate}

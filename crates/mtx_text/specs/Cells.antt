@@ -20,8 +20,9 @@ InOrder cells = AllPairs (λ s t. is_before s t ≡ true) cells
 
 -- Cells in order, after a value was raised to t's: its place has the greater of the two values, or
 -- t's where it had none.
--- raised (i,j,v) cells = cells with max v w at (i,j), where w was there, and else with v
--- (0,1,5), (2,0,3) raised to (2,0,4) has 4 at row 2, raised to (2,0,2) stays, and raised to (1,1,1) has three cells.
+-- raised (i,j,v) cells = cells with max v w at (i,j), where w was there, and else with v (0,1,5),
+-- (2,0,3) raised to (2,0,4) has 4 at row 2, raised to (2,0,2) stays, and raised to (1,1,1) has
+-- three cells.
 abbrev pub raised : Triple → List Triple → List Triple
 raised t [] = t ∷ []
 raised t (c ∷ cells) =

@@ -1,4 +1,5 @@
--- Matrices generated from a seed: an upper triangular band with a full diagonal, hidden under two permutations.
+-- Matrices generated from a seed: an upper triangular band with a full diagonal, hidden under two
+-- permutations.
 use Rattle.std.specs.Prelude.{ℕ, ◌≤◌, ◌*◌, ◌+◌, ◌-◌, ◌%◌, List, [], ◌∷◌, map, take, pos, slice_index}
 use Rattle.std.specs.List.{range_with_len, flat_map}
 use Rattle.bale_items.specs.declared.triple.Triple.{Triple}
@@ -16,7 +17,8 @@ diagonal n d = map (λ i. (i, i + d)) (range_with_len 0 (n - d))
 abbrev pub positions : ℕ → ℕ → List (ℕ × ℕ)
 positions n m = take m (flat_map (diagonal n) (range_with_len 0 n))
 
--- The entries at positions: for each a word is drawn, and its value is 1 more than the word mod 1000.
+-- The entries at positions: for each a word is drawn, and its value is 1 more than the word mod
+-- 1000.
 -- hidden p q state positions = (p(i), q(j), 1 + w mod 1000) for each (i,j) and its word w
 abbrev pub hidden : List ℕ → List ℕ → ℕ → List (ℕ × ℕ) → List Triple
 hidden p q state [] = []
@@ -29,7 +31,8 @@ hidden p q state (x ∷ rest) =
 abbrev pub hidden_by : List ℕ × ℕ → (ℕ → List ℕ × ℕ) → List (ℕ × ℕ) → List Triple
 hidden_by rows cols xs = hidden rows.0 (cols rows.1).0 (cols rows.1).1 xs
 
--- A band of so many rows and entries can be hidden: within the limits, and no more than there are positions.
+-- A band of so many rows and entries can be hidden: within the limits, and no more than there are
+-- positions.
 pub record CanHide (n m : ℕ) : Type 0 where
   pub tall : n ≤ 16_384
   pub few : m ≤ 262_144

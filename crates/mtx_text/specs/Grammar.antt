@@ -1,5 +1,7 @@
--- The matrix of a text: the Matrix Market exchange format in coordinate form, as this project reads it.
--- Too long is decided first, on the whole text. Else the lines are read in order and the first bad line decides.
+-- The matrix of a text: the Matrix Market exchange format in coordinate form, as this project reads
+-- it.
+-- Too long is decided first, on the whole text. Else the lines are read in order and the first bad
+-- line decides.
 use Rattle.std.specs.Prelude.{ℕ, ◌≤◌, ◌+◌, ◌-◌, ◌==◌, ◌&&◌, ◌||◌, not, Bool, true, false, List, [], ◌∷◌, ◌++◌, length}
 use Rattle.std.specs.Prelude.{if◌then◌else◌}
 use Rattle.std.specs.Prelude.{map, take, drop, count_by, ℤ, neg_ℤ, Option, Some, None, ok_or, Result, Ok, Err, nat_lt}
@@ -79,9 +81,11 @@ abbrev pub five_of : List (List ℕ) → Option (List ℕ × List ℕ × List �
 five_of (a ∷ b ∷ c ∷ d ∷ e ∷ more) = Some (a, b, c, d, e)
 five_of _ = None
 
--- The banner: "%%MatrixMarket" and then object, format, field and symmetry; further words are ignored.
---   reason 1 where the words are too few or the first is another, then 2 where the profile doesn't accept the four
---   "%%MatrixMarket MATRIX Coordinate pattern general" is a pattern without symmetry; with "real" it is unsupported.
+-- The banner: "%%MatrixMarket" and then object, format, field and symmetry; further words are
+-- ignored.
+--   reason 1 where the words are too few or the first is another, then 2 where the profile doesn't
+--   accept the four "%%MatrixMarket MATRIX Coordinate pattern general" is a pattern without
+--   symmetry; with "real" it is unsupported.
 abbrev pub qualified : List ℕ × List ℕ × List ℕ × List ℕ × List ℕ → Result Form Reason
 qualified five =
     if not (bytes_eq five.0 (codes "%%MatrixMarket")) then Err reason.Banner
@@ -116,7 +120,8 @@ pub record AreLimited (sizes : Sizes) : Type 0 where
   pub sides : AreSides sizes.rows sizes.cols
   pub short : sizes.entries ≤ 262_144
 
--- The sizes: three integer words that aren't negative, for rows, columns and entries; `read` reads an integer word.
+-- The sizes: three integer words that aren't negative, for rows, columns and entries; `read` reads
+-- an integer word.
 --   reason 3 where a word is missing, over, or no such integer, then the limits
 --   "3 3 4" is 3 by 3 with 4 entries; "-1 1 0" is a bad size line; "16385 1 0" is too large.
 unfoldable pub sizes_by : (List ℕ → Option Integer) → Form → List (List ℕ) → Result Sizes Reason
@@ -155,8 +160,8 @@ value_within None = Err reason.Value
 value_within (Some z) = if nat_lt 1_000_000_000_000 z.size then Err reason.Value else Ok (value_of z)
 
 -- An entry line by itself; `read` reads an integer word.
---   reason 5 where words are missing, over, or an index is no integer, then 6, 13 and 7
---   with integer "2 1 -7" is -7 at row 1 and column 0, counted from 0; with pattern "2 1" is 1 there.
+--   reason 5 where words are missing, over, or an index is no integer, then 6, 13 and 7 with
+--   integer "2 1 -7" is -7 at row 1 and column 0, counted from 0; with pattern "2 1" is 1 there.
 unfoldable pub cell_by : (List ℕ → Option Integer) → Form → Sizes → List (List ℕ) → Result Triple Reason
 cell_by read form sizes words = do
   three ← ok_or (fields_of form.kind words) reason.EntryLine
@@ -184,7 +189,8 @@ stands_for General t = t ∷ []
 stands_for Symmetric t = if t.i == t.j then t ∷ [] else t ∷ record { i = t.j; j = t.i; v = t.v } ∷ []
 stands_for SkewSymmetric t = t ∷ record { i = t.j; j = t.i; v = neg_ℤ t.v } ∷ []
 
--- The entries of entry lines, in their order, after those that are done. The first bad line decides.
+-- The entries of entry lines, in their order, after those that are done. The first bad line
+-- decides.
 abbrev pub entries_in : Form → Sizes → List Triple → List Line → Result (List Triple) BadLine
 entries_in form sizes done [] = Ok done
 entries_in form sizes done (line ∷ rest) =
@@ -201,7 +207,8 @@ abbrev pub as_many : ℕ → ℕ → List Line → List Triple → Result (List 
 as_many end count lines entries =
     if nat_lt (length lines) count then Err (bad end reason.TooFew) else none_over (drop count lines) entries
 
--- The entries of all entry lines, of which `count` are still to come: those are read, and then no line may be over.
+-- The entries of all entry lines, of which `count` are still to come: those are read, and then no
+-- line may be over.
 unfoldable pub entries_of : Form → Sizes → ℕ → ℕ → List Triple → List Line → Result (List Triple) BadLine
 entries_of form sizes end count done lines =
     entries_in form sizes done (take count lines) >>= as_many end count lines
@@ -233,7 +240,8 @@ line_after n text = 1 + count_by (λ b. b == 10) (take n text)
 
 -- The matrix of a text, or its first bad line.
 --   reason 11 where the text has more than 16,777,216 bytes, else what its lines are read as
---   "%%MatrixMarket matrix coordinate pattern general/2 2 1/2 1/" is 2 by 2 with 1 at row 1 and column 0.
+--   "%%MatrixMarket matrix coordinate pattern general/2 2 1/2 1/" is 2 by 2 with 1 at row 1 and
+--   column 0.
 unfoldable pub matrix_of : List ℕ → Result Sparse BadLine
 matrix_of text =
     if nat_lt 16_777_216 (length text) then Err (bad (line_after 16_777_216 text) reason.TooLong)

@@ -18,8 +18,8 @@ abbrev pub signed : Bool → ℕ → Integer
 signed minus size = record { minus = minus; size = size }
 
 -- An integer word, read as its sign and its size, of any length.
---   integer_of ("-" ++ digits) = minus and the digits' number; "+" or no sign = plus and that number
---   "-007" is minus 7, "+0" is plus 0; "", "-", "+-1" and "1.0" are no integer words.
+--   integer_of ("-" ++ digits) = minus and the digits' number; "+" or no sign = plus and that
+--   number "-007" is minus 7, "+0" is plus 0; "", "-", "+-1" and "1.0" are no integer words.
 abbrev pub integer_of : List ℕ → Option Integer
 integer_of [] = None
 integer_of (b ∷ bs) =

@@ -9,8 +9,8 @@ abbrev pub is_at : ℕ → ℕ → Triple → Bool
 is_at i j t = t.i == i && t.j == j
 
 -- The value at row i and column j of a list of triples, where one stands there.
--- value_at ts i j = the v of the triple (i,j,v) of ts, and None where there is none
--- in (0,2,-7), (1,0,4) the value at row 1 and column 0 is 4, and there is none at row 1 and column 1.
+-- value_at ts i j = the v of the triple (i,j,v) of ts, and None where there is none in (0,2,-7),
+-- (1,0,4) the value at row 1 and column 0 is 4, and there is none at row 1 and column 1.
 abbrev pub value_at : List Triple → ℕ → ℕ → Option ℤ
 value_at [] i j = None
 value_at (t ∷ ts) i j = if is_at i j t then Some t.v else value_at ts i j
@@ -19,7 +19,8 @@ value_at (t ∷ ts) i j = if is_at i j t then Some t.v else value_at ts i j
 abbrev pub at : Sparse → ℕ → ℕ → Option ℤ
 at m i j = value_at m.entries i j
 
--- The list of triples and the map say the same: each triple is in the map, and what the map has is a triple.
+-- The list of triples and the map say the same: each triple is in the map, and what the map has is
+-- a triple.
 pub record Agree (m : Sparse) : Type 0 where
   pub listed : (e : ℕ) (t : Triple) → slice_get m.entries e ≡ Some t → at m t.i t.j ≡ Some t.v
   pub mapped : (i j : ℕ) (v : ℤ) → at m i j ≡ Some v → Contains m.entries (record { i = i; j = j; v = v })

@@ -1,5 +1,5 @@
--- The words of a seed, and the permutations drawn from them: the PCG generator XSH RR 64/32 of O'Neill with
--- the increment 109, and the shuffle of Fisher and Yates.
+-- The words of a seed, and the permutations drawn from them: the PCG generator XSH RR 64/32 of
+-- O'Neill with the increment 109, and the shuffle of Fisher and Yates.
 use Rattle.std.specs.Prelude.{ℕ, zero, suc, ◌+◌, ◌-◌, ◌*◌, ◌/◌, ◌%◌, ◌^◌, List, bit_xor}
 use Rattle.std.specs.Int.{w32, rotate_right}
 use Rattle.std.specs.List.{range_with_len, swap}
@@ -16,7 +16,8 @@ word state = rotate_right w32 (bit_xor (state / 2 ^ 18) state / 2 ^ 27 % 2 ^ 32)
 abbrev pub begun : ℕ → ℕ
 begun seed = step ((step 0 + seed) % 2 ^ 64)
 
--- For i from the number given down to 1, one word w is drawn and the elements at i and w mod (i + 1) change places.
+-- For i from the number given down to 1, one word w is drawn and the elements at i and w mod (i +
+-- 1) change places.
 -- shuffled i list state = the list, and the generator's state after it
 abbrev pub shuffled : ℕ → List ℕ → ℕ → List ℕ × ℕ
 shuffled zero list state = (list, state)

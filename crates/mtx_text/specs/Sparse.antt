@@ -24,7 +24,8 @@ pub record IsInside (rows cols : ℕ) (t : Triple) : Type 0 where
   pub col : t.j < cols
   pub limit : nat_abs t.v ≤ 1_000_000_000_000
 
--- An entry lies inside its matrix and has a value within the limits, which is 1 where the kind is Pattern.
+-- An entry lies inside its matrix and has a value within the limits, which is 1 where the kind is
+-- Pattern.
 pub record IsEntry (m : Sparse) (t : Triple) : Type 0 where
   pub row : t.i < m.rows
   pub col : t.j < m.cols

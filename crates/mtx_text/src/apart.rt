@@ -1,8 +1,8 @@
 //! Whether no place comes twice among entries, in time that grows with their number.
 //!
-//! A walk over the entries of a row marks each column that it meets with the row's own stamp: a column that bears the stamp already
-//! came twice. Where the entries stand row by row, one walk goes over them all as they stand; else the entries of each row
-//! are chained first.
+//! A walk over the entries of a row marks each column that it meets with the row's own stamp: a
+//! column that bears the stamp already came twice. Where the entries stand row by row, one walk
+//! goes over them all as they stand; else the entries of each row are chained first.
 ghost use Rattle.std.specs.Prelude.{◌≡◌, ◌<◌, true, replicate, vec_len, Ok};
 ghost use Rattle.std.specs.List.{All, AllPairs};
 ghost use Rattle.mtx_text.specs.Sparse.{SamePlace};
@@ -12,8 +12,8 @@ use crate::links::link;
 use bale_items::Triple;
 use std::alloc::{AllocError, Global};
 
-/// Whether no place comes twice; rows and columns are below `side`. The answer false may also come of
-/// another cause, and true comes of none.
+/// Whether no place comes twice; rows and columns are below `side`. The answer false may also come
+/// of another cause, and true comes of none.
 pub(crate) fn are_apart(alloc: Global, side: u32, entries: &[Triple]) -> Result<bool, AllocError>
     requires { AreIndexed side entries.now }
     ensures { result ≡ Ok true → AllPairs (λ s t. ¬ SamePlace s t) entries.now }

@@ -1,4 +1,5 @@
-//! Entry lines read with a look at every place that came before: slower, and exact where a place comes twice.
+//! Entry lines read with a look at every place that came before: slower, and exact where a place
+//! comes twice.
 ghost use Rattle.std.specs.Prelude.{◌≡◌, ◌+◌, [], true, List, length, IfOk};
 ghost use Rattle.bale_items.specs.declared.triple.Triple.{Triple};
 ghost use Rattle.mtx_text.specs.Sparse.{AreSides, IsInside};

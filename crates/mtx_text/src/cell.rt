@@ -20,7 +20,8 @@ use bale_items::Triple;
 /// Absolute values at most.
 const MOST_VALUE: u64 = 1_000_000_000_000;
 
-/// What the plain line that a text begins with names, how many bytes it has, and where the next line begins.
+/// What the plain line that a text begins with names, how many bytes it has, and where the next
+/// line begins.
 #[derive(Clone, Copy)]
 pub(crate) struct PlainCell {
     pub(crate) cell: Result<Triple, Reason>,

@@ -1,4 +1,5 @@
-//! Ordered maps from places to values, in which raises come in any order at the cost of a push each.
+//! Ordered maps from places to values, in which raises come in any order at the cost of a push
+//! each.
 ghost use Rattle.std.specs.Prelude.{◌≡◌, ◌≢◌, ◌+◌, ◌≤◌, ◌++◌, ◌∷◌, ◌==◌, true, not, [], List, length, slice_get, take, Ok, IfOk, OnOk, if◌then◌else◌};
 ghost use Rattle.std.specs.Int.{int_max};
 ghost use Rattle.bale_items.specs.Changes.{AllOrNothing};
@@ -20,8 +21,8 @@ const MOST_WAITING: usize = 1_024;
 
 /// An ordered map from places to values, seen as the list of its cells by row and then column.
 ///
-/// What comes is kept as it comes. It is put in order by `settle`, by `into_entries`, and where a matrix is made
-/// of it.
+/// What comes is kept as it comes. It is put in order by `settle`, by `into_entries`, and where a
+/// matrix is made of it.
 #[derive(Drop)]
 pub struct Cells {
     /// What came, of which each place has its greatest value.
@@ -54,8 +55,8 @@ impl Cells {
         }
     }
 
-    /// Raises the value at row `i` and column `j` to `v`: it is `v` where the place was new or had a lesser
-    /// value, and else nothing changes.
+    /// Raises the value at row `i` and column `j` to `v`: it is `v` where the place was new or had
+    /// a lesser value, and else nothing changes.
     ///
     /// # Errors
     ///
@@ -80,8 +81,8 @@ impl Cells {
         Ok(())
     }
 
-    /// Puts the value `v` at row `i` and column `j`, where that place is new, and says whether it was; else
-    /// nothing changes.
+    /// Puts the value `v` at row `i` and column `j`, where that place is new, and says whether it
+    /// was; else nothing changes.
     ///
     /// # Errors
     ///
@@ -122,8 +123,8 @@ impl Cells {
         }
     }
 
-    /// The cell of the least place, by row and then column, that isn't before row `i` and column `j`; `None`
-    /// exactly where there is none.
+    /// The cell of the least place, by row and then column, that isn't before row `i` and column
+    /// `j`; `None` exactly where there is none.
     pub fn at_or_after(&self, i: u32, j: u32) -> Option<Triple>
         ensures first { result ≡ first_from i j self.now }
         ensures ordered { InOrder self.now }
@@ -132,7 +133,8 @@ impl Cells {
         nearest(best, &self.triples[self.settled..], i, j)
     }
 
-    /// Puts the cells in order, after which `at_or_after` finds by a few steps. What they are stays the same.
+    /// Puts the cells in order, after which `at_or_after` finds by a few steps. What they are stays
+    /// the same.
     pub fn settle(&mut self)
         ensures { self.new ≡ self.old }
     {
@@ -150,7 +152,8 @@ impl Cells {
         triples
     }
 
-    /// Moves the cells into `list`, by row and then column. The list's memory is kept for cells to come.
+    /// Moves the cells into `list`, by row and then column. The list's memory is kept for cells to
+    /// come.
     pub fn take_entries(&mut self, list: &mut Vec<Triple>)
         ensures entries { list.new.items ≡ self.old }
         ensures ordered { InOrder list.new.items }

@@ -1,4 +1,5 @@
-//! Digits many at a time: where runs of them end among sixteen bytes, and the number that up to five of them are.
+//! Digits many at a time: where runs of them end among sixteen bytes, and the number that up to
+//! five of them are.
 ghost use Rattle.std.specs.Prelude.{◌≡◌, ℕ, ◌<◌, ◌≤◌, length, map};
 ghost use Rattle.std.specs.Simd.Lanes.{mask_l};
 ghost use Rattle.mtx_text.specs.code.PlainLines.{FewDigits, NumberTo};
@@ -9,8 +10,8 @@ use std::simd::prelude::*;
 /// Eight digits 0.
 const ZEROS: u64 = 0x3030_3030_3030_3030;
 
-/// Which of the first sixteen bytes are no digits: the bit of the first byte is the lowest. The topmost bit is set, too, so that
-/// no search for the lowest one asks whether there is any.
+/// Which of the first sixteen bytes are no digits: the bit of the first byte is the lowest. The
+/// topmost bit is set, too, so that no search for the lowest one asks whether there is any.
 #[inline(always)]
 pub(crate) fn no_digits(text: &[u8]) -> u64
     requires { 16 ≤ length text.now }
@@ -49,8 +50,8 @@ fn front_word(text: &[u8]) -> u64
     ])
 }
 
-/// The number that the eight bytes of a word are, each of them a digit's value, the lowest byte the first digit: two digits and
-/// then four are put together by a multiplication each.
+/// The number that the eight bytes of a word are, each of them a digit's value, the lowest byte the
+/// first digit: two digits and then four are put together by a multiplication each.
 #[inline(always)]
 fn value_of(word: u64) -> u64
     ensures { (digit : ℕ → ℕ) → ((k : ℕ) → k < 8 → digit k ≤ 9) → word ≡ word_from digit → result ≡ number_from digit }

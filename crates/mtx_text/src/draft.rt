@@ -1,4 +1,5 @@
-//! Entry lines read without regard to duplicates, up to the first line that is bad for another reason.
+//! Entry lines read without regard to duplicates, up to the first line that is bad for another
+//! reason.
 ghost use Rattle.std.specs.Prelude.{◌≡◌, IfOk, IfErr, OnOk};
 ghost use Rattle.mtx_text.specs.Sparse.{IsInside};
 ghost use Rattle.mtx_text.specs.Grammar.{stands_for};
@@ -80,8 +81,9 @@ pub(crate) fn read_draft(
     }
 }
 
-/// How many entries have room from the start, so that they don't move while they are read: as many as the size line
-/// says, and no more than lines of four bytes, the least that name a place, are in the text.
+/// How many entries have room from the start, so that they don't move while they are read: as many
+/// as the size line says, and no more than lines of four bytes, the least that name a place, are in
+/// the text.
 fn room_for(lines: u32, bytes: usize) -> usize {
     (lines as usize).min(bytes / 4 + 1)
 }
@@ -102,8 +104,8 @@ struct Run<'a> {
 /// How many plain lines pay for the look at one that isn't.
 const PAUSE: u32 = 16;
 
-/// Reads on as long as lines are plain and their entries in range. Where lines that aren't plain come often, most of them are not
-/// even looked at.
+/// Reads on as long as lines are plain and their entries in range. Where lines that aren't plain
+/// come often, most of them are not even looked at.
 #[inline(never)]
 fn read_plain<'a>(
     form: Form,

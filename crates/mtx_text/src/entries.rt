@@ -1,8 +1,8 @@
 //! The entry lines of a text.
 //!
-//! They are first read without regard to duplicates. Where no place came twice, which one walk over the
-//! entries shows, that reading is the answer. Else they are read again, with a look at every place that came
-//! before, for the first bad line.
+//! They are first read without regard to duplicates. Where no place came twice, which one walk over
+//! the entries shows, that reading is the answer. Else they are read again, with a look at every
+//! place that came before, for the first bad line.
 ghost use Rattle.std.specs.Prelude.{◌+◌, [], length};
 ghost use Rattle.mtx_text.specs.Lines.{lines_of, lines_from};
 ghost use Rattle.mtx_text.specs.Grammar.{entries_of};

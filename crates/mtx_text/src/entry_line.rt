@@ -11,8 +11,9 @@ use bale_items::Triple;
 use bale_types::{Fours, LINE_ROOM, Line, LineText, lay_byte, lay_integer, lay_natural_by};
 use std::marker::Model;
 
-/// The line of one entry after another, seen as its bytes. Its front, which names the row, stays where the next entry has the
-/// same row, and what follows is written when an output takes the line.
+/// The line of one entry after another, seen as its bytes. Its front, which names the row, stays
+/// where the next entry has the same row, and what follows is written when an output takes the
+/// line.
 #[derive(Drop)]
 pub struct EntryLine {
     /// The digits of columns.
@@ -98,7 +99,8 @@ fn name(front: &mut Line, row: u64)
     front.byte(b' ');
 }
 
-/// Lays what follows the row in an entry's line behind the first `at` bytes of a buffer, and says where it ends.
+/// Lays what follows the row in an entry's line behind the first `at` bytes of a buffer, and says
+/// where it ends.
 #[inline(always)]
 fn lay_rest(
     buffer: &mut [u8],

@@ -10,8 +10,8 @@ use crate::seeds::Words;
 use bale_items::{NoMemory, Triple};
 use std::alloc::{AllocError, Global};
 
-/// The matrix of `n` rows and columns and `m` entries that a seed stands for: an upper triangular band with a
-/// full diagonal, hidden under a permutation of the rows and one of the columns.
+/// The matrix of `n` rows and columns and `m` entries that a seed stands for: an upper triangular
+/// band with a full diagonal, hidden under a permutation of the rows and one of the columns.
 ///
 /// # Errors
 ///

@@ -1,7 +1,8 @@
-//! Matrices from text, to text, of cells and of seeds: the Matrix Market exchange format in coordinate form, as this project reads it.
+//! Matrices from text, to text, of cells and of seeds: the Matrix Market exchange format in
+//! coordinate form, as this project reads it.
 //!
-//! The grammar is the definition *the matrix of a text* (`specs/Grammar.antt`): each text has a matrix, or a
-//! first bad line and the reason why it is bad. The reader gives exactly that.
+//! The grammar is the definition *the matrix of a text* (`specs/Grammar.antt`): each text has a
+//! matrix, or a first bad line and the reason why it is bad. The reader gives exactly that.
 //!
 //! | Call | For | Answer |
 //! |---|---|---|
@@ -19,9 +20,10 @@
 //! | [`gen_matrix`] | a matrix generated from a seed | |
 //! | [`Reason::text`] | what to print of a bad line | |
 //!
-//! The definitions, in the order in which to read them: `Lines`, `Integers`, `Sparse`, `Reasons`, `Grammar` and `Answers` for reading, `Written`
-//! for writing, `Cells` and `Maps` for cells, `Seeds`, `Permutations` and `Generated` for generated matrices. `specs/code/` tells how
-//! the code reads lines, keeps entries and sorts triples.
+//! The definitions, in the order in which to read them: `Lines`, `Integers`, `Sparse`, `Reasons`,
+//! `Grammar` and `Answers` for reading, `Written` for writing, `Cells` and `Maps` for cells,
+//! `Seeds`, `Permutations` and `Generated` for generated matrices. `specs/code/` tells how the code
+//! reads lines, keeps entries and sorts triples.
 #![tactic(auto)]
 
 mod apart;

@@ -17,7 +17,8 @@ pub(crate) struct Kept<'a> {
     pub(crate) rest: &'a [u8],
 }
 
-/// The next line that counts, where the text begins with line `number`; else the number of the end line.
+/// The next line that counts, where the text begins with line `number`; else the number of the end
+/// line.
 pub(crate) fn next_kept(text: &[u8], number: u64) -> Result<Kept<'_>, u64>
     requires { number + length text.now < 2 ^ 63 }
     ensures kept { IfOk result (IsFirstKept text.now number) }
@@ -41,7 +42,8 @@ pub(crate) fn next_kept(text: &[u8], number: u64) -> Result<Kept<'_>, u64>
     Err(number)
 }
 
-/// The line of `len` bytes that a text begins with, where it counts; the next line begins at the byte `next`.
+/// The line of `len` bytes that a text begins with, where it counts; the next line begins at the
+/// byte `next`.
 #[inline(always)]
 #[tactic(auto, using(crate::proofs::PlainLines::kept_at, crate::proofs::PlainLines::left_at))]
 pub(crate) fn first_kept(text: &[u8], number: u64, len: usize, next: usize) -> Kept<'_>

@@ -28,7 +28,8 @@ struct Parts {
     entries: Vec<Triple>,
 }
 
-/// The matrix of a text, or its first bad line: exactly as the definition *the matrix of a text* says.
+/// The matrix of a text, or its first bad line: exactly as the definition *the matrix of a text*
+/// says.
 /// Want of memory may come at any time.
 pub fn parse_matrix(alloc: Global, text: &[u8]) -> Result<Matrix, ParseFault>
     ensures { Gives (λ m. m) result (matrix_of text.now) }

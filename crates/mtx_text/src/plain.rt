@@ -1,5 +1,6 @@
-//! Plain entry lines, read in one pass: numbers of few digits, one space between two of them, and LF, or CR and LF,
-//! at once behind the last. Most texts have no other lines; whatever isn't of this form is read the general way.
+//! Plain entry lines, read in one pass: numbers of few digits, one space between two of them, and
+//! LF, or CR and LF, at once behind the last. Most texts have no other lines; whatever isn't of
+//! this form is read the general way.
 ghost use Rattle.std.specs.Prelude.{◌≡◌, ◌<◌, true, false, Some, ◌+◌, ◌-◌, length, drop, IfSome, IfOk, IfErr};
 ghost use Rattle.std.specs.Char.{is_ascii_digit};
 ghost use Rattle.mtx_text.specs.declared.kind.Kind.TheVariants as Kind;
@@ -16,8 +17,8 @@ const MOST_DIGITS: usize = 18;
 /// Digits of a number at most that is read at once: as many as an index has.
 const FEW_DIGITS: usize = 5;
 
-/// Bytes that a plain line has with what stands behind it, at least: so many that no look at one of its first two numbers asks
-/// whether it is still within the text.
+/// Bytes that a plain line has with what stands behind it, at least: so many that no look at one of
+/// its first two numbers asks whether it is still within the text.
 const WINDOW: usize = 24;
 
 /// The digits that a text begins with: their number, and how many they are.
@@ -27,7 +28,8 @@ struct Digits {
     len: usize,
 }
 
-/// Two runs of digits, with a space between them, and the bits of the bytes that are no digits, from one byte behind the second run on.
+/// Two runs of digits, with a space between them, and the bits of the bytes that are no digits,
+/// from one byte behind the second run on.
 #[derive(Clone, Copy)]
 struct Two {
     row: Digits,
@@ -42,7 +44,8 @@ pub(crate) struct Front<'a> {
     pub(crate) rest: &'a [u8],
 }
 
-/// The digits that a line ends with: their number, how many they are, and where the next line begins.
+/// The digits that a line ends with: their number, how many they are, and where the next line
+/// begins.
 #[derive(Clone, Copy)]
 struct Ending {
     size: u64,
@@ -137,7 +140,8 @@ pub(crate) fn plain_two(text: &[u8]) -> Option<Plain>
     })
 }
 
-/// The numbers of the two runs of few digits that a text begins with, with one space between them and another byte behind.
+/// The numbers of the two runs of few digits that a text begins with, with one space between them
+/// and another byte behind.
 #[inline(always)]
 fn two_numbers(text: &[u8]) -> Option<Two>
     ensures { IfSome result (TwoAt text.now) }
@@ -176,7 +180,8 @@ fn natural(size: u64) -> Integer
     Integer { minus: false, size }
 }
 
-/// The word that a text begins with, where it is digits behind a minus or no sign, and the line ends with it.
+/// The word that a text begins with, where it is digits behind a minus or no sign, and the line
+/// ends with it.
 #[inline(never)]
 #[tactic(auto, using(crate::proofs::PlainLines::digits_last))]
 pub(crate) fn last_word(text: &[u8]) -> Option<Last>
@@ -201,7 +206,8 @@ pub(crate) fn last_word(text: &[u8]) -> Option<Last>
     })
 }
 
-/// The digits that a text begins with, where they are at most `MOST_DIGITS` and the line ends with them.
+/// The digits that a text begins with, where they are at most `MOST_DIGITS` and the line ends with
+/// them.
 #[inline(always)]
 fn last_digits(text: &[u8]) -> Option<Ending>
     ensures { IfSome result (λ e. DigitsEnd text.now e.len e.next e.size) }
@@ -234,8 +240,8 @@ fn line_end(text: &[u8], len: usize) -> Option<usize>
     None
 }
 
-/// The digits that a text begins with, where another byte follows. The number of too many digits wraps: it
-/// is cheaper to count them once than to look at each whether it is one too many.
+/// The digits that a text begins with, where another byte follows. The number of too many digits
+/// wraps: it is cheaper to count them once than to look at each whether it is one too many.
 #[inline(always)]
 fn leading(text: &[u8]) -> Option<Digits>
     ensures { IfSome result (LeadingDigits text.now) }

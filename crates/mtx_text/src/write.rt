@@ -12,8 +12,9 @@ use crate::matrix::Matrix;
 use bale_items::Triple;
 use bale_types::{Failed, Line, Out, Sink};
 
-/// Appends the text of a matrix: banner, sizes, and a line for each entry in the order of its list. Takes no
-/// memory. What was written is read as the same matrix, where it has no more entries than a text may have.
+/// Appends the text of a matrix: banner, sizes, and a line for each entry in the order of its list.
+/// Takes no memory. What was written is read as the same matrix, where it has no more entries than
+/// a text may have.
 ///
 /// # Errors
 ///

@@ -1,4 +1,5 @@
--- The law of one link is kept by a post for which there is room, and by the collect of the next parcel.
+-- The law of one link is kept by a post for which there is room, and by the collect of the next
+-- parcel.
 use Rattle.std.proofs.Common.{◌≡◌, ℕ, ◌+◌, ◌<◌, ◌≤◌, List, [], ◌∷◌, ◌++◌, length, take, get_or, Some, sym, ap, subst, ◌∙◌, inl, inr, arith, length-append}
 use Rattle.std.specs.Prelude.{slice_get}
 use Rattle.std.specs.List.{All}

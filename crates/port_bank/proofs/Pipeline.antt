@@ -1,9 +1,10 @@
--- Over all hops of a route a pair's items arrive in order, and all of them where the epoch was ended.
+-- Over all hops of a route a pair's items arrive in order, and all of them where the epoch was
+-- ended.
 --
--- On each hop the reader's flow is the front of the sender's, since what was collected is the front of what was
--- posted; and at each rank between two hops the flow sent on is the front of the flow got, by the relay law. Where
--- the last link has ended an epoch, its sender had got the end of that epoch on the hop before, and so on back to
--- the first hop: there every front is the whole.
+-- On each hop the reader's flow is the front of the sender's, since what was collected is the front
+-- of what was posted; and at each rank between two hops the flow sent on is the front of the flow
+-- got, by the relay law. Where the last link has ended an epoch, its sender had got the end of that
+-- epoch on the hop before, and so on back to the first hop: there every front is the whole.
 use Rattle.std.proofs.Common.{◌≡◌, ℕ, zero, suc, ◌+◌, ◌-◌, ◌<◌, ◌≤◌, List, length, refl, sym, ap, subst, ◌∙◌, arith}
 use Rattle.route_tensor.specs.Grid.{ranks, place, IsGrid}
 use Rattle.route_tensor.specs.Link.{links}
@@ -18,8 +19,8 @@ use Rattle.port_bank.proofs.Segments.{lasts_begins}
 use Rattle.port_bank.proofs.Kept.{flow_begins, flow_same, between}
 use Rattle.port_bank.proofs.Routes.{link-on_route}
 
--- A bank whose links and ranks keep their laws: what is collected of a link is the front of what is posted on it,
--- and each rank's own logs meet the relay law.
+-- A bank whose links and ranks keep their laws: what is collected of a link is the front of what is
+-- posted on it, and each rank's own logs meet the relay law.
 pub record Keeps (dims : List ℕ) (sent got : Logs) : Type 0 where
   pub grid : IsGrid dims
   pub fronts : (l : ℕ) → l < links dims → Begins (got l) (sent l)

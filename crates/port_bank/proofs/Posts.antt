@@ -86,7 +86,8 @@ module _ (dims : List ℕ) (logs : Logs) (l : ℕ) (p : Shipped) (s d h e : ℕ)
 
 -- What a rank must know of a parcel that it posts on link l, beside the law of what it sent before.
 -- fair: its tags are fair on the link's hop.
--- begins: with it, what is sent of each pair of the link in this epoch is the front of what was got.
+-- begins: with it, what is sent of each pair of the link in this epoch is the front of what was
+-- got.
 -- closed: where it is marked last, each link in of the hop before has ended this epoch.
 -- whole: and then what is sent of each pair is all that was got.
 pub record MayPost (dims : List ℕ) (r : ℕ) (sent got : Logs) (l : ℕ) (p : Shipped) : Type 0 where

@@ -1,4 +1,5 @@
--- The ends of the links of a route, and that each number of a link is that of the link between its ends.
+-- The ends of the links of a route, and that each number of a link is that of the link between its
+-- ends.
 use Rattle.std.proofs.Common.{◌≡◌, ℕ, suc, ◌+◌, ◌-◌, ◌*◌, ◌/◌, ◌%◌, ◌<◌, ◌≤◌, List, [], ◌∷◌, length, take, get_or, sum, sym, ap, subst, ◌∙◌, inl, inr, arith, mul-add}
 use Rattle.std.proofs.lemmas.Bool.{cases_lt}
 use Rattle.std.proofs.lemmas.List.Sums.{sum_by-cons}

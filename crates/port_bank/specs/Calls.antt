@@ -17,7 +17,8 @@ calls_of (Collect' marker before link) = calls_of before ++ Collect link.value �
 abbrev pub once_if : Bool → Call → List Call
 once_if made call = if made then call ∷ [] else []
 
--- The calls of a sweep over the first n of some links, in order: one on each link on which it makes one.
+-- The calls of a sweep over the first n of some links, in order: one on each link on which it makes
+-- one.
 -- swept made call n is call 0, call 1, .., call (n - 1), without those that are not made.
 -- Of three posts of which the second is not made, it is Post 0, Post 2.
 abbrev pub swept : (ℕ → Bool) → (ℕ → Call) → ℕ → List Call

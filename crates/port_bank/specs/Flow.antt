@@ -20,8 +20,9 @@ hop_link dims s d h = link dims h (place dims s d (h - 1)) (place dims s d h)
 abbrev pub items_of : (Entry → Bool) → List Shipped → List Item
 items_of keep log = map (λ e. e.item) (filter keep (flat_map (λ p. p.entries) log))
 
--- The flow of the pair from s to d on hop h in epoch e: the items of the entries of segment e of the log of
--- its hop-h link that belong to it, in order.
--- In the grid 2 with capacity 1, rank 0 sends x to 0, then y to 1: the flow from 0 to 1 on hop 1 is [y].
+-- The flow of the pair from s to d on hop h in epoch e: the items of the entries of segment e of
+-- the log of its hop-h link that belong to it, in order.
+-- In the grid 2 with capacity 1, rank 0 sends x to 0, then y to 1: the flow from 0 to 1 on hop 1 is
+-- [y].
 abbrev pub flow : List ℕ → Logs → ℕ → ℕ → ℕ → ℕ → List Item
 flow dims logs s d h e = items_of (belongs dims s d h) (segment e (logs (hop_link dims s d h)))

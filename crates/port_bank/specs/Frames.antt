@@ -1,4 +1,5 @@
--- The same of any port, by the ghost members of its trait; and what a call leaves of a port's other links.
+-- The same of any port, by the ghost members of its trait; and what a call leaves of a port's other
+-- links.
 use Rattle.std.specs.Prelude.{◌≡◌, ◌≢◌, ℕ}
 use Rattle.port_bank.specs.declared.port.Port.{Ghosts}
 use Rattle.port_bank.specs.Port.{PortStays, OutsStay, InsStay}

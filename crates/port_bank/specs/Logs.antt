@@ -1,4 +1,5 @@
--- Link logs: all parcels that were ever posted on a link, or all that its reader collected, in order.
+-- Link logs: all parcels that were ever posted on a link, or all that its reader collected, in
+-- order.
 use Rattle.std.specs.Prelude.{◌≡◌, ℕ, zero, suc, ◌+◌, ◌==◌, Bool, true, List, [], ◌∷◌, ◌++◌, length, take}
 use Rattle.std.specs.Prelude.{if◌then◌else◌}
 use Rattle.std.specs.List.{filter}
@@ -26,9 +27,10 @@ pub record EndsLast (log : List Shipped) : Type 0 where
 abbrev pub lasts_in : ℕ → Bool → ℕ
 lasts_in epoch through = if through then epoch + 1 else epoch
 
--- Segment e of a log: the parcels after the e-th parcel marked last, up to and including the next one
--- marked last, or up to the log's end. It is closed where e < lasts log.
--- With the marks no, yes, yes, no segment 0 is the first two parcels, segment 1 the third and segment 2 the fourth.
+-- Segment e of a log: the parcels after the e-th parcel marked last, up to and including the next
+-- one marked last, or up to the log's end. It is closed where e < lasts log.
+-- With the marks no, yes, yes, no segment 0 is the first two parcels, segment 1 the third and
+-- segment 2 the fourth.
 abbrev pub segment : ℕ → List Shipped → List Shipped
 segment e [] = []
 segment zero (p ∷ ps) = p ∷ (if p.last then [] else segment zero ps)

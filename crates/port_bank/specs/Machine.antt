@@ -1,5 +1,5 @@
--- The exchange machine: what conveyors do, seen as two lists for each epoch and ordered pair of ranks. It knows no
--- parcels, no hops and no tags.
+-- The exchange machine: what conveyors do, seen as two lists for each epoch and ordered pair of
+-- ranks. It knows no parcels, no hops and no tags.
 use Rattle.std.specs.Prelude.{◌≡◌, ◌≢◌, ℕ, ◌+◌, ◌-◌, ◌<◌, ◌≤◌, ◌==◌, ◌&&◌, nat_lt, ◌⊎◌, ⊤, Bool, true, false, List, []}
 use Rattle.std.specs.Prelude.{if◌then◌else◌}
 use Rattle.std.specs.Prelude.{◌∷◌, ◌++◌, length, take, slice_get, Option, Some, None, IsSome}
@@ -14,8 +14,9 @@ ItemLists = ℕ → ℕ → List Item
 abbrev pub for_ranks : ℕ → ItemLists → ItemLists
 for_ranks n lists = λ e r. if nat_lt r n then lists e r else []
 
--- One rank's part of a state: its epoch; whether it is done, and whether it is complete, in that epoch; from which
--- rank it pulled in its latest step, if that was a Pull; and what it pushed toward each rank and pulled of each.
+-- One rank's part of a state: its epoch; whether it is done, and whether it is complete, in that
+-- epoch; from which rank it pulled in its latest step, if that was a Pull; and what it pushed
+-- toward each rank and pulled of each.
 pub record Part : Type 0 where
   pub epoch : ℕ
   pub done : Bool
@@ -28,8 +29,8 @@ pub record Part : Type 0 where
 abbrev pub Ranks : Type 0
 Ranks = ℕ → Part
 
--- What a rank may do: push an item toward a rank, pull an item of a rank, take its latest Pull back, say that it
--- is done, complete its epoch, begin the next one, or nothing.
+-- What a rank may do: push an item toward a rank, pull an item of a rank, take its latest Pull
+-- back, say that it is done, complete its epoch, begin the next one, or nothing.
 pub data Step : Type 0 where
   Push : ℕ → Item → Step
   Pull : ℕ → Item → Step
@@ -63,8 +64,8 @@ after Complete p = record p { latest = None; complete = true }
 after Reset p = record p { latest = None; epoch = p.epoch + 1; done = false; complete = false }
 after Idle p = record p { latest = None }
 
--- What a rank must be for a step, by its own part: not done for a Push, just after a Pull for an Unpull, complete
--- for a Reset.
+-- What a rank must be for a step, by its own part: not done for a Push, just after a Pull for an
+-- Unpull, complete for a Reset.
 abbrev pub MayBy : Step → Part → Type 0
 MayBy (Push d x) p = p.done ≡ false
 MayBy (Pull s x) p = ⊤
@@ -93,12 +94,14 @@ pub record IsOwnStep (step : Step) (old new : Part) : Type 0 where
 abbrev pub IsThrough : ℕ → Part → Type 0
 IsThrough e part = ((part.epoch ≡ e) × (part.done ≡ true)) ⊎ (e < part.epoch)
 
--- What rank r may complete: every rank is through with its epoch, and it pulled all that they pushed toward it.
+-- What rank r may complete: every rank is through with its epoch, and it pulled all that they
+-- pushed toward it.
 pub record MayComplete (ranks r : ℕ) (state : Ranks) : Type 0 where
   pub through : (q : ℕ) → q < ranks → IsThrough (state r).epoch (state q)
   pub all : (q : ℕ) → q < ranks → (state r).pulled (state r).epoch q ≡ (state q).pushed (state r).epoch r
 
--- What all ranks must be for a step: a Pull takes the item that its sender pushed at the next place.
+-- What all ranks must be for a step: a Pull takes the item that its sender pushed at the next
+-- place.
 abbrev pub Allows : ℕ → ℕ → Step → Ranks → Type 0
 Allows ranks r (Push d x) state = ⊤
 Allows ranks r (Pull s x) state =
@@ -126,7 +129,8 @@ done_of p = if p.done then p.epoch + 1 else p.epoch
 -- What the ranks know of one another's epochs.
 -- begins: what a rank pulled of another is the front of what that one pushed toward it.
 -- all_done: in each epoch that some rank has completed, every rank was done.
--- whole: in each epoch that a rank has completed itself, it pulled all that the others pushed toward it.
+-- whole: in each epoch that a rank has completed itself, it pulled all that the others pushed
+-- toward it.
 pub record EpochsClose (ranks : ℕ) (state : Ranks) : Type 0 where
   pub begins : (r s e : ℕ) → r < ranks → s < ranks → Begins ((state r).pulled e s) ((state s).pushed e r)
   pub all_done : (r s : ℕ) → r < ranks → s < ranks → completed_of (state r) ≤ done_of (state s)

@@ -17,8 +17,9 @@ use Rattle.port_bank.specs.Relay.{RelayLaw}
 use Rattle.port_bank.specs.Port.{Others, IsSlots}
 use Rattle.port_bank.specs.Round.{Round}
 
--- One link: the parcels posted and those collected, how often its sender looked for room and its reader looked,
--- how often its reader listened for it, and how often it had at the end of its latest collect.
+-- One link: the parcels posted and those collected, how often its sender looked for room and its
+-- reader looked, how often its reader listened for it, and how often it had at the end of its
+-- latest collect.
 pub record Channel : Type 0 where
   pub sent : List Shipped
   pub got : List Shipped
@@ -70,7 +71,8 @@ abbrev pub others_of : ℕ → Bank → Others
 others_of r b =
     record { bank = []; sent = starting_elsewhere b.dims r (sent_of b); got = ending_elsewhere b.dims r (got_of b) }
 
--- Whether no slot is free on rank r's link l out: as many parcels as it has slots are sent and not collected.
+-- Whether no slot is free on rank r's link l out: as many parcels as it has slots are sent and not
+-- collected.
 abbrev pub crowded_of : ℕ → Bank → ℕ → Bool
 crowded_of r b l = length (starting_at b.dims r (sent_of b) l) == length (got_of b l) + b.slots
 
@@ -104,8 +106,8 @@ closed cap b = record {
   got = map (λ c. c.got) b.channels;
 }
 
--- What a plain bank keeps, for parcels of capacity cap: a link has 1, 2, 4 or 8 slots, and each link keeps its law and
--- each rank the relay law.
+-- What a plain bank keeps, for parcels of capacity cap: a link has 1, 2, 4 or 8 slots, and each
+-- link keeps its law and each rank the relay law.
 pub record IsBank (cap : ℕ) (b : Bank) : Type 0 where
   pub is_cap : IsCap cap
   pub grid : IsGrid b.dims
@@ -114,7 +116,8 @@ pub record IsBank (cap : ℕ) (b : Bank) : Type 0 where
   pub each_link : (l : ℕ) → l < links b.dims → LinkLaw cap b.slots (sent_of b l) (got_of b l)
   pub each_rank : (r : ℕ) → r < ranks b.dims → RelayLaw b.dims r (sent_of b) (got_of b)
 
--- The rings of a bank have what is on its way on each link: what was sent there is what was got, and then that.
+-- The rings of a bank have what is on its way on each link: what was sent there is what was got,
+-- and then that.
 -- Example: sent [p, q, r] and got [p] leave [q, r] on their way.
 pub record HaveRings (channels : List Channel) (rings : List (List Shipped)) : Type 0 where
   pub number : length rings ≡ length channels

@@ -13,8 +13,8 @@ use Rattle.port_bank.specs.Link.{LinkLaw}
 use Rattle.port_bank.specs.Port.{IsSlots}
 use Rattle.port_bank.specs.Relay.{HasFairTags}
 
--- A closed round: the grid, capacity and number of slots per link of its bank, whether that was a slot bank,
--- and for each link the parcels posted and those collected.
+-- A closed round: the grid, capacity and number of slots per link of its bank, whether that was a
+-- slot bank, and for each link the parcels posted and those collected.
 pub record Round : Type 0 where
   pub dims : List ℕ
   pub cap : ℕ
@@ -50,8 +50,9 @@ ended_by_all (log ∷ logs) = min (lasts log) (ended_by_all logs)
 abbrev pub epochs_of : Round → ℕ
 epochs_of round = ended_by_all round.got
 
--- Over all hops a pair's items arrive in order: what is pulled is the front of what was pushed, and it is all of
--- it in an epoch that the last link of the pair's route has ended, so in each epoch that every link has ended.
+-- Over all hops a pair's items arrive in order: what is pulled is the front of what was pushed, and
+-- it is all of it in an epoch that the last link of the pair's route has ended, so in each epoch
+-- that every link has ended.
 pub record CloseLaw (round : Round) : Type 0 where
   pub begins : (e s d : ℕ) → s < ranks round.dims → d < ranks round.dims
       → Begins (pulled round e d s) (pushed round e s d)
@@ -62,7 +63,8 @@ pub record CloseLaw (round : Round) : Type 0 where
       → pulled round e d s ≡ pushed round e s d
 
 -- What holds of every closed round.
--- fair: each entry that was sent has a tag that is fair on the hop of its link, and so belongs to a pair of ranks.
+-- fair: each entry that was sent has a tag that is fair on the hop of its link, and so belongs to a
+-- pair of ranks.
 pub record IsRound (round : Round) : Type 0 where
   pub grid : IsGrid round.dims
   pub counts : IsSlots round.slots

@@ -5,7 +5,8 @@ ghost use Rattle.port_bank.specs.Calls.Call.{Post, Collect};
 
 use std::snapshot::Snapshot;
 
-/// The calls of `post` that had memory and those of `collect`, each by its link, which contracts alone see.
+/// The calls of `post` that had memory and those of `collect`, each by its link, which contracts
+/// alone see.
 #[derive(Drop)]
 pub enum Calls {
     None,

@@ -1,13 +1,13 @@
 //! Links between ranks: what a rank may do on its own links, and a bank of links for one thread.
 //!
 //! A rank posts parcels on its links out and collects parcels on its links in, through a `Port`.
-//! Everything above knows of a transport only this trait. The transport here is the plain bank, whose
-//! ports take turns on it. Each of its links is a ring of parcels: a post exchanges the full parcel
-//! for an empty one of the ring, and a collect the empty one at hand for a full one. So no entry is
-//! copied, and nothing is kept of what was collected.
+//! Everything above knows of a transport only this trait. The transport here is the plain bank,
+//! whose ports take turns on it. Each of its links is a ring of parcels: a post exchanges the full
+//! parcel for an empty one of the ring, and a collect the empty one at hand for a full one. So no
+//! entry is copied, and nothing is kept of what was collected.
 //!
-//! `specs/Machine.antt` states the exchange machine: what the ranks of any bank do, seen as two lists of items for each
-//! epoch and ordered pair of ranks.
+//! `specs/Machine.antt` states the exchange machine: what the ranks of any bank do, seen as two
+//! lists of items for each epoch and ordered pair of ranks.
 //!
 //! | Call | Answer |
 //! |---|---|

@@ -81,8 +81,8 @@ impl<const CAP: usize> PlainBank<CAP> {
         PlainPort::new(self, rank)
     }
 
-    /// Ends the exchange: what each rank pulled is the front of what the others pushed toward it, and all of it in
-    /// each epoch that every link has ended.
+    /// Ends the exchange: what each rank pulled is the front of what the others pushed toward it,
+    /// and all of it in each epoch that every link has ended.
     pub fn close(self) -> PlainRound
         ensures round { result ≡ closed CAP self.entry }
         ensures in_order { IsRound result }
@@ -96,8 +96,8 @@ impl<const CAP: usize> PlainBank<CAP> {
         PlainRound::new(grid, CAP as u32, slots, links)
     }
 
-    /// Does nothing, and tells that the bank keeps the laws of a round at every moment, and not only
-    /// when it is closed.
+    /// Does nothing, and tells that the bank keeps the laws of a round at every moment, and not
+    /// only when it is closed.
     pub fn live_law(&self)
         ensures { IsRound (closed CAP self.now) }
     {

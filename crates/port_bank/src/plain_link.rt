@@ -24,7 +24,8 @@ pub(crate) struct PlainLink {
     ended: u64,
     /// How often the sender looked for room.
     looks_out: u64,
-    /// How often the reader looked, and so listened for this link. It does both at each collect, and nowhere else.
+    /// How often the reader looked, and so listened for this link. It does both at each collect,
+    /// and nowhere else.
     listens: u64,
 }
 

@@ -9,7 +9,8 @@ use crate::plain_link::PlainLink;
 use route_tensor::Grid;
 use std::marker::Model;
 
-/// All parcels that were posted on a plain bank's links and collected from them, for contracts alone.
+/// All parcels that were posted on a plain bank's links and collected from them, for contracts
+/// alone.
 /// It stores no parcel, and is made by `PlainBank::close` alone.
 #[derive(Drop)]
 pub struct PlainRound {

@@ -35,7 +35,8 @@ pub enum Collected {
     Nothing,
 }
 
-/// One rank's end of a bank: its links out, on which it posts, and its links in, from which it collects.
+/// One rank's end of a bank: its links out, on which it posts, and its links in, from which it
+/// collects.
 ///
 /// | What contracts see | Of |
 /// |---|---|
@@ -49,7 +50,8 @@ pub enum Collected {
 /// | `others` | what belongs to others, which no call changes |
 /// | `post_does`, `collect_does` | what a port says of itself, beyond what holds of all ports |
 ///
-/// `looks_out`, `looks_in`, `listens` and `noted` are kept in 64 bits and stand still at the last number.
+/// `looks_out`, `looks_in`, `listens` and `noted` are kept in 64 bits and stand still at the last
+/// number.
 pub trait Port<const CAP: usize>: Drop {
     /// What `post` needs of memory.
     type Memory: Memory;
@@ -95,8 +97,9 @@ pub trait Port<const CAP: usize>: Drop {
 
     /// Posts the parcel on a link out, and leaves an empty one of the same epoch in its place.
     ///
-    /// The parcel is fresh, is of the epoch that the link is in, and, with the parcels posted before, keeps the
-    /// relay law: it passes on only what the rank got, and is marked last only where that is all.
+    /// The parcel is fresh, is of the epoch that the link is in, and, with the parcels posted
+    /// before, keeps the relay law: it passes on only what the rank got, and is marked last only
+    /// where that is all.
     ///
     /// # Errors
     /// `NoMemory` changes nothing, and never comes where `Memory::GROWS` is false.
@@ -130,7 +133,8 @@ pub trait Port<const CAP: usize>: Drop {
         ensures memory { Self.Memory.GROWS ≡ false → IsOk result }
         ensures does { post_does self.old link p.old result self.new }
 
-        // In each case: what the port knows changes at this link alone, and of its links in nothing does.
+        // In each case: what the port knows changes at this link alone, and of its links in nothing
+        // does.
         ensures crowded_here { crowded self.new ≡ changed (crowded self.old) link (crowded self.new link) }
         ensures idle_here { idle self.new ≡ changed (idle self.old) link (idle self.new link) }
         ensures calls { IsOk result → calls self.new ≡ calls self.old ++ Post link ∷ [] }
@@ -139,14 +143,15 @@ pub trait Port<const CAP: usize>: Drop {
         ensures same_ins { InsStay got looks_in listens noted self.old self.new }
         ensures same_port { PortStays rank dims slots others self.old self.new };
 
-    /// Collects the next parcel of a link in, in place of the empty one at hand, which is of the epoch that the
-    /// link is in.
+    /// Collects the next parcel of a link in, in place of the empty one at hand, which is of the
+    /// epoch that the link is in.
     fn collect(&mut self, link: u32, p: &mut Parcel<CAP>) -> Collected
         requires link { link < links (dims self.old) }
         requires ends_here { reader_at (dims self.old) link ≡ rank self.old }
         requires empty { p.old ≡ blank (lasts (got self.old link)) }
 
-        // Got: the next parcel of the link, with nothing taken; the relay law and the capacity hold of it.
+        // Got: the next parcel of the link, with nothing taken; the relay law and the capacity hold
+        // of it.
         ensures got { result ≡ Collected.Got → got self.new ≡ added (got self.old) link (shipped p.new) }
         ensures arrived { result ≡ Collected.Got → p.new ≡ arrived (shipped p.new) }
         ensures epoch { result ≡ Collected.Got → p.new.epoch ≡ lasts (got self.old link) }
@@ -159,7 +164,8 @@ pub trait Port<const CAP: usize>: Drop {
         ensures own { result ≡ Collected.Got → sender_at (dims self.old) link ≡ rank self.old
             → Begins (got self.new link) (sent self.new link) }
 
-        // Nothing: the port listened since its latest collect on the link, and has collected all that it heard of.
+        // Nothing: the port listened since its latest collect on the link, and has collected all
+        // that it heard of.
         ensures heard { result ≡ Collected.Nothing → RoseOrFull (noted self.old link) (listens self.new link) }
         ensures none_known { result ≡ Collected.Nothing → length (got self.old link) ≡ known self.new link }
         ensures idle { result ≡ Collected.Nothing → idle self.new link ≡ true }
@@ -170,7 +176,8 @@ pub trait Port<const CAP: usize>: Drop {
         // Where the port knew of a parcel, it is collected.
         ensures at_hand { idle self.old link ≡ false → result ≡ Collected.Got }
 
-        // In each case: what the port knows changes at this link alone, and of its links out nothing does.
+        // In each case: what the port knows changes at this link alone, and of its links out
+        // nothing does.
         ensures does { collect_does self.old link p.new result self.new }
         ensures calls { calls self.new ≡ calls self.old ++ Collect link ∷ [] }
         ensures noted { noted self.new ≡ changed (noted self.old) link (listens self.new link) }

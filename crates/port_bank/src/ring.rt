@@ -110,8 +110,8 @@ fn make_room<const CAP: usize>(
     add_place(places, first, waiting)
 }
 
-/// Turns the places, each of which has a parcel on its way, until the next one to collect is in front, and adds one
-/// behind them. It is seldom called, and out of the way of the code that is.
+/// Turns the places, each of which has a parcel on its way, until the next one to collect is in
+/// front, and adds one behind them. It is seldom called, and out of the way of the code that is.
 ///
 /// # Errors
 /// `NoMemory` changes nothing.

@@ -1,7 +1,8 @@
 -- At each moment of a turn a rank keeps both conditions of the replies theorem.
 --
--- What it has sent by then is a prefix of what it has sent at the turn's end, and what it has got is no less than at its
--- beginning; and it answers no query of this turn before all of these are collected.
+-- What it has sent by then is a prefix of what it has sent at the turn's end, and what it has got
+-- is no less than at its beginning; and it answers no query of this turn before all of these are
+-- collected.
 use Rattle.std.proofs.Common.{◌≡◌, ℕ, ◌<◌, ◌==◌, ◌-◌, cond, List, [], length, take, drop, refl, sym, ap, subst, ◌∙◌, inl, inr}
 use Rattle.std.proofs.lemmas.List.{append-nil}
 use Rattle.item_buffer.specs.Contents.{Shipped}

@@ -10,8 +10,8 @@ use Rattle.port_bank.specs.Relay.{RelayLaw}
 use Rattle.round_program.specs.Talks.{Talk}
 use Rattle.round_program.specs.Replies.{queries_to, answers, replies_of}
 
--- A lawful bank, be it plain or of slots: what was got on a link is the front of what was sent, and each rank keeps the
--- relay law.
+-- A lawful bank, be it plain or of slots: what was got on a link is the front of what was sent, and
+-- each rank keeps the relay law.
 pub record IsLawful (dims : List ℕ) (sent got : Logs) : Type 0 where
   pub grid : IsGrid dims
   pub fronts : (l : ℕ) → l < links dims → Begins (got l) (sent l)
@@ -39,7 +39,8 @@ pub record IsAll {S : Type 0} (T : Talk S) (dims : List ℕ) (all : ℕ → S) (
   pub queries : (d : ℕ) → d < ranks dims → sent_to dims asking r d ≡ queries_to T (all r) d
   pub replies : (s : ℕ) → s < ranks dims → sent_to dims replying r s ≡ answers T (all r) s (got_from dims got r s)
 
--- The replies theorem. At every moment the replies that s got from d are a front of the replies of (d,s).
+-- The replies theorem. At every moment the replies that s got from d are a front of the replies of
+-- (d,s).
 abbrev pub RepliesBegin : {S : Type 0} → Talk S → Type 0
 RepliesBegin {S} T = (dims : List ℕ) (all : ℕ → S) (asking asked replying replied : Logs) → IsLawful dims asking asked
     → IsLawful dims replying replied

@@ -55,7 +55,8 @@ abbrev pub OrderLaw : {S : Type 0} → Talk S → Type 0
 OrderLaw {S} T = (dims : List ℕ) (cap slots : ℕ) (starts : ℕ → S) (ns : ℕ → BiState S) (s : Sides)
     → AllRanks T dims cap slots starts ns s → HearsInOrder T dims starts ns s
 
--- Once all ranks are complete, each has heard, for each of its queries, the answer of the rank asked.
+-- Once all ranks are complete, each has heard, for each of its queries, the answer of the rank
+-- asked.
 pub record AllComplete {S : Type 0} (dims : List ℕ) (ns : ℕ → BiState S) : Type 0 where
   pub queries : (r : ℕ) → r < ranks dims → (ns r).queries.phase ≡ Complete
   pub replies : (r : ℕ) → r < ranks dims → (ns r).replies.phase ≡ Complete

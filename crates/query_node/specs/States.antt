@@ -59,7 +59,8 @@ pub record IsFirst (dims : List ℕ) (rank : ℕ) (steady : Bool) (c : State) : 
 
 -- A BiNode between two turns, of a rank that began in the state `start`, over a port of queries
 -- (what it sent is asking, what it got is asked) and one of replies (replying, replied).
--- next_low, all_pushed, pushed: the first so many of its queries are pushed; all of them where it is done asking.
+-- next_low, all_pushed, pushed: the first so many of its queries are pushed; all of them where it
+-- is done asking.
 -- answered: it pushed its answers, in order, to the queries that it pulled, and nothing else.
 -- over: it is done replying only where the queries of all ranks are over.
 -- heard: it heard what came, matched by order alone. read: nothing that came is unheard.
@@ -98,19 +99,22 @@ pub record AdvancesOnce {P : Type 0} {cap : ℕ} {M : Type 0} (G : Ghosts P cap 
       → G.got port' l ≡ G.got port l ++ more
       → length (in_of c' l).parcel.untaken ≤ length (in_of c l).parcel.untaken + length (flat_map (λ p. p.entries) more)
 
--- What a turn that takes a rank from n to n' asks: it pushes the queries from number n.next on, up to number n'.next.
--- at_push: the conveyor of queries after these pushes, before it advances, with no more in a parcel than it holds.
+-- What a turn that takes a rank from n to n' asks: it pushes the queries from number n.next on, up
+-- to number n'.next.
+-- at_push: the conveyor of queries after these pushes, before it advances, with no more in a parcel
+-- than it holds.
 -- pushes: where a query is left, the open parcel toward its receiver is full.
 pub record HasAsked {S : Type 0} (T : Talk S) (cap : ℕ) (n n' : BiState S) : Type 0 where
   pub at_push : State
   pub fits : HoldsAtMost cap at_push
   pub pushes : Pushes (asks_of T n.asker) cap n.next n'.next n.queries at_push
 
--- What it answers, over a port of queries whose lists go from asking and asked to asking' and asked'.
+-- What it answers, over a port of queries whose lists go from asking and asked to asking' and
+-- asked'.
 -- at_pull: the conveyor of queries after it advanced, before any of them is pulled.
 -- agrees, epoch, pulled: it agrees with the port, and no query was pulled since the turn began.
--- at_push: the conveyor of replies after the answers are pushed, before it advances, with no more in a parcel than it
--- holds.
+-- at_push: the conveyor of replies after the answers are pushed, before it advances, with no more
+-- in a parcel than it holds.
 -- answers: queries are pulled, and their answers pushed, as many of these as of those.
 -- all: no query that came is left unread, or the answer to the next one was refused.
 pub record HasAnswered {S : Type 0} (T : Talk S) (cap : ℕ) (n n' : BiState S)

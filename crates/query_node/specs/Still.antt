@@ -14,7 +14,8 @@ pub record Known : Type 0 where
 
 -- A turn that moved no parcel on either way.
 -- asked: the rank is done asking, or a query was refused, and a link out of the queries is crowded.
--- answered: all queries that came are answered, or an answer was refused, and a link out of the replies is crowded.
+-- answered: all queries that came are answered, or an answer was refused, and a link out of the
+-- replies is crowded.
 -- done: it is done replying exactly where its queries are complete.
 pub record IsStuck {S : Type 0} (n n' : BiState S) (old new : Sides) (known : Known) : Type 0 where
   pub queries : IsStill n.queries n'.queries old.asking old.asked new.asking new.asked known.crowded known.idle

@@ -29,7 +29,8 @@ pub record Pushes (items : List (ℕ × Item)) (cap from next : ℕ) (c c' : Sta
   pub refused : (to : ℕ) (x : Item) → slice_get items next ≡ Some (to, x)
       → (to < ranks c'.dims) × (standing_toward c' to ≡ cap)
 
--- Queries may be pulled of q, and their answers pushed on r: q has begun, and r is at work, and isn't done.
+-- Queries may be pulled of q, and their answers pushed on r: q has begun, and r is at work, and
+-- isn't done.
 pub record MayAnswer (q r : State) : Type 0 where
   pub begun : q.phase ≢ Dormant
   pub same_dims : r.dims ≡ q.dims

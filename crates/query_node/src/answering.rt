@@ -12,8 +12,8 @@ use bale_items::Item;
 use convey::{Conveyor, Phase, Pushed};
 use round_program::Asker;
 
-/// Answers queries until none is unread or an answer is refused, unless the queries are over. Answers to whom one was
-/// refused; its query is unread still.
+/// Answers queries until none is unread or an answer is refused, unless the queries are over.
+/// Answers to whom one was refused; its query is unread still.
 pub(crate) fn answer_open<A: Asker, const CAP: usize, const HOPS: usize>(
     asker: &Box<A>,
     queries: &mut Conveyor<CAP, HOPS>,
@@ -45,7 +45,8 @@ pub(crate) fn is_over(phase: Phase) -> bool
     }
 }
 
-/// Answers the queries of the link in from which the next pull takes, in order, until an answer is refused.
+/// Answers the queries of the link in from which the next pull takes, in order, until an answer is
+/// refused.
 fn answer_batch<A: Asker, const CAP: usize, const HOPS: usize>(
     asker: &Box<A>,
     queries: &mut Conveyor<CAP, HOPS>,
@@ -70,7 +71,8 @@ struct Replied {
     refused: Option<u32>,
 }
 
-/// Pushes the answers to the unread queries of that link, in order, until one is refused. The queries aren't pulled yet.
+/// Pushes the answers to the unread queries of that link, in order, until one is refused. The
+/// queries aren't pulled yet.
 fn push_answers<A: Asker, const CAP: usize, const HOPS: usize>(
     asker: &Box<A>,
     queries: &Conveyor<CAP, HOPS>,

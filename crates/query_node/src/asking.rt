@@ -16,8 +16,8 @@ use bale_items::Item;
 use convey::{Conveyor, Phase, Pushed};
 use round_program::Asker;
 
-/// Pushes the queries from number `from` on, in order, until one is refused or all are pushed. Answers how many are
-/// pushed by then.
+/// Pushes the queries from number `from` on, in order, until one is refused or all are pushed.
+/// Answers how many are pushed by then.
 pub(crate) fn push_queries<A: Asker, const CAP: usize, const HOPS: usize>(
     asker: &Box<A>,
     conveyor: &mut Conveyor<CAP, HOPS>,

@@ -80,9 +80,10 @@ impl<A: Asker, const CAP: usize, const HOPS: usize> BiNode<A, CAP, HOPS> {
         })
     }
 
-    /// One turn, by which `steps` rises by one. It pushes queries, in order, until one is refused or all are pushed; advances
-    /// the queries; answers those that came, until an answer is refused; advances the replies, which are done exactly where the
-    /// queries are complete; and hears all replies that came.
+    /// One turn, by which `steps` rises by one. It pushes queries, in order, until one is refused
+    /// or all are pushed; advances the queries; answers those that came, until an answer is
+    /// refused; advances the replies, which are done exactly where the queries are complete; and
+    /// hears all replies that came.
     ///
     /// # Errors
     /// `NoMemory` comes only from a port's post.
@@ -102,8 +103,9 @@ impl<A: Asker, const CAP: usize, const HOPS: usize> BiNode<A, CAP, HOPS> {
             (R.got replies.new) }
         ensures steps { steps.new ≡ steps.old + 1 }
 
-        // Between its two advances, when the queries' port is as the turn leaves it and the replies' port as the turn
-        // found it, the rank is one that stands between two turns: so what holds of those moments holds of this one.
+        // Between its two advances, when the queries' port is as the turn leaves it and the
+        // replies' port as the turn found it, the rank is one that stands between two turns: so
+        // what holds of those moments holds of this one.
         ensures between { (mid : BiState A) × ((start : A) → IsBiNode A.talk start self.old (P.sent queries.old)
             (P.got queries.old) (R.sent replies.old) (R.got replies.old)
             → IsBiNode A.talk start mid (P.sent queries.new) (P.got queries.new) (R.sent replies.old)
@@ -126,8 +128,9 @@ impl<A: Asker, const CAP: usize, const HOPS: usize> BiNode<A, CAP, HOPS> {
         ensures going { result ≡ Ok Turn.Going → self.new.queries.phase ≡ Phase.Complete
             → self.new.replies.phase ≢ Phase.Complete }
 
-        // A query is left to push only where its push was refused, and one that came is unread only where its answer was. The
-        // rank is done asking exactly where all its queries are pushed, and done replying exactly where the queries are over.
+        // A query is left to push only where its push was refused, and one that came is unread only
+        // where its answer was. The rank is done asking exactly where all its queries are pushed,
+        // and done replying exactly where the queries are over.
         ensures unasked { HasAsked A.talk CAP self.old self.new }
         ensures unanswered { HasAnswered A.talk CAP self.old self.new (P.sent queries.old) (P.got queries.old)
             (P.sent queries.new) (P.got queries.new) }

@@ -1,8 +1,10 @@
-//! A rank that asks others, answers what it is asked, and hears the replies, with both ways underway at the same time.
+//! A rank that asks others, answers what it is asked, and hears the replies, with both ways
+//! underway at the same time.
 //!
-//! It has two conveyors over two banks, one for queries and one for replies. A reply carries no number of its query.
-//! Both ways keep the order of each pair of ranks, so the replies of a rank come in the order of the queries to it, and the
-//! next one is that to the first query to this rank that has none.
+//! It has two conveyors over two banks, one for queries and one for replies. A reply carries no
+//! number of its query.
+//! Both ways keep the order of each pair of ranks, so the replies of a rank come in the order of
+//! the queries to it, and the next one is that to the first query to this rank that has none.
 //!
 //! | Call | What it does |
 //! |---|---|
@@ -12,7 +14,8 @@
 //! | `askers_law` | what all ranks have heard, whenever each stands between turns or between a turn's two advances, and at the end |
 //! | `steps_law` | what each has got, at every step within turns |
 //!
-//! round_program's `specs/Replies` says what a rank hears, with no word on how it travels; `specs/Banks` states the replies theorem.
+//! round_program's `specs/Replies` says what a rank hears, with no word on how it travels;
+//! `specs/Banks` states the replies theorem.
 //! The crate biconvey drives such ranks.
 #![tactic(auto)]
 

@@ -25,7 +25,8 @@ abbrev pub IsUnturned : {A J : Type 0} → Child A J → Type 0
 IsUnturned (There worker) = ⊤
 IsUnturned (Here kept) = kept.now ≡ kept.first
 
--- a sweep of the caller: of a worker whose ranks are here, each rank whose run wasn't over made one turn
+-- a sweep of the caller: of a worker whose ranks are here, each rank whose run wasn't over made one
+-- turn
 abbrev pub IsSwept : {A J : Type 0} → (A → Bool) → (A → ℕ) → Child A J → Child A J → Type 0
 IsSwept over turns (There x) (There y) = ⊤
 IsSwept over turns (Here x) (Here y) = AllRan (MakesOneTurn over turns) x.now y.now

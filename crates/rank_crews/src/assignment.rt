@@ -101,7 +101,8 @@ fn all_over<A: Seated>(ranks: &[A]) -> bool
     true
 }
 
-/// Makes one turn of each rank whose run isn't over, from the last to the first. Answers whether any made progress.
+/// Makes one turn of each rank whose run isn't over, from the last to the first. Answers whether
+/// any made progress.
 fn sweep_ranks<'a, R: Wait, A: Seated, G: Gate, J: GateLog, L: Ledger>(
     shared: &Shared<'a, R, G, J>,
     ranks: &mut Vec<A>,

@@ -1,9 +1,11 @@
 //! When a worker without progress yields its processor, and when it calls the fallback.
 //!
-//! Time is told by turns: each worker reports its own to a count that all share, so what the others turned while a worker had
-//! yielded is how long it was away. A worker spins for some 15 microseconds before it yields. On an idle machine a yield takes a
-//! microsecond, so the others make most of their turns while it spins. If other work has the processor, a yield takes
-//! milliseconds, and they make nearly all of their turns while it is away, also if they have to share their processors as well.
+//! Time is told by turns: each worker reports its own to a count that all share, so what the others
+//! turned while a worker had yielded is how long it was away. A worker spins for some 15
+//! microseconds before it yields. On an idle machine a yield takes a microsecond, so the others
+//! make most of their turns while it spins. If other work has the processor, a yield takes
+//! milliseconds, and they make nearly all of their turns while it is away, also if they have to
+//! share their processors as well.
 
 use crate::gate::Gate;
 use crate::seated::GateLog;
@@ -25,8 +27,8 @@ const LONG_YIELD: u64 = 64;
 /// and so many times as many as between the yield before and this one.
 const LONG_RATIO: u64 = 4;
 
-/// A worker calls the fallback after so many long yields more than short ones. A processor that is taken away now and then makes
-/// one long yield each time, among many short ones.
+/// A worker calls the fallback after so many long yields more than short ones. A processor that is
+/// taken away now and then makes one long yield each time, among many short ones.
 const CROWDED: u64 = 8;
 
 /// The turns of a worker, and how long its yields were.
@@ -66,8 +68,8 @@ impl Backoff {
         self.count(shared, turns, BUSY_BATCH);
     }
 
-    /// Counts turns without progress, and yields after some of them. Answers whether its yields were long so often that the ranks
-    /// are sooner done on one thread.
+    /// Counts turns without progress, and yields after some of them. Answers whether its yields
+    /// were long so often that the ranks are sooner done on one thread.
     pub(crate) fn idled<R, G: Gate, J: GateLog>(
         &mut self,
         shared: &Shared<'_, R, G, J>,

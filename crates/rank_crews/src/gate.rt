@@ -3,8 +3,9 @@ ghost use Rattle.std.specs.Prelude.{◌≡◌, ℕ, Bool, true};
 
 /// A gate before the turns: a test can hold a rank there. It has no condition, and returns.
 ///
-/// `told` is the set of turns that a gate was notified of. A drive works with every gate, so it knows nothing of this set except
-/// what `turn` ensures: the only way to show that a turn is in it is to notify the gate. An impl need not define it.
+/// `told` is the set of turns that a gate was notified of. A drive works with every gate, so it
+/// knows nothing of this set except what `turn` ensures: the only way to show that a turn is in it
+/// is to notify the gate. An impl need not define it.
 pub trait Gate {
     ghost told: { Self → ℕ → ℕ → Bool } = { λ g r n. true };
 

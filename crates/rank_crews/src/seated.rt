@@ -16,10 +16,11 @@ impl GateLog for Brand {
     ghost told = { λ r n. false };
 }
 
-/// A rank that sits at its ports and is polled until its run is over. Whoever polls it knows nothing of the other ranks.
+/// A rank that sits at its ports and is polled until its run is over. Whoever polls it knows
+/// nothing of the other ranks.
 ///
-/// `ran told x y` says that turns took a rank from x to y, and that `told` holds of the rank and the
-/// number of each of them; `turns` counts all turns up to some moment.
+/// `ran told x y` says that turns took a rank from x to y, and that `told` holds of the rank and
+/// the number of each of them; `turns` counts all turns up to some moment.
 ///
 /// | Call | Needs | Answer |
 /// |---|---|---|
@@ -49,9 +50,9 @@ pub trait Seated: Drop {
     fn is_over(&self) -> bool
         ensures { result ≡ over self.now };
 
-    /// Makes one turn. Answers whether it made progress: false if and only if the rank is `still`. A
-    /// node makes progress if it pushes an item, if a parcel is posted or collected, and if an epoch
-    /// ends. If it made none, other ranks may have to be polled first.
+    /// Makes one turn. Answers whether it made progress: false if and only if the rank is `still`.
+    /// A node makes progress if it pushes an item, if a parcel is posted or collected, and if an
+    /// epoch ends. If it made none, other ranks may have to be polled first.
     fn turn<R: Wait, J: GateLog, L: Ledger>(&mut self, rt: &R, steps: &mut Steps<L>) -> bool
         requires going { over self.old ≡ false }
         // The gate was notified of this turn before it is made.

@@ -11,7 +11,8 @@ use std::sync::atomic::{AtomicU64, Ordering};
 use std::sync::ledger::Ledger;
 use std::sync::{OnceLock, OnceToken, Wait};
 
-/// The handle, the gate, the fallback to the caller's thread, and the turns that all workers have made.
+/// The handle, the gate, the fallback to the caller's thread, and the turns that all workers have
+/// made.
 #[derive(Drop)]
 pub struct Shared<'d, R, G: Gate, J: GateLog> {
     pub(crate) rt: &'d R,
@@ -99,7 +100,8 @@ impl<'d, R: Wait, G: Gate, J: GateLog> Shared<'d, R, G, J> {
         self.returns.park(self.rt, (seen % (1 << 32)) as u32);
     }
 
-    /// Notifies the gate of a rank's next turn, and makes it. Answers whether the rank made progress.
+    /// Notifies the gate of a rank's next turn, and makes it. Answers whether the rank made
+    /// progress.
     pub(crate) fn turn<A: Seated, L: Ledger>(&self, at: &mut A, steps: &mut Steps<L>) -> bool
         requires going { A.over at.old ≡ false }
         ensures ran { A.ran J.told at.old at.new }

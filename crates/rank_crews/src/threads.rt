@@ -20,12 +20,12 @@ use std::sync::Wait;
 use std::thread;
 use std::thread::{Scope, Threads};
 
-/// Polls all ranks until the run of each is over, with so many workers, rank r by worker r mod their number. The first of them
-/// have a thread each, as many as `threads` says, and the caller polls the ranks of those that have none. It waits for its
-/// threads.
+/// Polls all ranks until the run of each is over, with so many workers, rank r by worker r mod
+/// their number. The first of them have a thread each, as many as `threads` says, and the caller
+/// polls the ranks of those that have none. It waits for its threads.
 ///
-/// If other work keeps the threads from their processors, all ranks fall back to the caller's thread, which polls those of each
-/// worker as soon as that returns.
+/// If other work keeps the threads from their processors, all ranks fall back to the caller's
+/// thread, which polls those of each worker as soon as that returns.
 ///
 /// # Errors
 /// `NoMemory` comes before the first turn.
@@ -125,8 +125,8 @@ fn run_in<
     Ok(take_ranks(children, ended))
 }
 
-/// Starts a thread for each of the first workers, as many as `threads` says. It takes them from the end, so the children stand in
-/// reverse order.
+/// Starts a thread for each of the first workers, as many as `threads` says. It takes them from the
+/// end, so the children stand in reverse order.
 fn start_all<
     's,
     E,
@@ -145,7 +145,8 @@ fn start_all<
     requires none { children.items ≡ [] }
     requires room { length all.items ≤ vec_capacity children }
     ensures first { map first_of result.items ≡ reverse all.items }
-    // No worker but the first has a thread, as many as were asked for: child k is worker number (workers - 1 - k).
+    // No worker but the first has a thread, as many as were asked for: child k is worker number
+    // (workers - 1 - k).
     ensures started { (k : ℕ) (c : Child A J) → slice_get result.items k ≡ Some c → is_there c ≡ true
         → length all.items ≤ threads.number + k }
 {
@@ -185,8 +186,8 @@ fn place<
     }
 }
 
-/// The ranks of all workers, once the run of each is over. It takes the children from the end, so what stood in reverse order is
-/// in order.
+/// The ranks of all workers, once the run of each is over. It takes the children from the end, so
+/// what stood in reverse order is in order.
 fn take_ranks<'s, A: Seated, J: GateLog>(
     children: Vec<Child<'s, A, J>>,
     back: Vec<Assignment<A>>,

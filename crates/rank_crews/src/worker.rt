@@ -12,8 +12,8 @@ use bale_items::Steps;
 use std::sync::ledger::Ledger;
 use std::sync::{OnceToken, Wait};
 
-/// A worker makes so many sweeps before it looks for the fallback: a gate that holds a rank in its first turns until another rank
-/// was polled then holds it on a thread of its own.
+/// A worker makes so many sweeps before it looks for the fallback: a gate that holds a rank in its
+/// first turns until another rank was polled then holds it on a thread of its own.
 const FIRST_SWEEPS: u32 = 4;
 
 /// The ranks of a worker, and what it shares with the others.

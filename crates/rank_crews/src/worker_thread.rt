@@ -17,7 +17,8 @@ use std::sync::{OnceLock, OnceToken, Wait};
 use std::thread;
 use std::thread::{Promise, PromisedHandle, Threads};
 
-/// The promise of a worker's thread: it gives back the ranks that came through its ring, having polled them.
+/// The promise of a worker's thread: it gives back the ranks that came through its ring, having
+/// polled them.
 #[derive(Drop)]
 pub struct SameRanks<A: Seated, J: GateLog> {
     pub(crate) end: Snapshot<Consumer<Assignment<A>>>,
@@ -30,7 +31,8 @@ impl<A: Seated, J: GateLog> Promise<(Assignment<A>, Consumer<Assignment<A>>)> fo
     ghost kept_by = { λ p r. CameBack (AllRan (A.ran J.told)) p.end.value r.1 r.0 };
 }
 
-/// A worker whose thread was started. Its ranks went there through a ring for one, once the thread was up.
+/// A worker whose thread was started. Its ranks went there through a ring for one, once the thread
+/// was up.
 #[derive(Drop)]
 pub struct WorkerThread<'s, A: Seated, J: GateLog> {
     pub(crate) handle: PromisedHandle<(Assignment<A>, Consumer<Assignment<A>>), SameRanks<A, J>>,
@@ -80,7 +82,8 @@ impl<'s, A: Seated, J: GateLog> WorkerThread<'s, A, J> {
     }
 }
 
-/// Waits for the ranks that come through a ring, and polls them until the run of each is over, or the fallback is called.
+/// Waits for the ranks that come through a ring, and polls them until the run of each is over, or
+/// the fallback is called.
 pub(crate) fn run_what_comes<'a, R: Wait, A: Seated, G: Gate, J: GateLog>(
     shared: &'a Shared<'a, R, G, J>,
     returned: &'a OnceLock<()>,

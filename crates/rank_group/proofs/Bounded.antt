@@ -1,5 +1,5 @@
--- A log of a rank in its first epoch is short: on a grid of one number it has at most one parcel for each emission, and one that
--- ends the epoch.
+-- A log of a rank in its first epoch is short: on a grid of one number it has at most one parcel
+-- for each emission, and one that ends the epoch.
 use Rattle.std.proofs.Common.{◌≡◌, ℕ, zero, suc, Bool, true, false, cond, List, [], ◌∷◌, flat_map, All, refl, sym, subst}
 use Rattle.std.proofs.lemmas.List.Elements.{All-nil, All-cons, All-append}
 use Rattle.item_buffer.specs.Contents.{Shipped}

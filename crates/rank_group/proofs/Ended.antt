@@ -150,7 +150,8 @@ logs_map f [] e l = sym e
 logs_map f (c ∷ channels) e zero = refl
 logs_map f (c ∷ channels) e (suc l) = logs_map f channels e l
 
--- what a closed bank tells of a link is what was sent on it and got from it, and at first that is nothing
+-- what a closed bank tells of a link is what was sent on it and got from it, and at first that is
+-- nothing
 pub all_sent : (cap : ℕ) (b : Bank) (round : Round) (l : ℕ) → round ≡ closed cap b → logs_of round.sent l ≡ sent_of b l
 all_sent cap b round l is = ap (λ (c : Round). logs_of c.sent l) is ∙ logs_map (λ c. c.sent) b.channels refl l
 

@@ -88,7 +88,8 @@ pub halves_less : (most : ℕ → ℕ) (j : ℕ) (over : Bool) (n : ℕ) (x : St
 halves_less most j over n x (inl low) = inl (omega (arith, low))
 halves_less most j over n x (inr here) = inl (omega (arith, here.0))
 
--- the exstacks of all ranks: none that goes on has made all rounds of its epoch, and those that are over are done with the last
+-- the exstacks of all ranks: none that goes on has made all rounds of its epoch, and those that are
+-- over are done with the last
 pub record AllStacks (p cap slots : ℕ) (most : ℕ → ℕ) (epochs : ℕ) (over : ℕ → Bool) (n : ℕ → ℕ) (all : ℕ → Stack) (sent got : Logs) : Type 0 where
   pub step : InStep p cap slots n all sent got
   pub short : (r : ℕ) → r < p → over r ≡ false → finished_in (n r) (all r).stage < most (all r).epoch

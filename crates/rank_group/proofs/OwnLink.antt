@@ -1,4 +1,5 @@
--- A rank that has a parcel to post to itself has collected nothing from itself by its turn, unless it finished a round.
+-- A rank that has a parcel to post to itself has collected nothing from itself by its turn, unless
+-- it finished a round.
 use Rattle.std.proofs.Common.{◌≡◌, ℕ, ◌+◌, ◌<◌, ◌≤◌, Bool, true, false, cond, List, length, length-append, refl, sym, ap, subst, ◌∙◌, arith}
 use Rattle.item_buffer.specs.Contents.{Shipped}
 use Rattle.port_bank.proofs.Fronts.{begins_shorter, begins_whole}

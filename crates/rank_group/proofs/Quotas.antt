@@ -1,4 +1,5 @@
--- How many items a rank sends in each epoch of a run, and how many turns the rounds of all epochs take.
+-- How many items a rank sends in each epoch of a run, and how many turns the rounds of all epochs
+-- take.
 use Rattle.std.proofs.Common.{◌≡◌, ℕ, zero, suc, ◌+◌, ◌*◌, ◌<◌, ◌≤◌, false, cond, List, [], ◌∷◌, length, length-append, Some, slice_get, refl, sym, ap, subst, ◌∙◌, arith}
 use Rattle.list_laws.specs.Sums.{total}
 use Rattle.list_laws.proofs.Sums.{total_same, total_const, total_list}

@@ -23,7 +23,8 @@ use Rattle.rank_node.specs.Cycles.{IsInCycle, cycle_of_turn, TurnsOnward, Awaits
 use Rattle.rank_group.specs.Ranks.{RankState, HasRank, AfterTurn, AfterRank, IsLeftBy, progress}
 use Rattle.rank_group.proofs.OneTurn.{OneTurn, NextTold, stays_in, goes_on}
 
--- what a turn tells over the port of rank r of a bank, where the port after it is that of rank r' of another
+-- what a turn tells over the port of rank r of a bank, where the port after it is that of rank r'
+-- of another
 pub record PortTurn {S : Type 0} (R : Rules S) (cap : ℕ) (turn : Turn) (n n' : NodeState S) (b : Bank) (r : ℕ) (b' : Bank) (r' : ℕ) : Type 0 where
   pub dims : b'.dims ≡ b.dims
   pub slots : b'.slots ≡ b.slots

@@ -1,4 +1,5 @@
--- A rank that its turn left where it is, over a bank: what its links say of those that it waits for.
+-- A rank that its turn left where it is, over a bank: what its links say of those that it waits
+-- for.
 use Rattle.std.proofs.Common.{◌≡◌, ◌⊎◌, ℕ, ◌+◌, ◌<◌, ◌≤◌, true, List, [], length, Some, slice_get, sym, ap, subst, ◌∙◌, arith, eqb-true}
 use Rattle.bale_items.specs.declared.item.Entry.{Entry}
 use Rattle.route_tensor.specs.Link.{links}

@@ -38,7 +38,8 @@ pub record HasSwept {S : Type 0} (R : Rules S) (starts : List S) (made : Made) (
   -- The closed round tells the logs that these turns left.
   pub exchanged : (c : ClosedRound) → run.rounds ≡ c ∷ [] → (l : ℕ)
       → (logs_of (round_of c).sent l ≡ order.last.sent l) × (logs_of (round_of c).got l ≡ order.last.got l)
-  -- Each rank made a turn in each epoch at least: one of its work and one of its votes in each round.
+  -- Each rank made a turn in each epoch at least: one of its work and one of its votes in each
+  -- round.
   pub fewest : (n : ℕ) → HasRounds R starts n → before + 2 * n * ranks made.dims ≤ after
   -- No link has more parcels than the run had turns.
   pub posted : (c : ClosedRound) → run.rounds ≡ c ∷ [] → (l : ℕ) → l < links made.dims

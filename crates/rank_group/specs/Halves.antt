@@ -31,13 +31,16 @@ quota_from R p starts r m (suc (suc e)) = quota_from R p starts r (suc m) e
 abbrev pub quota_of : {S : Type 0} → Rules S → ℕ → List S → ℕ → ℕ → ℕ
 quota_of R p starts r e = quota_from R p starts r 0 e
 
--- How many rounds an epoch has at most: a rank that isn't done pushes an item in each exchange round at least.
+-- How many rounds an epoch has at most: a rank that isn't done pushes an item in each exchange
+-- round at least.
 -- Where 3 items are sent these are 7.
 abbrev pub most_rounds : {S : Type 0} → Rules S → ℕ → List S → ℕ → ℕ
 most_rounds R p starts e = 2 * total p (λ r. quota_of R p starts r e) + 1
 
--- How many rounds a rank in cycle n has made over all epochs, if each epoch before had as many as it may have.
--- With at most 7 and 3 rounds in the epochs 0 and 1, a rank that fills its buffers in cycle 0 of epoch 1 has made 8.
+-- How many rounds a rank in cycle n has made over all epochs, if each epoch before had as many as
+-- it may have.
+-- With at most 7 and 3 rounds in the epochs 0 and 1, a rank that fills its buffers in cycle 0 of
+-- epoch 1 has made 8.
 abbrev pub rounds_made : (ℕ → ℕ) → Bool → ℕ → Stack → ℕ
 rounds_made most over n x = if over then total (x.epoch + 1) most else total x.epoch most + finished_in n x.stage
 

@@ -37,7 +37,8 @@ pub record IsOrder (p : ℕ) (order : List ℕ) : Type 0 where
   pub below : All (λ r. r < p) order
   pub each : (r : ℕ) → r < p → (i : ℕ) × (slice_get order i ≡ Some r)
 
--- Rank r over its own logs, of what it sent and of what it got; h m is the state of its program as round m began.
+-- Rank r over its own logs, of what it sent and of what it got; h m is the state of its program as
+-- round m began.
 pub record IsRank {S : Type 0} (R : Rules S) (dims : List ℕ) (cap : ℕ) (manner : Manner) (r : ℕ) (h : ℕ → S)
     (n : RankState S) (sent got : Logs) : Type 0 where
   pub same_dims : dims_of n.node.mover ≡ dims
@@ -69,7 +70,8 @@ pub record AllRanks {S : Type 0} (R : Rules S) (dims : List ℕ) (cap slots : �
 abbrev pub progress : {S : Type 0} → RankState S → ℕ
 progress n = if n.over then epoch_in n.node.mover + 1 else epoch_in n.node.mover
 
--- Whether no slot is free on rank r's link l out, and whether nothing waits on its link l in, by the logs of all ranks.
+-- Whether no slot is free on rank r's link l out, and whether nothing waits on its link l in, by
+-- the logs of all ranks.
 abbrev pub crowded_in : List ℕ → ℕ → ℕ → Logs → Logs → ℕ → Bool
 crowded_in dims slots r sent got l = length (starting_at dims r sent l) == length (got l) + slots
 
@@ -108,7 +110,8 @@ pub record AfterTurn {S : Type 0} (R : Rules S) (dims : List ℕ) (cap slots r :
   pub onward : TurnsOnward n.mover n'.mover
   pub awaits : AwaitsSome n'.mover
 
--- A rank that a turn over a conveyor left in its epoch, having moved no parcel: its epoch isn't over.
+-- A rank that a turn over a conveyor left in its epoch, having moved no parcel: its epoch isn't
+-- over.
 pub record IsLeft (c c' : State) (sent got sent' got' : Logs) (is_crowded is_idle : ℕ → Bool) : Type 0 where
   pub stuck : IsStuck c c' sent got sent' got' is_crowded is_idle
   pub going : is_complete c'.phase ≡ false
@@ -137,7 +140,8 @@ pub record IsUnturned {S : Type 0} (dims : List ℕ) (r : ℕ) (n n' : RankState
   pub same_got : ending_at dims r got' ≡ ending_at dims r got
 
 -- A turn left rank r in its epoch, which isn't over.
--- cycle, onward, awaits, waits: over an exstack it went on in its cycles, and what keeps it where it is within a round.
+-- cycle, onward, awaits, waits: over an exstack it went on in its cycles, and what keeps it where
+-- it is within a round.
 pub record StaysIn {S : Type 0} (R : Rules S) (dims : List ℕ) (slots r : ℕ) (n n' : RankState S)
     (sent got sent' got' : Logs) : Type 0 where
   pub still : n'.over ≡ false
@@ -176,8 +180,10 @@ pub record EndsEpoch {S : Type 0} (R : Rules S) (dims : List ℕ) (r : ℕ) (n n
 -- What the turn of rank r leaves, with the step to its next epoch where one has ended.
 -- one_sent: it posts at most one parcel on a link.
 -- lies: an inbox holds at most what it held and what came.
--- forward: its epochs only go on. left: where it is in the same epoch and no parcel was moved, it was left there.
--- unturned, turned: a rank whose run is over isn't turned, and one that goes on stays in its epoch or ends it.
+-- forward: its epochs only go on. left: where it is in the same epoch and no parcel was moved, it
+-- was left there.
+-- unturned, turned: a rank whose run is over isn't turned, and one that goes on stays in its epoch
+-- or ends it.
 pub record AfterRank {S : Type 0} (R : Rules S) (dims : List ℕ) (cap slots r : ℕ) (n n' : RankState S)
     (sent got sent' got' : Logs) : Type 0 where
   pub sent_elsewhere : starting_elsewhere dims r sent' ≡ starting_elsewhere dims r sent

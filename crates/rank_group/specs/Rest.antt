@@ -1,4 +1,5 @@
--- The rest law of nodes: where a sweep of turns over conveyors moved nothing, the least epoch is over.
+-- The rest law of nodes: where a sweep of turns over conveyors moved nothing, the least epoch is
+-- over.
 use Rattle.std.specs.Prelude.{◌≡◌, ◌⊎◌, ℕ, ◌<◌, ◌≤◌, Bool, true, List}
 use Rattle.route_tensor.specs.Grid.{ranks, IsGrid}
 use Rattle.route_tensor.specs.Link.{links}
@@ -11,8 +12,8 @@ use Rattle.rank_node.specs.Nodes.{NodeState, IsNode}
 use Rattle.rank_node.specs.Moves.{Waits}
 use Rattle.rank_group.specs.Ranks.{crowded_in, idle_in}
 
--- Node n of rank r conveys its items over a bank with these lists; h m is the state of its program as
--- round m began.
+-- Node n of rank r conveys its items over a bank with these lists; h m is the state of its program
+-- as round m began.
 pub record Conveys {S : Type 0} (R : Rules S) (dims : List ℕ) (steady : Bool) (r : ℕ) (h : ℕ → S)
     (n : NodeState S) (sent got : Logs) : Type 0 where
   pub same_dims : dims_of n.mover ≡ dims
@@ -20,8 +21,8 @@ pub record Conveys {S : Type 0} (R : Rules S) (dims : List ℕ) (steady : Bool) 
   pub manner : manner_in n.mover ≡ ByConveyor steady
   pub node : IsNode R h n (starting_at dims r sent) (ending_at dims r got)
 
--- A turn of rank r that had memory took its node from n to n' and moved nothing: the lists of the bank
--- are after it what they were before it.
+-- A turn of rank r that had memory took its node from n to n' and moved nothing: the lists of the
+-- bank are after it what they were before it.
 -- epoch: it is in the same epoch. kept: no inbox lost an item.
 -- waits: what the turn says of what it waits for, where its port knows what is true of the bank.
 pub record MovesNothing {S : Type 0} (R : Rules S) (dims : List ℕ) (slots : ℕ) (steady : Bool) (r : ℕ)
@@ -33,8 +34,8 @@ pub record MovesNothing {S : Type 0} (R : Rules S) (dims : List ℕ) (slots : �
       (starting_at dims r sent) (ending_at dims r got) (crowded_in dims slots r sent got)
       (idle_in dims r sent got)
 
--- A sweep over the nodes of all ranks in which no parcel was posted or collected, marked last or not,
--- and no item was taken out of an inbox. No rank is in an epoch before e.
+-- A sweep over the nodes of all ranks in which no parcel was posted or collected, marked last or
+-- not, and no item was taken out of an inbox. No rank is in an epoch before e.
 -- turned: a rank in epoch e had completed it before, or it was turned.
 -- The ranks may be in different epochs.
 pub record IsQuietSweep {S : Type 0} (R : Rules S) (dims : List ℕ) (cap slots e : ℕ) (steady : Bool)

@@ -6,7 +6,8 @@ use Rattle.rank_node.specs.Movers.{Manner}
 use Rattle.rank_group.specs.Noted.{HasSame}
 use Rattle.rank_group.specs.Ranks.{RankState, IsRank, progress}
 
--- A rank and its seat: how many turns it made, and whether memory was wanting at the end of its run.
+-- A rank and its seat: how many turns it made, and whether memory was wanting at the end of its
+-- run.
 pub record SeatedState (S : Type 0) : Type 0 where
   pub rank : RankState S
   pub seat : Manning
@@ -32,7 +33,8 @@ pub record HasWay {S : Type 0} (R : Rules S) (cap : ℕ) (x : SeatedState S) : T
   pub way : IsOnWay R cap manner h x
 
 -- Turns took a rank from x to y: it sits where it sat, and is still on the way of its run.
--- heard: `told` holds of each of them, by the rank's number and its own, counted from 0 over the whole run.
+-- heard: `told` holds of each of them, by the rank's number and its own, counted from 0 over the
+-- whole run.
 pub record Ran {S : Type 0} (R : Rules S) (cap : ℕ) (told : ℕ → ℕ → Bool) (x y : SeatedState S) : Type 0 where
   pub bank : bank_of y ≡ bank_of x
   pub number : y.seat.rank ≡ x.seat.rank
@@ -53,8 +55,8 @@ pub record IsSeated {S : Type 0} (R : Rules S) (cap : ℕ) (manner : Manner) (b 
 abbrev pub AreSeated : {S : Type 0} → Rules S → ℕ → Manner → Identity → List (SeatedState S) → Type 0
 AreSeated {S} R cap manner b xs = (r : ℕ) (x : SeatedState S) → slice_get xs r ≡ Some x → IsSeated R cap manner b r x
 
--- Turns from x to y made no progress: no parcel was posted or collected, no item was pushed, no epoch
--- ended, and the run didn't end for want of memory.
+-- Turns from x to y made no progress: no parcel was posted or collected, no item was pushed, no
+-- epoch ended, and the run didn't end for want of memory.
 pub record MadeNone {S : Type 0} (x y : SeatedState S) : Type 0 where
   pub parcels : HasSame x.seat y.seat
   pub pushed : y.rank.node.run.next ≡ x.rank.node.run.next

@@ -12,7 +12,8 @@ use Rattle.round_program.specs.Epochs.{vote_item}
 use Rattle.rank_node.specs.Movers.{Manner, IsShape}
 use Rattle.rank_node.specs.Movers.Manner.{ByConveyor, ByExstack}
 
--- With what a bank was made: the grid, the capacity of a parcel, the slots of a link, and whether it was a slot bank.
+-- With what a bank was made: the grid, the capacity of a parcel, the slots of a link, and whether
+-- it was a slot bank.
 pub record Made : Type 0 where
   pub dims : List ℕ
   pub cap : ℕ
@@ -25,14 +26,18 @@ vote_sent R None = []
 vote_sent R (Some s) = vote_item (R.vote s) ∷ []
 
 -- A closed round tells a run of n rounds that began in some states.
--- bank: it was made as asked. lawful: what holds of every closed round, pairs and their order among it.
--- ended, by_last: each link ended two epochs a round, and nothing came after them. collected: all parcels were.
--- work: in epoch 2m each rank pushed toward each rank what it emits to it in round m of the canonical run.
+-- bank: it was made as asked. lawful: what holds of every closed round, pairs and their order among
+-- it.
+-- ended, by_last: each link ended two epochs a round, and nothing came after them. collected: all
+-- parcels were.
+-- work: in epoch 2m each rank pushed toward each rank what it emits to it in round m of the
+-- canonical run.
 -- votes: in epoch 2m + 1 it pushed its one vote on round m.
 -- all_came: each rank pulled what was pushed toward it.
--- shape: each parcel is filled as the transport fills it, conveyors steady or not. Where they aren't steady, an epoch's
--- entries travel in few parcels (port_bank's few_parcels_law).
--- With two ranks and six rounds there are 12 epochs; in each odd one each of the four pairs has one item.
+-- shape: each parcel is filled as the transport fills it, conveyors steady or not. Where they
+-- aren't steady, an epoch's entries travel in few parcels (port_bank's few_parcels_law).
+-- With two ranks and six rounds there are 12 epochs; in each odd one each of the four pairs has one
+-- item.
 pub record TellsRun {S : Type 0} (R : Rules S) (starts : List S) (n : ℕ) (made : Made) (manner : Manner)
     (round : Round) : Type 0 where
   pub bank : record { dims = round.dims; cap = round.cap; slots = round.slots; by_slots = round.by_slots } ≡ made
@@ -51,14 +56,16 @@ pub record TellsRun {S : Type 0} (R : Rules S) (starts : List S) (n : ℕ) (made
 -- Over conveyors each turn but P of them moves something, and a parcel or an entry moves at most so
 -- often. Over exstacks two turns of every rank finish a round, and an epoch has at most 2 * items +
 -- 1 of them.
--- one_rank: over conveyors turns_of (1) 4 is 1 * (4 * 4 + 2 * 1 + 1) = 19, and over exstacks 4 * 1 * (4 + 2) = 24.
+-- one_rank: over conveyors turns_of (1) 4 is 1 * (4 * 4 + 2 * 1 + 1) = 19, and over exstacks 4 * 1
+-- * (4 + 2) = 24.
 abbrev pub turns_of : Manner → List ℕ → ℕ → ℕ
 turns_of (ByConveyor steady) dims items = ranks dims * (items * (3 * length dims + 1) + 2 * links dims + 1)
 turns_of ByExstack dims items = 4 * ranks dims * (items + 2)
 
--- How many turns the first n rounds of a run take at most: those of each round's work, and those of its votes, one from
--- each rank to each.
--- For one rank, four entries and one round it is 19 + 7 = 26 over conveyors, and 24 + 12 = 36 over exstacks.
+-- How many turns the first n rounds of a run take at most: those of each round's work, and those of
+-- its votes, one from each rank to each.
+-- For one rank, four entries and one round it is 19 + 7 = 26 over conveyors, and 24 + 12 = 36 over
+-- exstacks.
 abbrev pub turns_within : {S : Type 0} → Rules S → Manner → List ℕ → List S → ℕ → ℕ
 turns_within R manner dims starts zero = 0
 turns_within R manner dims starts (suc n) =

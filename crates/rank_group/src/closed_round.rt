@@ -79,7 +79,8 @@ impl Rounds {
         Ok(())
     }
 
-    /// Puts the rounds of `more` at the end, in order. After `NoMemory` the list is as before, and `more` is dropped.
+    /// Puts the rounds of `more` at the end, in order. After `NoMemory` the list is as before, and
+    /// `more` is dropped.
     pub fn append(&mut self, more: Rounds) -> Result<(), NoMemory>
         ensures added { OnOk result (self.new ≡ self.old ++ more) }
         ensures refused { OnErr result (self.new ≡ self.old) }

@@ -1,7 +1,8 @@
 //! What both transports tell of the epochs of all ranks.
 ghost use Rattle.rank_group.specs.Closes.{ClosesLaws};
 
-/// Does nothing, and tells the closes laws of conveyors and of exstacks, and how exstacks keep step.
+/// Does nothing, and tells the closes laws of conveyors and of exstacks, and how exstacks keep
+/// step.
 pub(crate) fn closes_laws()
     ensures { ClosesLaws }
 {

@@ -26,9 +26,10 @@ pub struct Finished<Q> {
     pub rounds: Rounds,
 }
 
-/// Drives the programs of all ranks, from their first round to their last, by conveyors or, on a grid of one number, by exstacks,
-/// over one bank with parcels of `CAP` entries and `slots` (1, 2, 4 or 8) parcels on a link at a time. Each sweep turns the ranks
-/// in the order given, until no epoch follows for any. Each turn raises `steps` by one.
+/// Drives the programs of all ranks, from their first round to their last, by conveyors or, on a
+/// grid of one number, by exstacks, over one bank with parcels of `CAP` entries and `slots` (1, 2,
+/// 4 or 8) parcels on a link at a time. Each sweep turns the ranks in the order given, until no
+/// epoch follows for any. Each turn raises `steps` by one.
 ///
 /// # Errors
 /// `NoMemory` where a program, a node, the bank or the result found none. The programs are dropped.

@@ -1,7 +1,8 @@
 //! The ranks of a run: programs that exchange their items over conveyors or exstacks.
 //!
-//! A rank is a node of rank_node and whether its run is over. Ranks may be turned in whatever order, since a turn never waits. A
-//! *sweep* turns each rank once, and `drive_serial` makes sweeps until no epoch follows for any rank.
+//! A rank is a node of rank_node and whether its run is over. Ranks may be turned in whatever
+//! order, since a turn never waits. A *sweep* turns each rank once, and `drive_serial` makes sweeps
+//! until no epoch follows for any rank.
 //!
 //! | Call | What it does |
 //! |---|---|
@@ -14,11 +15,13 @@
 //! | `NotingPort` | a rank's port that notes whether a parcel moved |
 //! | `one_by_one` | takes a list of ranks apart |
 //!
-//! On threads workers poll the ranks, as rank_crews has them: its `Gate`, `Seated` and `run_together` are passed on here.
+//! On threads workers poll the ranks, as rank_crews has them: its `Gate`, `Seated` and
+//! `run_together` are passed on here.
 //!
-//! `specs/Told` says what the closed round of a run tells, and how many turns a run takes at most. `specs/Rounds` says what
-//! contracts see of a closed round, `specs/Ranks` begins with what an order of the ranks is,
-//! `specs/Turns` says what sweeps in one order are. The others are the code's own.
+//! `specs/Told` says what the closed round of a run tells, and how many turns a run takes at most.
+//! `specs/Rounds` says what contracts see of a closed round, `specs/Ranks` begins with what an
+//! order of the ranks is, `specs/Turns` says what sweeps in one order are. The others are the
+//! code's own.
 #![tactic(auto)]
 
 mod at_port;

@@ -8,7 +8,8 @@ use std::marker::Model;
 
 /// The elements of a short list, each moved out in its turn, from the first to the last.
 ///
-/// It is `Vec::into_iter` without the queue behind that, which would be compiled anew for the ranks of each drive.
+/// It is `Vec::into_iter` without the queue behind that, which would be compiled anew for the ranks
+/// of each drive.
 #[derive(Drop)]
 pub struct OneByOne<T> {
     /// The last one stands first.
@@ -23,8 +24,9 @@ impl<T> Model for OneByOne<T> {
     ghost view = { λ o. reverse o.left.items };
 }
 
-/// Takes a list apart: the elements move from its end to a second list, from whose end they are handed out in order. Only `pop` and
-/// `push_reserved` do it, which lists of ranks need anyhow; `reverse` would be compiled anew for the ranks of each drive.
+/// Takes a list apart: the elements move from its end to a second list, from whose end they are
+/// handed out in order. Only `pop` and `push_reserved` do it, which lists of ranks need anyhow;
+/// `reverse` would be compiled anew for the ranks of each drive.
 ///
 /// # Errors
 /// `NoMemory` where there was none.

@@ -129,6 +129,7 @@ impl<'a, const CAP: usize> Port<CAP> for NotingPort<'a, CAP> {
         Ok(posted)
     }
 
+    #[inline]
     fn collect(&mut self, link: u32, p: &mut Parcel<CAP>) -> Collected {
         let collected = self.port.collect(link, p);
         match collected {

@@ -1,11 +1,13 @@
 //! Turns the nodes of all ranks over one plain bank, sweep after sweep.
 //!
-//! Over conveyors, in a sweep some parcel is posted or collected, or some entry is taken from an inbox; or else the least epoch
-//! is over for every rank that is in it. Each of these happens only so often, which bounds the number of sweeps.
+//! Over conveyors, in a sweep some parcel is posted or collected, or some entry is taken from an
+//! inbox; or else the least epoch is over for every rank that is in it. Each of these happens only
+//! so often, which bounds the number of sweeps.
 //!
-//! Over exstacks a rank finishes rounds, whose posts are their first halves and whose collects are their second. In a sweep each
-//! rank gets half a round further than the last of them was, since ranks that have finished as many rounds don't keep each other;
-//! and an epoch has only so many rounds.
+//! Over exstacks a rank finishes rounds, whose posts are their first halves and whose collects are
+//! their second. In a sweep each rank gets half a round further than the last of them was, since
+//! ranks that have finished as many rounds don't keep each other; and an epoch has only so many
+//! rounds.
 ghost use Rattle.std.specs.Prelude.{◌≡◌, ◌≢◌, ℕ, ◌+◌, ◌^◌, ◌<◌, ◌≤◌, List, length, slice_get, Some, IfOk, false};
 ghost use Rattle.route_tensor.specs.Grid.{ranks};
 ghost use Rattle.route_tensor.specs.Link.{links};
@@ -41,7 +43,8 @@ impl<Q, const CAP: usize, const HOPS: usize> Model for Rank<Q, CAP, HOPS> {
     ghost view = { λ r. record { node = r.node; over = r.over } };
 }
 
-/// Turns the node of a rank, where its run isn't over, and goes on to its next epoch, where one has ended.
+/// Turns the node of a rank, where its run isn't over, and goes on to its next epoch, where one has
+/// ended.
 fn turn_rank<const CAP: usize, const HOPS: usize, Q: Program, L: Ledger>(
     bank: PlainBank<CAP>,
     rank: &mut Rank<Q, CAP, HOPS>,

@@ -4,7 +4,8 @@ ghost use Rattle.std.specs.Prelude.{◌≤◌};
 use std::thread;
 use std::thread::Threads;
 
-/// As many threads as ranks, but no more than the machine has processors. Two ranks or more have at least two threads.
+/// As many threads as ranks, but no more than the machine has processors. Two ranks or more have at
+/// least two threads.
 pub fn threads_for<R: Threads>(rt: &R, ranks: u32) -> usize
     ensures most { result ≤ ranks }
     ensures two { 2 ≤ ranks → 2 ≤ result }

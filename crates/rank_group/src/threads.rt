@@ -21,12 +21,14 @@ use std::alloc::Global;
 use std::sync::Wait;
 use std::thread::Threads;
 
-/// Drives the programs of all ranks, from their first round to their last, over one slot bank with parcels of `CAP` entries and
-/// `slots` (1, 2, 4 or 8) parcels on a link at a time. With no more ranks than the machine has processors each rank has a thread
-/// of its own; else there are as many threads T as processors, and rank r is polled by thread r mod T, in turn with its other
-/// ranks. The threads are up over all rounds. The gate is notified of each turn of a rank before it is made. If a thread can't be
-/// started, the caller polls its ranks. If other work keeps the threads from their processors, all ranks fall back to the caller,
-/// which polls those of each thread as soon as that returns.
+/// Drives the programs of all ranks, from their first round to their last, over one slot bank with
+/// parcels of `CAP` entries and `slots` (1, 2, 4 or 8) parcels on a link at a time. With no more
+/// ranks than the machine has processors each rank has a thread of its own; else there are as many
+/// threads T as processors, and rank r is polled by thread r mod T, in turn with its other ranks.
+/// The threads are up over all rounds. The gate is notified of each turn of a rank before it is
+/// made. If a thread can't be started, the caller polls its ranks. If other work keeps the threads
+/// from their processors, all ranks fall back to the caller, which polls those of each thread as
+/// soon as that returns.
 ///
 /// It waits for its threads, and returns where they do.
 ///
@@ -72,8 +74,8 @@ pub fn drive_threads<
     )
 }
 
-/// `drive_threads` with so many workers, of which the first have a thread each, as many as `threads` says. The caller polls the
-/// ranks of the others.
+/// `drive_threads` with so many workers, of which the first have a thread each, as many as
+/// `threads` says. The caller polls the ranks of the others.
 ///
 /// # Errors
 /// As those of `drive_threads`.

@@ -11,8 +11,8 @@ use rank_node::Turn;
 use round_program::Program;
 use std::sync::ledger::Ledger;
 
-/// Turns the node of a rank, and goes on to its next epoch where one has ended. Answers whether it pushed
-/// something or an epoch ended.
+/// Turns the node of a rank, and goes on to its next epoch where one has ended. Answers whether it
+/// pushed something or an epoch ended.
 ///
 /// # Errors
 /// `NoMemory` comes only where no epoch follows.

@@ -29,8 +29,8 @@ begin_answer phase.Endgame = BegunAlready
 begin_answer phase.Cleanup = BegunAlready
 begin_answer phase.Complete = BegunAlready
 
--- push needs an epoch that has begun, a rank that isn't done, and a rank to push to. Full comes where the open parcel
--- toward that rank holds as many entries as it can.
+-- push needs an epoch that has begun, a rank that isn't done, and a rank to push to. Full comes
+-- where the open parcel toward that rank holds as many entries as it can.
 abbrev pub while_working : Phase → Answer → Answer
 while_working phase.Dormant a = NotBegun
 while_working phase.Working a = a
@@ -62,7 +62,8 @@ pull_result s = pull_once_begun s.state.phase (item_or_nothing (pull_from s.stat
 abbrev pub unpull_answer : Seated → Answer
 unpull_answer s = if is_some s.state.pulled then Good else Nothing
 
--- advance needs an epoch that has begun, and done stays said. What it answers is the phase after it.
+-- advance needs an epoch that has begun, and done stays said. What it answers is the phase after
+-- it.
 abbrev pub progress_answer : Phase → Answer
 progress_answer phase.Dormant = More
 progress_answer phase.Working = More

@@ -17,7 +17,8 @@ OnRank R None None = ⊤
 OnRank R (Some old) None = ⊥
 OnRank R None (Some new) = ⊥
 
--- Only an advance sends and collects: all else leaves what the seat sent and got (links). Misuse changes nothing.
+-- Only an advance sends and collects: all else leaves what the seat sent and got (links). Misuse
+-- changes nothing.
 pub record Begin (old new : Seated) : Type 0 where
   pub links : new.seat ≡ old.seat
   pub begun : begin_answer old.state.phase ≡ Good → Moved Idle Working old new

@@ -27,7 +27,8 @@ abbrev pub is_slots : ℕ → Bool
 is_slots n = (n == 1) || (n == 2) || (n == 4) || (n == 8)
 
 -- What becomes of the wish to make a group, where there is memory.
--- 2x2 with buffers of 64 and 2 slots is Good; 9x8 has too many ranks, 3 is no capacity, and 3 no number of slots.
+-- 2x2 with buffers of 64 and 2 slots is Good; 9x8 has too many ranks, 3 is no capacity, and 3 no
+-- number of slots.
 abbrev pub group_answer : List ℕ → ℕ → ℕ → Answer
 group_answer dims cap slots =
     if is_some (refusal dims) then BadNumbers
@@ -58,7 +59,8 @@ new_state dims rank cap steady = record {
   pulled = None;
 }
 
--- A rank that was just made: at this bank, before its first epoch, with nothing sent and nothing got.
+-- A rank that was just made: at this bank, before its first epoch, with nothing sent and nothing
+-- got.
 pub record NewRank (bank : Identity) (rank cap : ℕ) (steady : Bool) (s : Seated) : Type 0 where
   pub id : s.seat.id ≡ bank.id
   pub shape : s.seat.shape ≡ bank.shape

@@ -31,7 +31,8 @@ abbrev pub seat_in : Option Manning → Manning
 seat_in (Some m) = m
 seat_in None = no_seat
 
--- A seat and a conveyor of one rank at one bank: they agree, and the rank isn't done before it says so.
+-- A seat and a conveyor of one rank at one bank: they agree, and the rank isn't done before it says
+-- so.
 pub record IsAtBank (bank : Identity) (seat : Manning) (state : State) : Type 0 where
   pub id : seat.id ≡ bank.id
   pub shape : seat.shape ≡ bank.shape
@@ -62,7 +63,8 @@ pub record HasSeatFor (bank : Identity) (gather : Gathering) (grid : List ℕ) (
   pub own : rank < ranks grid
   pub here : slice_index_or gather.given rank true ≡ false
 
--- .. and what it leaves of the gathering seat that it was given out. Without memory nothing is changed.
+-- .. and what it leaves of the gathering seat that it was given out. Without memory nothing is
+-- changed.
 pub record GaveSeat {T E : Type 0} (rank : ℕ) (old new : Gathering) (result : Result T E) : Type 0 where
   pub gave : OnOk result
       (new ≡ record old { lists = slice_set old.lists rank None; given = slice_set old.given rank true })

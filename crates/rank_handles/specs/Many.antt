@@ -104,7 +104,8 @@ abbrev pub count_in : ℤ → ℕ
 count_in (pos n) = n
 count_in (negsuc n) = 0
 
--- A call pushed the first n of these items, as so many single calls, until one found no room. Misuse changes nothing.
+-- A call pushed the first n of these items, as so many single calls, until one found no room.
+-- Misuse changes nothing.
 pub record PushingMany (items : List BaleItem) (to : List ℕ) (n : ℕ) (old new : Seated) : Type 0 where
   pub links : new.seat ≡ old.seat
   pub misuse : push_many_answer old to ≢ Good → new ≡ old

@@ -12,12 +12,13 @@ pub record Seated : Type 0 where
   pub seat : Manning
   pub state : State
 
--- The rank's part of the exchange machine: its epoch, whether it is done and complete in it, and the items that it
--- pushed toward each rank and pulled of each, in each epoch.
+-- The rank's part of the exchange machine: its epoch, whether it is done and complete in it, and
+-- the items that it pushed toward each rank and pulled of each, in each epoch.
 abbrev pub part : Seated → Part
 part s = part_of (buffers_of s.state) (posted_on s.seat) (collected_from s.seat)
 
--- That a call made this step, and left the rank in this phase. Its bank, its grid and its number stay.
+-- That a call made this step, and left the rank in this phase. Its bank, its grid and its number
+-- stay.
 pub record Move (step : Step) (phase : Phase) (old new : Seated) : Type 0 where
   pub step_of : IsOwnStep step (part old) (part new)
   pub phase_is : new.state.phase ≡ phase

@@ -1,4 +1,5 @@
-//! A rank and a group of any capacity: here and in `specs/Cases` stands what there is once for each capacity.
+//! A rank and a group of any capacity: here and in `specs/Cases` stands what there is once for each
+//! capacity.
 ghost use Rattle.std.specs.Prelude.{◌≡◌, ◌≢◌, Some, Ok, Err, IfOk, IfErr, OnOk, OnErr, true};
 ghost use Rattle.item_buffer.specs.Capacity.{is_capacity};
 ghost use Rattle.route_tensor.specs.Grid.{ranks};
@@ -88,7 +89,8 @@ macro_rules! by_capacity {
     };
 }
 
-/// A rank of any capacity and any number of hops. Contracts see the rank at its bank, whatever its case.
+/// A rank of any capacity and any number of hops. Contracts see the rank at its bank, whatever its
+/// case.
 #[derive(Drop)]
 pub struct AnyRank {
     pub(crate) case: CapacityCase,
@@ -219,7 +221,8 @@ impl Model for AnyGroup {
 }
 
 impl AnyGroup {
-    /// A group of which no rank was made, if these numbers are a grid, a capacity and a number of slots.
+    /// A group of which no rank was made, if these numbers are a grid, a capacity and a number of
+    /// slots.
     pub(crate) fn new(
         alloc: Global,
         dims: &[u32],

@@ -12,9 +12,11 @@ use crate::item::BaleItem;
 use bale_items::Item;
 use hop_core::Phase;
 
-/// One rank's side of an exchange. Each call tests what the layers below require: misuse has an answer, and changes nothing.
+/// One rank's side of an exchange. Each call tests what the layers below require: misuse has an
+/// answer, and changes nothing.
 ///
-/// Contracts see the rank at its bank (`Seated`), if there is one, and tell of each call what it answers and what it leaves of the rank.
+/// Contracts see the rank at its bank (`Seated`), if there is one, and tell of each call what it
+/// answers and what it leaves of the rank.
 pub trait Exchange: Drop {
     ghost seen: { Self → Option Seated };
 

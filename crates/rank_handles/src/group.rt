@@ -1,4 +1,5 @@
-//! A group: the bank that its ranks share, for one capacity, and the ranks that are still to be made.
+//! A group: the bank that its ranks share, for one capacity, and the ranks that are still to be
+//! made.
 ghost use Rattle.std.specs.Prelude.{◌≡◌, ◌<◌, true, false, Ok, Err, IfOk, OnOk, OnErr};
 ghost use Rattle.std.specs.Arc.{arc_value};
 ghost use Rattle.item_buffer.specs.Capacity.{IsCap};

@@ -52,5 +52,6 @@ impl Held {
     }
 }
 
-// A part is of plain data, and of a bank that threads share; so is what a handle has. C may hand it to another thread.
+// A part is of plain data, and of a bank that threads share; so is what a handle has. C may hand it
+// to another thread.
 unsafe impl Send for Held {}

@@ -1,7 +1,8 @@
 //! Ranks and groups of any capacity and any number of hops, and the handles that C has of them.
 //!
-//! One set of calls for the 33 cases of eleven capacities and one to three hops, over `convey` and `link_slots`. A group makes the ranks that
-//! share its slot bank, and each rank is a conveyor at its seat there. Each `requires` of the layers below is tested here: misuse has an `Answer` of
+//! One set of calls for the 33 cases of eleven capacities and one to three hops, over `convey` and
+//! `link_slots`. A group makes the ranks that share its slot bank, and each rank is a conveyor at
+//! its seat there. Each `requires` of the layers below is tested here: misuse has an `Answer` of
 //! its own, and changes nothing. `bale_c` is these calls as C has them.
 //!
 //! | | |
@@ -17,9 +18,10 @@
 //! way there and back); and the handles.
 //!
 //! The definitions, in the order in which to read them: `Codes` (the numbers that C knows),
-//! `Seated` (a rank, and a call that makes a step), `Answers` (when each answer comes), `Calls` (what a
-//! call leaves), `Grouped` (a group, and a rank that was just made), `Handles` and `Shown` (what a
-//! handle has), `Many` (calls of many items), `Items`. `Kept`, `Cases` and `Holds` are the code's own.
+//! `Seated` (a rank, and a call that makes a step), `Answers` (when each answer comes), `Calls`
+//! (what a call leaves), `Grouped` (a group, and a rank that was just made), `Handles` and `Shown`
+//! (what a handle has), `Many` (calls of many items), `Items`. `Kept`, `Cases` and `Holds` are the
+//! code's own.
 #![tactic(auto)]
 
 mod answer;

@@ -10,8 +10,9 @@ ghost use Rattle.rank_handles.specs.Kept.{RunOf};
 use crate::item::{BaleItem, bale_item_from, item_from};
 use convey::{Conveyor, Phase, Pushed};
 
-/// Whether every number is one of so many ranks. It doesn't end at the first that is none, so that several are compared
-/// at once: a call of many items that finds no room soon looks at the others in vain.
+/// Whether every number is one of so many ranks. It doesn't end at the first that is none, so that
+/// several are compared at once: a call of many items that finds no room soon looks at the others
+/// in vain.
 pub(crate) fn are_ranks(ranks: u32, to: &[u32]) -> bool
     ensures { result ≡ all_ranks ranks to.now }
 {
@@ -75,8 +76,8 @@ pub(crate) fn pull_while_some<const CAP: usize, const HOPS: usize>(
     count
 }
 
-/// Pulls the items of the inbox from which the next pull takes, as many as there are places from `start` on. Where the
-/// places end.
+/// Pulls the items of the inbox from which the next pull takes, as many as there are places from
+/// `start` on. Where the places end.
 fn pull_batch<const CAP: usize, const HOPS: usize>(
     conveyor: &mut Conveyor<CAP, HOPS>,
     number: u32,

@@ -9,7 +9,8 @@ use crate::item::BaleItem;
 use bale_items::Item;
 use hop_core::Phase;
 
-/// What a handle may have. Its calls are those of the rank; where there is none, they answer that it is gone.
+/// What a handle may have. Its calls are those of the rank; where there is none, they answer that
+/// it is gone.
 #[derive(Drop)]
 pub enum Part {
     /// Nothing yet: the room for what is being made.

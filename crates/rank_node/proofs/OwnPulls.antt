@@ -1,4 +1,5 @@
--- What a rank sent to itself it has pulled, once it has completed its epoch: so it has heard its own vote.
+-- What a rank sent to itself it has pulled, once it has completed its epoch: so it has heard its
+-- own vote.
 use Rattle.std.proofs.Common.{◌≡◌, ℕ, zero, suc, ◌+◌, ◌*◌, ◌-◌, ◌^◌, ◌<◌, ◌≤◌, ◌==◌, ◌%◌, get_or, Bool, true, false, cond, List, [], ◌∷◌, ◌++◌, length, take, refl, sym, ap, subst, ◌∙◌, arith, true≢false}
 use Rattle.std.specs.List.{sum_by, flat_map}
 use Rattle.std.proofs.lemmas.Bool.{eq-eqb}
@@ -38,7 +39,7 @@ use Rattle.round_program.specs.Canonical.{items_of}
 use Rattle.round_program.specs.Epochs.{PairLists, vote_item, heard, worked}
 use Rattle.rank_node.specs.declared.sends.Sends.{Sends}
 use Rattle.rank_node.specs.declared.sends.Sends.TheVariants.{Emissions, Nothing, Votes}
-use Rattle.rank_node.specs.Fits.{IsRankOf}
+use Rattle.rank_node.specs.Fits.{IsGridRank}
 use Rattle.rank_node.specs.Movers.{MoverState, IsConveying, IsStacking, IsMoving, dims_of, rank_of, part_in, has_completed}
 use Rattle.rank_node.specs.Movers.MoverState.{Conveying, Stacking}
 use Rattle.rank_node.specs.Sending.{to_send, is_voting, spoiled_vote}
@@ -57,7 +58,7 @@ place_own dims r h g last = same_place (place dims r r h) r _ (place_by_stride d
 take_whole : {T : Type 0} (n : ℕ) (xs : List T) → n ≡ 0 → take (length xs - n) xs ≡ xs
 take_whole n xs e = take_all (length xs - n) xs (omega arith)
 
-module _ (c : State) (sent got : Logs) (is : IsConveying c sent got) (at : IsRankOf c.dims c.rank) (over : is_complete c.phase ≡ true) where
+module _ (c : State) (sent got : Logs) (is : IsConveying c sent got) (at : IsGridRank c.dims c.rank) (over : is_complete c.phase ≡ true) where
   abbrev r : ℕ
   r = c.rank
 
@@ -201,7 +202,7 @@ module _ (cap : ℕ) (x : Stack) (sent got : Logs) (is : IsStacking cap x sent g
       ∙ (stack_came ∙ (sym stack_pushed ∙ sym (for_ranks-within x.ranks (exstack_parts.pushed_to x sent) x.epoch x.rank low))))
 
 -- either of them
-pub own_pulled : (m : MoverState) (sent got : Logs) → IsMoving m sent got → IsRankOf (dims_of m) (rank_of m) → has_completed m ≡ true
+pub own_pulled : (m : MoverState) (sent got : Logs) → IsMoving m sent got → IsGridRank (dims_of m) (rank_of m) → has_completed m ≡ true
     → (part_in m sent got).pulled (part_in m sent got).epoch (rank_of m) ≡ (part_in m sent got).pushed (part_in m sent got).epoch (rank_of m)
 own_pulled (Conveying c) sent got is at over = own_conveyed c sent got is at over
 own_pulled (Stacking cap x) sent got is at over = own_stacked cap x sent got is over
@@ -218,7 +219,7 @@ take_same : {T : Type 0} (n : ℕ) (xs : List T) → n ≡ length xs → take n 
 take_same n xs e = take_all n xs (omega (arith, e))
 
 -- a spoiled rank that has completed the epoch of its votes has heard its own
-pub spoiled_sum : {S : Type 0} (R : Rules S) (h : ℕ → S) (n : NodeState S) (sent got : Logs) → IsNode R h n sent got → IsRankOf (dims_of n.mover) (rank_of n.mover) → has_completed n.mover ≡ true
+pub spoiled_sum : {S : Type 0} (R : Rules S) (h : ℕ → S) (n : NodeState S) (sent got : Logs) → IsNode R h n sent got → IsGridRank (dims_of n.mover) (rank_of n.mover) → has_completed n.mover ≡ true
     → is_voting n.run.sends ≡ true → n.run.spoiled ≡ true → n.run.sum ≡ 2 ^ 64 - 1
 spoiled_sum {S} R h n sent got is at over votes lost = is.within.hears votes ∙ heard_spoiled p (lists_of part) n.run.round own at.low (by n.run.sends refl)
   where

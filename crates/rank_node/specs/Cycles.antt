@@ -33,7 +33,8 @@ cycles_gone_on n Exchanging = n + 1
 cycles_gone_on n Full = n + 1
 cycles_gone_on n AllDone = n
 
--- In cycle m of epoch e the exchange went on, since the proceed parcel of some rank wasn't marked last.
+-- In cycle m of epoch e the exchange went on, since the proceed parcel of some rank wasn't marked
+-- last.
 -- In cycle 0, where rank 1 had something to push, sender 1 with its first parcel of the epoch.
 pub record WentOn (e m : ℕ) (x : Stack) (got : Logs) : Type 0 where
   pub sender : ℕ
@@ -42,7 +43,8 @@ pub record WentOn (e m : ℕ) (x : Stack) (got : Logs) : Type 0 where
   pub came : proceed_parcel e m (got (link_from x sender)) ≡ Some parcel
   pub going : parcel.last ≡ false
 
--- A rank's proceed parcel of cycle m isn't marked last only where the rank has more than m items to send in that epoch.
+-- A rank's proceed parcel of cycle m isn't marked last only where the rank has more than m items to
+-- send in that epoch.
 -- With two items to send in epoch 0 those of the cycles 0 and 1 may go on, and that of cycle 2 is
 -- marked last at the latest.
 abbrev pub MarksLast : (ℕ → ℕ) → Stack → Logs → Type 0
@@ -54,7 +56,8 @@ MarksLast quota x sent = (e b m : ℕ) (p : Shipped) → b < x.ranks → proceed
 -- items at rank 0 and none elsewhere.
 -- few: so many it has in this epoch.
 -- paced: until it is done it pushes at least one item in each cycle.
--- left, emptied: since, as it begins to fill its buffers, an item is left to push and no entry waits.
+-- left, emptied: since, as it begins to fill its buffers, an item is left to push and no entry
+-- waits.
 -- went_on: each cycle in which the exchange went on did so for some rank's proceed parcel.
 -- marks: its own proceed parcels are marked last in time.
 pub record InCycle {S : Type 0} (R : Rules S) (quota : ℕ → ℕ) (n : ℕ) (run : Running S) (x : Stack)
@@ -105,7 +108,8 @@ IsOnward Exchanging s = has_exchanged s ≡ true
 IsOnward Full s = has_proceeded s ≡ true
 IsOnward AllDone s = s ≡ AllDone
 
--- A parcel of the round is still to be posted on the link to some rank, or to be collected from the link of some rank.
+-- A parcel of the round is still to be posted on the link to some rank, or to be collected from the
+-- link of some rank.
 pub record DueOut (x : Stack) : Type 0 where
   pub other : ℕ
   pub low : other < x.ranks

@@ -9,6 +9,6 @@ pub record FitsGrid (cap hops : ℕ) (dims : List ℕ) : Type 0 where
   pub hops_are : length dims ≡ hops
 
 -- A rank of a grid.
-pub record IsRankOf (dims : List ℕ) (rank : ℕ) : Type 0 where
+pub record IsGridRank (dims : List ℕ) (rank : ℕ) : Type 0 where
   pub grid : IsGrid dims
   pub low : rank < ranks dims

@@ -54,7 +54,8 @@ pub record AfterMoves {S : Type 0} (R : Rules S) (cap : ℕ) (n n' : NodeState S
 
 -- What a turn over a conveyor leaves besides.
 -- lies: an inbox holds at most what it held and what came.
--- at_push: the conveyor as its pushes left it, before it advanced, with no more in a parcel than it holds.
+-- at_push: the conveyor as its pushes left it, before it advanced, with no more in a parcel than it
+-- holds.
 -- pushed: what they made of it. They go on until the open parcel toward the next
 -- item's receiver is full, or until no item is left.
 -- done: the rank is done exactly where all its items are pushed.
@@ -76,8 +77,8 @@ pub record LeavesAfterPoll {S : Type 0} (R : Rules S) (cap : ℕ) (run run' : Ru
       → (at_push : Stack) × Fills cap (to_send R run'.prog run'.sends) x at_push run.next run'.next
   pub unpushed : (x.stage ≡ Filling → ⊥) → run'.next ≡ run.next
 
--- Where a parcel of its round is still to be posted, the link is crowded, unless this turn collected a
--- parcel from it; where one is still to be collected, the link is idle.
+-- Where a parcel of its round is still to be posted, the link is crowded, unless this turn
+-- collected a parcel from it; where one is still to be collected, the link is idle.
 pub record WaitsFor (x x' : Stack) (got got' : Logs) (is_crowded is_idle : ℕ → Bool) : Type 0 where
   pub posts : (b : ℕ) → b < x.ranks → (out_at x' b).due ≡ true → got' (link_to x b) ≡ got (link_to x b)
       → is_crowded (link_to x b) ≡ true
@@ -98,13 +99,15 @@ Leaves R cap run run' (Conveying c) (Stacking k x) got got' = ⊥
 Leaves R cap run run' (Stacking k x) (Conveying c) got got' = ⊥
 Leaves R cap run run' (Stacking k x) (Stacking k' x') got got' = LeavesAfterPoll R cap run run' x
 
--- A link out whose parcel is left to be posted, since it is full or not empty on a steady conveyor, is crowded.
+-- A link out whose parcel is left to be posted, since it is full or not empty on a steady conveyor,
+-- is crowded.
 abbrev pub DueIsCrowded : MoverState → (ℕ → Bool) → Type 0
 DueIsCrowded (Conveying c) is_crowded = (l : ℕ) → l < links c.dims → sender_at c.dims l ≡ c.rank
     → is_due c.cap c.steady false (out_of c l) ≡ true → is_crowded l ≡ true
 DueIsCrowded (Stacking cap x) is_crowded = ⊤
 
--- What a turn leaves undone that wanted no memory, and why: over a conveyor, where it moved no parcel.
+-- What a turn leaves undone that wanted no memory, and why: over a conveyor, where it moved no
+-- parcel.
 abbrev pub Waits : {S : Type 0} → Rules S → Running S → MoverState → MoverState → Logs → Logs → Logs → Logs → (ℕ → Bool)
     → (ℕ → Bool) → Type 0
 Waits {S} R run (Conveying c) (Conveying c') sent got sent' got' is_crowded is_idle =

@@ -11,7 +11,8 @@ use Rattle.rank_node.specs.Nodes.{NodeState, IsNode}
 abbrev pub extended : {S : Type 0} → (ℕ → S) → ℕ → S → ℕ → S
 extended h m s = λ k. if k == m then s else h k
 
--- A node whose run is over: in its last epoch of votes it heard that no round follows, and it ended the round.
+-- A node whose run is over: in its last epoch of votes it heard that no round follows, and it ended
+-- the round.
 -- worked: the state of the program before that.
 pub record HasStopped {S : Type 0} (R : Rules S) (h : ℕ → S) (n : NodeState S) (sent got : Logs) : Type 0 where
   pub worked : S

@@ -14,7 +14,8 @@ pub record NodeState (S : Type 0) : Type 0 where
   pub run : Running S
   pub mover : MoverState
 
--- In a proceed round that a rank began before it was done something is left to push, as there was when the round began.
+-- In a proceed round that a rank began before it was done something is left to push, as there was
+-- when the round began.
 abbrev pub IsPaced : {S : Type 0} → Rules S → Running S → MoverState → Type 0
 IsPaced R run (Conveying c) = ⊤
 IsPaced R run (Stacking cap x) = x.stage ≡ Proceeding → x.done ≡ false

@@ -28,7 +28,8 @@ pub record MayPushOn (es : List (ℕ × Item)) (c : State) (from : ℕ) : Type 0
   pub working : c.done ≡ false → c.phase ≡ Working
   pub all_pushed : c.done ≡ true → from ≡ length es
 
--- What a push into a conveyor leaves. One that was refused left the open parcel toward the rank as full as it can be.
+-- What a push into a conveyor leaves. One that was refused left the open parcel toward the rank as
+-- full as it can be.
 pub record Pushes (cap : ℕ) (old : State) (to : ℕ) (x : Item) (accepted : Bool) (c : State) : Type 0 where
   pub same : c ≡ record old { outs = c.outs; pulled = c.pulled }
   pub kept : conveyors.KeepsAgreement old c

@@ -49,16 +49,19 @@ abbrev pub round_after : ℕ → ℕ → ℕ
 round_after b zero = b
 round_after b (suc m) = min (round_after b m + 1) (2 ^ 64 - 1)
 
--- The rules of a run in which the programs begin in round b: its round m is the programs' round b + m.
+-- The rules of a run in which the programs begin in round b: its round m is the programs' round b +
+-- m.
 abbrev pub from_round : {S : Type 0} → ℕ → Rules S → Rules S
 from_round b R = record R { goes_on = λ shape m votes. R.goes_on shape (round_after b m) votes }
 
 -- The epochs that are over for a rank of p ranks; h m is the state of its program as round m began,
 -- or the state that it would have had with memory.
 -- epoch: round m works in epoch 2m and votes in epoch 2m + 1.
--- own: it knows of itself what the theorem over all rounds asks; goes: each round followed because the program goes on.
+-- own: it knows of itself what the theorem over all rounds asks; goes: each round followed because
+-- the program goes on.
 -- few: a node has so many rounds at most.
--- emitted_front, one_vote: it pushed at most what its program emits, and at most one vote toward each rank.
+-- emitted_front, one_vote: it pushed at most what its program emits, and at most one vote toward
+-- each rank.
 -- ahead: nothing was pushed or pulled in a later epoch.
 pub record HasPassed {S : Type 0} (R : Rules S) (p rank : ℕ) (h : ℕ → S) (round : ℕ) (voting : Bool)
     (part : Part) : Type 0 where
@@ -76,11 +79,14 @@ pub record HasPassed {S : Type 0} (R : Rules S) (p rank : ℕ) (h : ℕ → S) (
   pub ahead : (e d : ℕ) → part.epoch < e → (part.pushed e d ≡ []) × (part.pulled e d ≡ [])
 
 -- The epoch that it is in.
--- next_low, all_pushed, pushed: the first so many of the items to send are pushed; all of them where the rank is done.
+-- next_low, all_pushed, pushed: the first so many of the items to send are pushed; all of them
+-- where the rank is done.
 -- nothing: it leaves out its emissions only where memory was wanting.
--- works: unless memory was wanting, the program is in the state that the pulls of the round make of h m.
+-- works: unless memory was wanting, the program is in the state that the pulls of the round make of
+-- h m.
 -- vote: it votes what that state votes, and the greatest vote where memory was wanting.
--- emitted_all: where it votes what its program votes, it has pushed all that the program emits in the round.
+-- emitted_all: where it votes what its program votes, it has pushed all that the program emits in
+-- the round.
 -- hears: it has summed the votes that came.
 pub record IsWithin {S : Type 0} (R : Rules S) (p : ℕ) (h : ℕ → S) (run : Running S) (part : Part) : Type 0 where
   pub next_low : run.next ≤ length (to_send R run.prog run.sends)

@@ -15,7 +15,8 @@ use Rattle.rank_node.specs.Cycles.{IsInCycle, cycle_of_turn, IsOnward, TurnsOnwa
 -- only grow, each by one parcel at most, and of the transport's shape, so that over conveyors that
 -- aren't steady items travel in few parcels (port_bank's few_parcels_law).
 -- leaves: what it leaves in the inboxes, and unpushed.
--- cycle, onward: an exstack's cycles keep pace with what its rank has to send, and its stages go on.
+-- cycle, onward: an exstack's cycles keep pace with what its rank has to send, and its stages go
+-- on.
 pub record Turns {P : Type 0} {cap : ℕ} {M : Type 0} (G : Ghosts P cap M) {S : Type 0} (R : Rules S)
     (old new : NodeState S) (port port' : P) : Type 0 where
   pub moves : AfterMoves R cap old new (G.sent port) (G.got port) (G.sent port') (G.got port')

@@ -11,8 +11,8 @@ use bale_items::{Entry, Item};
 use round_program::Arrivals;
 use route_tensor::Routes;
 
-/// The unread entries of a conveyor's link in, each of which tells its sender by its tag. One type for parcels of all sizes, so that
-/// what programs make of a batch is compiled once.
+/// The unread entries of a conveyor's link in, each of which tells its sender by its tag. One type
+/// for parcels of all sizes, so that what programs make of a batch is compiled once.
 #[derive(Drop)]
 pub(crate) struct FromLink<'a> {
     pub(crate) routes: &'a Routes,

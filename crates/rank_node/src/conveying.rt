@@ -21,8 +21,8 @@ use round_program::Program;
 use route_tensor::Grid;
 use std::alloc::Global;
 
-/// One turn: pushes what is left to send, in order, until a push is refused or all is pushed; advances once; and takes in
-/// what came, until nothing is left.
+/// One turn: pushes what is left to send, in order, until a push is refused or all is pushed;
+/// advances once; and takes in what came, until nothing is left.
 pub(crate) fn turn_conveyor<const CAP: usize, const HOPS: usize, Q: Program, P: Port<CAP>>(
     run: &mut Run<Q>,
     conveyor: &mut Conveyor<CAP, HOPS>,

@@ -5,7 +5,7 @@ ghost use Rattle.rank_node.specs.Movers.{seen, dims_of, rank_of, epoch_in, manne
 ghost use Rattle.rank_node.specs.Runs.{running};
 ghost use Rattle.rank_node.specs.Moves.{MayTurn};
 ghost use Rattle.rank_node.specs.Turns.{Turns, TurnsInFull};
-ghost use Rattle.rank_node.specs.Fits.{FitsGrid, IsRankOf};
+ghost use Rattle.rank_node.specs.Fits.{FitsGrid, IsGridRank};
 
 use crate::conveying::{new_conveyor, reset_conveyor, turn_conveyor};
 use crate::run::Run;
@@ -49,7 +49,7 @@ impl<const CAP: usize, const HOPS: usize> Mover<CAP, HOPS> {
 
     /// Does nothing, and states whose it is.
     pub(crate) fn known(&self)
-        ensures { IsRankOf (dims_of (seen self.now)) (rank_of (seen self.now)) }
+        ensures { IsGridRank (dims_of (seen self.now)) (rank_of (seen self.now)) }
     {
         match self {
             Mover::Convey(conveyor) => conveyor.known(),

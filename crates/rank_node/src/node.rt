@@ -50,7 +50,8 @@ impl<Q, const CAP: usize, const HOPS: usize> Model for Node<Q, CAP, HOPS> {
 }
 
 impl<Q: Program, const CAP: usize, const HOPS: usize> Node<Q, CAP, HOPS> {
-    /// A node that hasn't turned, for a program of a rank of the grid, in any round. On exstacks `steady` changes nothing.
+    /// A node that hasn't turned, for a program of a rank of the grid, in any round. On exstacks
+    /// `steady` changes nothing.
     pub fn new(
         alloc: Global,
         grid: &Grid,
@@ -98,15 +99,17 @@ impl<Q: Program, const CAP: usize, const HOPS: usize> Node<Q, CAP, HOPS> {
 
     /// One turn, by which `steps` rises by one.
     ///
-    /// A turn over a conveyor pushes what is left to send, in order, until a push is refused or all is pushed; advances once;
-    /// and takes in what came, until nothing is left. A turn over an exstack makes one poll, which the stage at entry decides:
-    /// a proceed poll comes after all that came is taken in, and says that the rank is done where all is pushed; an exchange
-    /// poll that begins its round comes after the pushes. In an epoch of work the node sends what its program emits and absorbs
-    /// what fits; in an epoch of votes it sends its vote to each rank and sums those that come.
+    /// A turn over a conveyor pushes what is left to send, in order, until a push is refused or all
+    /// is pushed; advances once; and takes in what came, until nothing is left. A turn over an
+    /// exstack makes one poll, which the stage at entry decides:
+    /// a proceed poll comes after all that came is taken in, and says that the rank is done where
+    /// all is pushed; an exchange poll that begins its round comes after the pushes. In an epoch of
+    /// work the node sends what its program emits and absorbs what fits; in an epoch of votes it
+    /// sends its vote to each rank and sums those that come.
     ///
     /// # Errors
-    /// `NoMemory` comes only from the port's post. An absorb that found none spoils the node, which goes on turning and
-    /// drops what comes, so that no other rank is kept from its end.
+    /// `NoMemory` comes only from the port's post. An absorb that found none spoils the node, which
+    /// goes on turning and drops what comes, so that no other rank is kept from its end.
     pub fn turn<P: Port<CAP>, L: Ledger>(
         &mut self,
         port: &mut P,
@@ -127,14 +130,15 @@ impl<Q: Program, const CAP: usize, const HOPS: usize> Node<Q, CAP, HOPS> {
         self.mover.turn(&mut self.run, port)
     }
 
-    /// Goes on to the next epoch, once one has ended: from a round's work to its votes, and from these to the next round's
-    /// work. Answers whether an epoch follows.
+    /// Goes on to the next epoch, once one has ended: from a round's work to its votes, and from
+    /// these to the next round's work. Answers whether an epoch follows.
     ///
-    /// Where the program finds no memory for a round that follows, the node is spoiled and has nothing to send in it.
+    /// Where the program finds no memory for a round that follows, the node is spoiled and has
+    /// nothing to send in it.
     ///
     /// # Errors
-    /// `NoMemory` comes only where no epoch follows: where the sum of the votes is 2^64 - 1, as each rank then finds, or
-    /// where the program found no memory to end its last round.
+    /// `NoMemory` comes only where no epoch follows: where the sum of the votes is 2^64 - 1, as
+    /// each rank then finds, or where the program found no memory to end its last round.
     pub fn next(&mut self) -> Result<bool, NoMemory>
         requires over { has_completed self.old.mover ≡ true }
         requires epochs { epoch_in self.old.mover < 2 ^ 63 }
@@ -151,7 +155,8 @@ impl<Q: Program, const CAP: usize, const HOPS: usize> Node<Q, CAP, HOPS> {
             × ((h : ℕ → Q) (sent got : Logs) → IsNode Q.rules h self.old sent got
             → IsNode Q.rules h self.new sent got) }
 
-        // After the votes comes the next round, exactly where the program goes on; its state is the one with memory.
+        // After the votes comes the next round, exactly where the program goes on; its state is the
+        // one with memory.
         ensures work { is_voting self.old.run.sends ≡ true → result ≡ Ok true → (h : ℕ → Q) (sent got : Logs)
             → IsNode Q.rules h self.old sent got
             → IsNode Q.rules (extended h (self.old.run.round + 1) (Q.rules.ended self.old.run.prog self.old.run.sum))
@@ -160,7 +165,8 @@ impl<Q: Program, const CAP: usize, const HOPS: usize> Node<Q, CAP, HOPS> {
         ensures stopped { result ≡ Ok false → (h : ℕ → Q) (sent got : Logs) → IsNode Q.rules h self.old sent got
             → HasStopped Q.rules h self.new sent got }
 
-        // An exstack begins the next epoch in cycle 0, and keeps pace with what its rank has to send in it.
+        // An exstack begins the next epoch in cycle 0, and keeps pace with what its rank has to
+        // send in it.
         ensures starts { result ≡ Ok true → IsStarting self.new.mover }
         ensures cycle { result ≡ Ok true → (quota : ℕ → ℕ) (n : ℕ) (sent got : Logs)
             → IsInCycle Q.rules quota n self.old.run self.old.mover sent got

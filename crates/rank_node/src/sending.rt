@@ -9,8 +9,8 @@ use crate::sends::{Sends, send_each};
 use convey::Conveyor;
 use round_program::Program;
 
-/// Pushes the items to send from number `from` on, in order, until one is refused or all are pushed. Answers how many
-/// are pushed by then.
+/// Pushes the items to send from number `from` on, in order, until one is refused or all are
+/// pushed. Answers how many are pushed by then.
 pub(crate) fn push_all<Q: Program, const CAP: usize, const HOPS: usize>(
     prog: &Box<Q>,
     sends: Sends,

@@ -30,8 +30,8 @@ pub(crate) fn count_of<Q: Program>(prog: &Box<Q>, sends: Sends) -> u64
     }
 }
 
-/// Hands what a node sends, from number `from` on, to `out`, in order, until one item is refused or all are handed over. Answers how
-/// many are by then.
+/// Hands what a node sends, from number `from` on, to `out`, in order, until one item is refused or
+/// all are handed over. Answers how many are by then.
 pub(crate) fn send_each<Q: Program, D: Departures>(
     prog: &Box<Q>,
     sends: Sends,

@@ -30,9 +30,9 @@ use round_program::Program;
 use route_tensor::Grid;
 use std::alloc::Global;
 
-/// One turn: one poll, which the stage at entry decides. A proceed poll comes after all that came is taken in, and says that
-/// the rank is done where all is pushed; an exchange poll that begins its round comes after pushes, in order, until one is
-/// refused or all is pushed.
+/// One turn: one poll, which the stage at entry decides. A proceed poll comes after all that came
+/// is taken in, and says that the rank is done where all is pushed; an exchange poll that begins
+/// its round comes after pushes, in order, until one is refused or all is pushed.
 pub(crate) fn turn_exstack<const CAP: usize, Q: Program, P: Port<CAP>>(
     run: &mut Run<Q>,
     exstack: &mut Exstack<CAP>,
@@ -133,8 +133,8 @@ fn fill<const CAP: usize, Q: Program>(run: &mut Run<Q>, exstack: &mut Exstack<CA
     exstack.known();
 }
 
-/// Pushes the items to send from number `from` on, in order, until one is refused or all are pushed. Answers how many
-/// are pushed by then.
+/// Pushes the items to send from number `from` on, in order, until one is refused or all are
+/// pushed. Answers how many are pushed by then.
 fn push_on<const CAP: usize, Q: Program>(
     prog: &Box<Q>,
     sends: Sends,

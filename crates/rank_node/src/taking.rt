@@ -99,7 +99,8 @@ fn take_unread<Q: Program, const CAP: usize, const HOPS: usize>(
     }
 }
 
-/// Sums or absorbs items that came. It is not inlined: what programs make of a batch would stand in each drive.
+/// Sums or absorbs items that came. It is not inlined: what programs make of a batch would stand in
+/// each drive.
 #[inline(never)]
 pub(crate) fn take_each<Q: Program, I: Arrivals>(
     prog: &mut Box<Q>,

@@ -15,7 +15,8 @@ use Rattle.reductions.specs.Answers.{cell_in, cell_of, owned}
 pub owned_len : {S : Type 0} (cells : S → ReducedState) (states : List S) (count : ℕ) → length (owned cells states count) ≡ count
 owned_len cells states count = length-map-range_with_len (cell_of cells states) 0 count
 
--- what holds of each key and its cell in its owner's state holds of each key and the cell that is read
+-- what holds of each key and its cell in its owner's state holds of each key and the cell that is
+-- read
 pub each_owned : {S : Type 0} (cells : S → ReducedState) (states : List S) (count : ℕ) (P : ℕ → ℕ → Type 0) → 0 < length states
     → ((k : ℕ) (s : S) → k < count → slice_get states (k % length states) ≡ Some s → P k (get_or (cells s).cells k 0))
     → EachAt P (owned cells states count)
@@ -26,7 +27,8 @@ each_owned cells states count P some holds k d low =
     (sym (get_or-map-range_with_len (cell_of cells states) 0 count k k d few (omega arith) ∙ ap (λ o. cell_in cells o k) s.1))
     (holds k s.0 few s.1)
 
--- Where a state's shape is the number of its cells, all ranks have as many at the end as at first, and are as many.
+-- Where a state's shape is the number of its cells, all ranks have as many at the end as at first,
+-- and are as many.
 module _ {S : Type 0} (R : Rules S) (laws : Laws R) (cells : S → ReducedState) (shaped : (s : S) → R.shape s ≡ length (cells s).cells ∷ []) (ranks count most : ℕ) (starts : List S) (begin : InRound R ranks 0 (count ∷ []) most starts) (ends : List S) (ended : HaveEnded R starts ends) where
   in_round : InRound R ranks (min ended.rounds (2 ^ 64 - 1)) (count ∷ []) most (states_at R starts ended.rounds)
   in_round = in_round_at R laws ranks (count ∷ []) most starts ended.rounds begin

@@ -87,7 +87,8 @@ module _ (key value : Item → ℕ) where
 
 -- ---- A program with cells
 
--- What its calls do to them: each item is for the cell of its key, and a round begins with the cells as they are.
+-- What its calls do to them: each item is for the cell of its key, and a round begins with the
+-- cells as they are.
 pub record HasCells {S : Type 0} (R : Rules S) (how : Reduction) (key value : Item → ℕ) (cells : S → ReducedState) : Type 0 where
   pub absorbs : (s : S) (from : ℕ) (x : Item) → cells (R.absorbed s from x) ≡ reduced how (cells s) (key x) (value x)
   pub begins : (s : S) (votes : ℕ) → cells (R.ended s votes) ≡ begun (cells s).cells

@@ -71,7 +71,8 @@ module _ {S : Type 0} (R : Rules S) (starts : List S) where
   pub ends_by : (last : ℕ) → follows last ≡ false → EndsWithin R starts (last + 1)
   ends_by last none = ends_at last (first_failing follows last none)
 
-  -- where a number falls with each round that another follows, there is at most one round more than it counts at first
+  -- where a number falls with each round that another follows, there is at most one round more than
+  -- it counts at first
   pub ends_falling : (measure : ℕ → ℕ) (most : ℕ) → ((n : ℕ) → follows n ≡ true → measure (suc n) < measure n) → measure 0 ≤ most → EndsWithin R starts (most + 1)
   ends_falling measure most falls low = ends_at most (first_fallen follows measure most falls low)
 

@@ -20,7 +20,8 @@ module _ {S L : Type 0} (R : Rules S) (key value : Item → ℕ) (cells : S → 
   abbrev pub offer : S → L → ℕ
   offer s l = o.along l (cell (cells s) (o.from l))
 
-  -- What the link offers is sent in this round: a number that is at most each of those sent for its end is at most the offer.
+  -- What the link offers is sent in this round: a number that is at most each of those sent for its
+  -- end is at most the offer.
   abbrev pub Sends : S → L → Type 0
   Sends s l = (c : ℕ) → All (λ e. key e.1 ≡ o.to l → c ≤ value e.1) (R.emissions s) → c ≤ offer s l
 

@@ -1,4 +1,5 @@
--- The ranks that are made each from its rank: what stands at a place, and that all are in one round of one run.
+-- The ranks that are made each from its rank: what stands at a place, and that all are in one round
+-- of one run.
 use Rattle.std.proofs.Common.{◌≡◌, Result, IfOk, sym, subst}
 use Rattle.list_laws.proofs.Results.{if_ok_is, if_ok_from}
 pub use Rattle.sparse_rows.proofs.Starts.{made_at, made_from, made_in_round, made_more}

@@ -8,7 +8,8 @@ abbrev pub cell_in : {S : Type 0} → (S → ReducedState) → Option S → ℕ 
 cell_in cells None key = 0
 cell_in cells (Some s) key = slice_index_or (cells s).cells key 0
 
--- The cell of a key as its owner has it, by the states of all ranks: key k belongs to rank k mod ranks.
+-- The cell of a key as its owner has it, by the states of all ranks: key k belongs to rank k mod
+-- ranks.
 -- Of three ranks the second has the cells of the keys 1, 4, 7, ..
 abbrev pub cell_of : {S : Type 0} → (S → ReducedState) → List S → ℕ → ℕ
 cell_of cells states key = cell_in cells (slice_get states (key % length states)) key

@@ -20,7 +20,8 @@ pub trait HasCells: Drop {
         ensures { result.now ≡ cells_of self.now };
 }
 
-/// The cells of the keys below `count`, each as its owner has it: key `k` belongs to rank `k mod ranks`.
+/// The cells of the keys below `count`, each as its owner has it: key `k` belongs to rank `k mod
+/// ranks`.
 ///
 /// # Errors
 /// `NoMemory` where there was none for them.

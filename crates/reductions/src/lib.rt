@@ -1,5 +1,5 @@
-//! What most programs in rounds need and each would prove anew: numbers by key that are reduced by what comes for them, the programs
-//! of all ranks made rank by rank, and when a run ends.
+//! What most programs in rounds need and each would prove anew: numbers by key that are reduced by
+//! what comes for them, the programs of all ranks made rank by rank, and when a run ends.
 //!
 //! | Item | What it is |
 //! |---|---|
@@ -8,7 +8,8 @@
 //! | [`programs`] | the programs of all ranks, each made from its rank |
 //! | [`HasCells`], [`owned`] | the answer of a run: the cell of each key, as its owner has it |
 //!
-//! A program that keeps a `Reduced` in its state proves its laws and its answer by lemmas that stand here:
+//! A program that keeps a `Reduced` in its state proves its laws and its answer by lemmas that
+//! stand here:
 //!
 //! | File | What it says |
 //! |---|---|

@@ -18,8 +18,9 @@ pub enum Reduction {
     Sum,
 }
 
-/// Cells by key, from 0 on: each is a number that is reduced by what comes for it, and what it was as the round began stands beside
-/// it. What a program sends in a round is read from there, so that no item that comes changes it.
+/// Cells by key, from 0 on: each is a number that is reduced by what comes for it, and what it was
+/// as the round began stands beside it. What a program sends in a round is read from there, so that
+/// no item that comes changes it.
 #[derive(Drop)]
 pub struct Reduced {
     before: Vec<u64>,

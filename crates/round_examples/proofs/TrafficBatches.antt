@@ -8,7 +8,7 @@ use Rattle.list_laws.proofs.Lists.{changed_len}
 use Rattle.round_program.specs.Laws.{is_item}
 use Rattle.round_program.specs.Batches.{all_taken_in}
 use Rattle.round_examples.specs.Traffics.{TrafficState, traffic_rules, is_sent, raised}
-use Rattle.round_examples.specs.code.TrafficBatches.{is_for_it, all_raised, all_checked}
+use Rattle.round_examples.specs.code.TrafficBatches.{is_for_it, all_counted, all_checked}
 
 -- a choice of two fields
 inside : (s : TrafficState) (b c : Bool) (l m : List ℕ) (i j : ℕ) → b ≡ c
@@ -27,7 +27,7 @@ first n to ranks from x z own =
     low = grind (arith, nat_tests, own)
 
 pub counts_taken : (s : TrafficState) (counts : List ℕ) (check : ℕ) (came : List (ℕ × Item)) → s.round ≡ 0 → s.rank < s.ranks
-    → all_taken_in traffic_rules (record s { counts = counts; check = check }) came ≡ record s { counts = all_raised s.ranks counts came; check = all_checked s.ranks check came }
+    → all_taken_in traffic_rules (record s { counts = counts; check = check }) came ≡ record s { counts = all_counted s.ranks counts came; check = all_checked s.ranks check came }
 counts_taken s counts check [] z own = refl
 counts_taken s counts check (e ∷ es) z own =
     let b = is_for_it s.ranks e.0 e.1 in
@@ -50,7 +50,7 @@ raised_len : (b : Bool) (counts : List ℕ) (x : Item) → length (cond b (raise
 raised_len true counts x = changed_len counts x.a 0 (λ v. (v + x.b) % 2 ^ 64)
 raised_len false counts x = refl
 
-pub all_raised_len : (ranks : ℕ) (counts : List ℕ) (came : List (ℕ × Item)) → length (all_raised ranks counts came) ≡ length counts
+pub all_raised_len : (ranks : ℕ) (counts : List ℕ) (came : List (ℕ × Item)) → length (all_counted ranks counts came) ≡ length counts
 all_raised_len ranks counts [] = refl
 all_raised_len ranks counts (e ∷ es) =
     all_raised_len ranks (cond (is_for_it ranks e.0 e.1) (raised counts e.1) counts) es ∙ raised_len (is_for_it ranks e.0 e.1) counts e.1

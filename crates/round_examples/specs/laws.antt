@@ -1,4 +1,5 @@
--- Laws of this crate's definitions, with their proofs: what a trait asks for, and nothing to be believed.
+-- Laws of this crate's definitions, with their proofs: what a trait asks for, and nothing to be
+-- believed.
 pub mod AskLaws
 pub mod CountLaws
 pub mod LookupLaws

@@ -10,8 +10,8 @@ use round_program::Program;
 use std::alloc::Global;
 use std::marker::Model;
 
-/// One rank's part of a look-up in two rounds. In round 0 each rank asks the owner of every column that it names; in
-/// round 1 each owner replies. Column `j` belongs to rank `j mod ranks`.
+/// One rank's part of a look-up in two rounds. In round 0 each rank asks the owner of every column
+/// that it names; in round 1 each owner replies. Column `j` belongs to rank `j mod ranks`.
 #[derive(Drop)]
 pub struct Ask {
     alloc: Global,
@@ -70,7 +70,8 @@ impl Ask {
         })
     }
 
-    /// The value of each column that was named, in the order of the names; 0 where it isn't known yet.
+    /// The value of each column that was named, in the order of the names; 0 where it isn't known
+    /// yet.
     pub fn answers(&self) -> &[u64]
         ensures { result.now ≡ self.now.answers }
     {

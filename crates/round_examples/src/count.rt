@@ -7,7 +7,8 @@ use bale_items::{Item, NoMemory};
 use round_program::Program;
 use std::marker::Model;
 
-/// One rank's part of a count. Column `j` belongs to rank `j mod ranks`, and each rank keeps a count for every column.
+/// One rank's part of a count. Column `j` belongs to rank `j mod ranks`, and each rank keeps a
+/// count for every column.
 #[derive(Drop)]
 pub struct Count {
     rank: u32,

@@ -7,8 +7,9 @@
 //! | `Traffic` | as many rounds as it is told; emissions numbered as they are read; nothing but sums, so it measures what moves them |
 //! | `Lookup` | an asker: queries to other ranks, each with its reply |
 //!
-//! For each there is a state that contracts see and the program's rules (`specs/Counts`, `Asks`, `Traffics`, `Lookups`), how the state is
-//! read from the fields (`CountView` and so on), and the proof of the laws (`CountLaws` and so on).
+//! For each there is a state that contracts see and the program's rules (`specs/Counts`, `Asks`,
+//! `Traffics`, `Lookups`), how the state is read from the fields (`CountView` and so on), and the
+//! proof of the laws (`CountLaws` and so on).
 #![tactic(auto)]
 
 mod ask;

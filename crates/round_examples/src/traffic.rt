@@ -2,7 +2,7 @@
 ghost use Rattle.std.specs.Prelude.{◌≡◌, ◌<◌, ◌^◌, length};
 ghost use Rattle.std.specs.List.{All};
 ghost use Rattle.round_examples.specs.Traffics.{raised};
-ghost use Rattle.round_examples.specs.code.TrafficBatches.{is_for_it, all_raised, all_checked};
+ghost use Rattle.round_examples.specs.code.TrafficBatches.{is_for_it, all_counted, all_checked};
 
 use bale_items::{Item, NoMemory};
 use round_program::{Arrivals, Program};
@@ -11,8 +11,8 @@ use std::marker::Model;
 /// How many cells a rank has.
 pub const CELLS: u64 = 1024;
 
-/// One rank's part of a run. In its first round it sends an item to each target, which is a rank and a cell there; in the others it sends
-/// nothing.
+/// One rank's part of a run. In its first round it sends an item to each target, which is a rank
+/// and a cell there; in the others it sends nothing.
 #[derive(Drop)]
 pub struct Traffic {
     rank: u32,
@@ -20,7 +20,8 @@ pub struct Traffic {
     round: u64,
     rounds: u32,
     targets: Vec<(u32, u32)>,
-    /// What came for each cell, and the sum of the numbers of the items that came, both modulo 2^64.
+    /// What came for each cell, and the sum of the numbers of the items that came, both modulo
+    /// 2^64.
     counts: Vec<u64>,
     check: u64,
 }
@@ -69,7 +70,8 @@ impl Traffic {
         }
     }
 
-    /// What came: the sum of the numbers of the items, and of each count times the number of its cell among all cells of the run, from 1 on.
+    /// What came: the sum of the numbers of the items, and of each count times the number of its
+    /// cell among all cells of the run, from 1 on.
     pub fn checksum(&self) -> u64 {
         let mut sum = self.check;
         let mut cell = (self.rank as u64).wrapping_mul(CELLS).wrapping_add(1);
@@ -153,10 +155,10 @@ impl Program for Traffic {
     }
 }
 
-/// Counts the items of a batch that the rank may be sent, and answers what they make of `check`, the
-/// sum of their numbers.
+/// Counts the items of a batch that the rank may be sent, and answers what they make of `check`,
+/// the sum of their numbers.
 fn count_each<I: Arrivals>(counts: &mut [u64], check: u64, ranks: u32, came: I) -> u64
-    ensures counts { counts.new ≡ all_raised ranks counts.old (I.items came) }
+    ensures counts { counts.new ≡ all_counted ranks counts.old (I.items came) }
     ensures check { result ≡ all_checked ranks check (I.items came) }
 {
     let mut came = came;

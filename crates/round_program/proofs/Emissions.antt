@@ -21,7 +21,8 @@ past_end [] (suc i) h = refl
 past_end (y ∷ ys) zero h = absurd (omega (arith, h))
 past_end (y ∷ ys) (suc i) h = past_end ys i (omega (arith, h))
 
--- from number `from` on those below `next` are handed over: what is handed over of the rest goes on from there
+-- from number `from` on those below `next` are handed over: what is handed over of the rest goes on
+-- from there
 abbrev pub Reaches : {K : Type 0} → (K → ℕ → Item → Bool → K → Type 0) → List (ℕ × Item) → ℕ → ℕ → K → K → Type 0
 Reaches {K} hands es from next start now = (n : ℕ) (end : K) → HandsOver hands (drop next es) n now end → HandsOver hands (drop from es) (next - from + n) start end
 

@@ -1,4 +1,5 @@
--- What a rank knows of itself, kept step by step: as its lists grow, as it is done in an epoch, and as it goes on from one.
+-- What a rank knows of itself, kept step by step: as its lists grow, as it is done in an epoch, and
+-- as it goes on from one.
 use Rattle.std.proofs.Common.{ℕ, suc, ◌+◌, ◌-◌, ◌*◌, ◌^◌, ◌<◌, ◌≤◌, ◌≡◌, ◌≢◌, min, true, [], ◌∷◌, sum_by, arith, sym, ap, ◌∙◌, subst, inl, inr}
 use Rattle.std.proofs.lemmas.Bool.{cases_eq}
 use Rattle.list_laws.proofs.Sums.{total_same}
@@ -8,7 +9,8 @@ use Rattle.round_program.specs.Orders.{fitting, after_pulls}
 use Rattle.round_program.specs.Epochs.{PairLists, vote_item, heard, worked, Voted, told, spoiled, Own}
 use Rattle.round_program.proofs.Orders.{upto_ext}
 
--- lists that are as they were in the epochs in which the rank was done, and in those that it has completed
+-- lists that are as they were in the epochs in which the rank was done, and in those that it has
+-- completed
 pub record SameBefore (completed done : ℕ) (l k : PairLists) : Type 0 where
   pub pushed : (e d : ℕ) → e < done → k.pushed e d ≡ l.pushed e d
   pub pulled : (e f : ℕ) → e < completed → k.pulled e f ≡ l.pulled e f

@@ -1,4 +1,5 @@
--- The canonical run: what the programs of all ranks compute together, with no word on how items travel.
+-- The canonical run: what the programs of all ranks compute together, with no word on how items
+-- travel.
 use Rattle.std.specs.Prelude.{ℕ, zero, suc, ◌+◌, ◌-◌, ◌^◌, ◌<◌, ◌≤◌, ◌≡◌, ◌==◌, min, true, false, List, [], ◌∷◌, Option}
 use Rattle.std.specs.Prelude.{None, Some, map, length, slice_get}
 use Rattle.std.specs.List.{filter, fold, sum_by}
@@ -29,13 +30,15 @@ emitted_by R ss d f = emitted_of R (slice_get ss f) d
 abbrev pub absorb_all : {S : Type 0} → Rules S → S → ℕ → List Item → S
 absorb_all R s from items = fold (λ t x. R.absorbed t from x) s items
 
--- A state after a list of items of each of the senders 0, 1, .., n - 1 was absorbed, sender by sender.
+-- A state after a list of items of each of the senders 0, 1, .., n - 1 was absorbed, sender by
+-- sender.
 -- absorb_upto R s lists 2 is s after the items lists 0 of rank 0 and then lists 1 of rank 1.
 abbrev pub absorb_upto : {S : Type 0} → Rules S → S → (ℕ → List Item) → ℕ → S
 absorb_upto R s lists zero = s
 absorb_upto R s lists (suc n) = absorb_all R (absorb_upto R s lists n) n (lists n)
 
--- The programs after the absorbs of a round: each has absorbed what ranks 0, 1, .. send it, in this order.
+-- The programs after the absorbs of a round: each has absorbed what ranks 0, 1, .. send it, in this
+-- order.
 abbrev pub absorbed_round : {S : Type 0} → Rules S → List S → List S
 absorbed_round R ss = map (λ s. absorb_upto R s (emitted_by R ss (R.rank s)) (length ss)) ss
 
@@ -48,7 +51,8 @@ vote_sum R ss = min (sum_by R.vote ss) (2 ^ 64 - 1)
 abbrev pub end_all : {S : Type 0} → Rules S → List S → List S
 end_all R ss = map (λ s. R.ended s (vote_sum R ss)) ss
 
--- The programs after a whole round: absorbs, then votes, then every rank ends the round with their sum.
+-- The programs after a whole round: absorbs, then votes, then every rank ends the round with their
+-- sum.
 abbrev pub round_of : {S : Type 0} → Rules S → List S → List S
 round_of R ss = end_all R (absorbed_round R ss)
 
@@ -89,7 +93,8 @@ pub record HaveEnded {S : Type 0} (R : Rules S) (starts ends : List S) : Type 0 
   pub has_rounds : HasRounds R starts rounds
   pub states : ends ≡ states_at R starts rounds
 
--- A program of rank r in round n of a run of p ranks, with the shape and the bound that all ranks of the run share.
+-- A program of rank r in round n of a run of p ranks, with the shape and the bound that all ranks
+-- of the run share.
 pub record Member {S : Type 0} (R : Rules S) (p n : ℕ) (shape : List ℕ) (most r : ℕ) (s : S) : Type 0 where
   pub valid : R.valid s
   pub own_rank : R.rank s ≡ r

@@ -11,8 +11,8 @@ abbrev pub by_case : {T : Type 0} → T → (List ℕ → T) → (List ℕ → T
 by_case d f g [] = d
 by_case d f g (side ∷ shape) = if side == 0 then f shape else g shape
 
--- The program that is there does all that is done. The shape names it, so that a left and a right program are in no run
--- together.
+-- The program that is there does all that is done. The shape names it, so that a left and a right
+-- program are in no run together.
 abbrev pub either_rules : {S T : Type 0} → Rules S → Rules T → Rules (Either S T)
 either_rules A B =
     record {

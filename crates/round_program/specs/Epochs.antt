@@ -8,8 +8,8 @@ use Rattle.round_program.specs.Rules.{Rules}
 use Rattle.round_program.specs.Canonical.{emitted, absorbed_round, states_at, votes_at, HasRounds, InRound}
 use Rattle.round_program.specs.Orders.{after_pulls}
 
--- One rank's own lists, for each epoch and each other rank. Epoch 2m is the work of round m, and epoch
--- 2m + 1 its votes.
+-- One rank's own lists, for each epoch and each other rank. Epoch 2m is the work of round m, and
+-- epoch 2m + 1 its votes.
 pub record PairLists : Type 0 where
   -- pushed e d: what this rank pushed toward d in epoch e
   pub pushed : ℕ → ℕ → List Item
@@ -29,15 +29,17 @@ heard p l m = min (total p (λ f. sum_by (λ x. x.a) (l.pulled (2 * m + 1) f))) 
 abbrev pub worked : {S : Type 0} → Rules S → ℕ → (ℕ → S) → PairLists → ℕ → S
 worked R p h l m = after_pulls R (h m) (l.pulled (2 * m)) p
 
--- What a rank that was done with the votes of round m has done in that round: it told its emissions and its vote, or it
--- was spoiled, having found no memory at the round's beginning or at an absorb, and voted 2^64 - 1.
+-- What a rank that was done with the votes of round m has done in that round: it told its emissions
+-- and its vote, or it was spoiled, having found no memory at the round's beginning or at an absorb,
+-- and voted 2^64 - 1.
 pub data Voted {S : Type 0} (R : Rules S) (p : ℕ) (h : ℕ → S) (l : PairLists) (m : ℕ) : Type 0 where
   told : ((d : ℕ) → d < p → l.pushed (2 * m) d ≡ emitted R (h m) d)
       → ((d : ℕ) → d < p → l.pushed (2 * m + 1) d ≡ vote_item (R.vote (worked R p h l m)) ∷ []) → Voted R p h l m
   spoiled : ((d : ℕ) → d < p → l.pushed (2 * m + 1) d ≡ vote_item (2 ^ 64 - 1) ∷ []) → Voted R p h l m
 
--- What one rank knows of itself. It has completed the epochs below `completed` and was done in those below `done`. An
--- epoch of votes is completed where its sum ended the round, and not where the sum told that memory was wanting.
+-- What one rank knows of itself. It has completed the epochs below `completed` and was done in
+-- those below `done`. An epoch of votes is completed where its sum ended the round, and not where
+-- the sum told that memory was wanting.
 -- h m is the rank's state as round m began, or the state that it would have had with memory.
 pub record Own {S : Type 0} (R : Rules S) (p completed done : ℕ) (h : ℕ → S) (l : PairLists) : Type 0 where
   pub done_low : completed ≤ done
@@ -50,8 +52,8 @@ pub record Own {S : Type 0} (R : Rules S) (p completed done : ℕ) (h : ℕ → 
   -- a rank begins another round only where the program goes on
   pub goes : (m : ℕ) → 2 * m + 2 < done → R.goes_on (R.shape (h m)) m (heard p l m) ≡ true
 
--- What all ranks together know of an epoch that one of them has completed: all were done in it, and what was
--- pulled is what was pushed.
+-- What all ranks together know of an epoch that one of them has completed: all were done in it, and
+-- what was pulled is what was pushed.
 pub record Closes (p : ℕ) (completed done : ℕ → ℕ) (ls : ℕ → PairLists) : Type 0 where
   pub all_done : (r f : ℕ) → r < p → f < p → completed r ≤ done f
   pub whole : (r f e : ℕ) → r < p → f < p → e < completed r → (ls r).pulled e f ≡ (ls f).pushed e r
@@ -61,8 +63,8 @@ pub record IsCanonical {S : Type 0} (R : Rules S) (p : ℕ) (starts : List S) (c
     (ls : ℕ → PairLists) : Type 0 where
   -- each state as a round begins is the canonical one
   pub states : (r m : ℕ) → r < p → 2 * m ≤ completed r → slice_get (states_at R starts m) r ≡ Some (h r m)
-  -- in a round that some rank r has completed, each rank f pushed its emissions, worked to the canonical state and
-  -- pushed its vote
+  -- in a round that some rank r has completed, each rank f pushed its emissions, worked to the
+  -- canonical state and pushed its vote
   pub pushed : (r f d m : ℕ) → r < p → f < p → d < p → 2 * m + 2 ≤ completed r
       → (ls f).pushed (2 * m) d ≡ emitted R (h f m) d
   pub absorbed : (r f m : ℕ) → r < p → f < p → 2 * m + 2 ≤ completed r
@@ -77,7 +79,8 @@ pub record IsCanonical {S : Type 0} (R : Rules S) (p : ℕ) (starts : List S) (c
   pub stopped : (n r m : ℕ) → HasRounds R starts n → r < p → 2 * m + 2 ≤ completed r
       → R.goes_on (R.shape (h r m)) m (heard p (ls r) m) ≡ false → m + 1 ≡ n
 
--- At every moment, with the ranks in different rounds, each rank's states are those of the canonical run.
+-- At every moment, with the ranks in different rounds, each rank's states are those of the
+-- canonical run.
 abbrev pub EveryRunIsCanonical : {S : Type 0} → Rules S → Type 0
 EveryRunIsCanonical {S} R =
     (p : ℕ) (shape : List ℕ) (most : ℕ) (starts : List S) (completed done : ℕ → ℕ) (h : ℕ → ℕ → S) (ls : ℕ → PairLists)

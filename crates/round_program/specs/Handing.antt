@@ -9,7 +9,8 @@ pub record MayHandOver (May : ℕ → Type 0) (items : List (ℕ × Item)) (from
   pub from_within : from ≤ length items
   pub may : All (λ e. May e.0) (drop from items)
 
--- Those from number `from` up to number `to` were handed over, and then none was left, or the next one was refused.
+-- Those from number `from` up to number `to` were handed over, and then none was left, or the next
+-- one was refused.
 pub record HandsUpTo {K : Type 0} (Hands : K → ℕ → Item → Bool → K → Type 0) (items : List (ℕ × Item)) (from to : ℕ)
     (old new : K) : Type 0 where
   pub forward : from ≤ to

@@ -1,12 +1,13 @@
--- One program as a case of another: a type that stands for several applications runs each of them as it is.
+-- One program as a case of another: a type that stands for several applications runs each of them
+-- as it is.
 use Rattle.std.specs.Prelude.{ℕ, ◌<◌, ◌≡◌, List, length, map}
 use Rattle.bale_items.specs.declared.Item.{Item}
 use Rattle.round_program.specs.Rules.{Rules}
 use Rattle.round_program.specs.Canonical.{emitted_by, absorbed_round, states_at, votes_at, items_at, HasRounds}
 use Rattle.round_program.specs.Canonical.{EndsWithin, HaveEnded, InRound}
 
--- Q does with the states `inject s` what R does with the states s. The shapes of Q's runs are those of R, wrapped, so
--- that programs of two cases are in no run together.
+-- Q does with the states `inject s` what R does with the states s. The shapes of Q's runs are those
+-- of R, wrapped, so that programs of two cases are in no run together.
 -- With Q one of two programs, A or B, `inject` puts a state of A first, and `wrap` writes before
 -- its shape that it is A's.
 pub record Injects {S T : Type 0} (R : Rules S) (Q : Rules T) (inject : S → T) (wrap : List ℕ → List ℕ) : Type 0 where

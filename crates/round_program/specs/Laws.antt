@@ -4,7 +4,8 @@ use Rattle.std.specs.List.{All}
 use Rattle.bale_items.specs.declared.Item.{Item}
 use Rattle.round_program.specs.Rules.{Rules}
 
--- Whether a program may be sent an item by a rank: `may_be_sent` of its own shape, ranks, round and rank.
+-- Whether a program may be sent an item by a rank: `may_be_sent` of its own shape, ranks, round and
+-- rank.
 -- fits R s f x, and Fits R s f x as a fact.
 -- A histo rank 1 of 4 ranks and 8 columns fits (5,1,0), since column 5 is its own, and no (4,1,0).
 abbrev pub fits : {S : Type 0} → Rules S → S → ℕ → Item → Bool
@@ -21,7 +22,8 @@ IsItem x = (x.a < 2 ^ 64) × (x.b < 2 ^ 64) × (x.c < 2 ^ 64)
 abbrev pub is_item : Item → Bool
 is_item x = nat_lt x.a (2 ^ 64) && nat_lt x.b (2 ^ 64) && nat_lt x.c (2 ^ 64)
 
--- A state of the same rank in the same round of the same run, with the same emissions: what an absorb leaves.
+-- A state of the same rank in the same round of the same run, with the same emissions: what an
+-- absorb leaves.
 -- So `fits` of every item is the same too.
 pub record SameRound {S : Type 0} (R : Rules S) (s t : S) : Type 0 where
   pub valid : R.valid t
@@ -32,7 +34,8 @@ pub record SameRound {S : Type 0} (R : Rules S) (s t : S) : Type 0 where
   pub most : R.most t ≡ R.most s
   pub emissions : R.emissions t ≡ R.emissions s
 
--- A state of the same rank in the next round of the same run. The round's number stands still at 2^64 - 1.
+-- A state of the same rank in the next round of the same run. The round's number stands still at
+-- 2^64 - 1.
 pub record NextRound {S : Type 0} (R : Rules S) (s t : S) : Type 0 where
   pub valid : R.valid t
   pub rank : R.rank t ≡ R.rank s

@@ -27,7 +27,8 @@ queries_to T s d = items_of d (asks_of T s)
 abbrev pub answers : {S : Type 0} → Talk S → S → ℕ → List Item → List Item
 answers T s from queries = map (λ x. carrying (T.answer s from x.a)) queries
 
--- The replies of (d,s): the answers that d gives to the queries of (s,d), in their order; all r is the state of rank r.
+-- The replies of (d,s): the answers that d gives to the queries of (s,d), in their order; all r is
+-- the state of rank r.
 abbrev pub replies_of : {S : Type 0} → Talk S → (ℕ → S) → ℕ → ℕ → List Item
 replies_of T all d s = answers T (all d) s (queries_to T (all s) d)
 
@@ -47,7 +48,8 @@ hearing T s i [] came = s
 hearing T s i (q ∷ qs) came = hearing T (heard_first T s i (came q.0)) (suc i) qs (less_first came q.0)
 
 -- The state of a rank that began in the state s, after those replies.
--- Of the queries above, with 6 from rank 1 and nothing from rank 0, only query number 0 was heard, as 6.
+-- Of the queries above, with 6 from rank 1 and nothing from rank 0, only query number 0 was heard,
+-- as 6.
 abbrev pub heard_by : {S : Type 0} → Talk S → S → (ℕ → List Item) → S
 heard_by T s came = hearing T s 0 (T.queries s) came
 
@@ -57,7 +59,8 @@ abbrev pub places_to : ℕ → ℕ → List (ℕ × ℕ) → List ℕ
 places_to d i [] = []
 places_to d i (q ∷ qs) = if q.0 == d then i ∷ places_to d (suc i) qs else places_to d (suc i) qs
 
--- A rank r in the state s after it heard, for each of its queries in order, the answer of the rank asked.
+-- A rank r in the state s after it heard, for each of its queries in order, the answer of the rank
+-- asked.
 abbrev pub answered_from : {S : Type 0} → Talk S → (ℕ → S) → ℕ → S → ℕ → List (ℕ × ℕ) → S
 answered_from T all r s i [] = s
 answered_from T all r s i (q ∷ qs) = answered_from T all r (T.heard s i (T.answer (all q.0) r q.1)) (suc i) qs
@@ -65,7 +68,8 @@ answered_from T all r s i (q ∷ qs) = answered_from T all r (T.heard s i (T.ans
 abbrev pub answered : {S : Type 0} → Talk S → (ℕ → S) → ℕ → S
 answered T all r = answered_from T all r (all r) 0 (T.queries (all r))
 
--- The askers of all ranks after each has heard, for each of its queries in order, the answer of the rank asked.
+-- The askers of all ranks after each has heard, for each of its queries in order, the answer of the
+-- rank asked.
 pub record HaveHeard {S : Type 0} (T : Talk S) (askers ends : List S) : Type 0 where
   pub size : length ends ≡ length askers
   pub each : (r : ℕ) (s : S) → slice_get askers r ≡ Some s

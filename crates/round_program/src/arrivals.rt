@@ -5,8 +5,8 @@ ghost use Rattle.bale_items.specs.declared.item.Item.{Item};
 
 use bale_items::Item;
 
-/// Items that came to a rank, in order, each with its sender. Whatever carries the items says how they are read and whose they
-/// are, so that a program takes in a whole batch by one call.
+/// Items that came to a rank, in order, each with its sender. Whatever carries the items says how
+/// they are read and whose they are, so that a program takes in a whole batch by one call.
 pub trait Arrivals: Drop {
     ghost items: { Self → List (ℕ × Item) };
 

@@ -3,8 +3,9 @@
 ghost use Rattle.std.specs.Prelude.{◌≡◌, ◌<◌, length, slice_get, Some};
 ghost use Rattle.round_program.specs.Talks.{Talk, TalkLaws};
 
-/// One rank's part in an exchange of queries and replies. Each rank has a list of queries to other ranks, answers every
-/// query that it is asked, and hears the reply to each of its own, in whatever order they come.
+/// One rank's part in an exchange of queries and replies. Each rank has a list of queries to other
+/// ranks, answers every query that it is asked, and hears the reply to each of its own, in whatever
+/// order they come.
 ///
 /// | Call | Needs | Answer |
 /// |---|---|---|
@@ -13,8 +14,8 @@ ghost use Rattle.round_program.specs.Talks.{Talk, TalkLaws};
 /// | `answer(from, question)` | | this rank's reply to `from` |
 /// | `hear(i, reply)` | `i` below `count` | changes what was heard, and none of the above |
 ///
-/// No call takes memory. Each call is read from what the state holds: a query or an answer that has to be searched for
-/// is searched for each item of an exchange.
+/// No call takes memory. Each call is read from what the state holds: a query or an answer that has
+/// to be searched for is searched for each item of an exchange.
 pub trait Asker: Drop {
     ghost talk: { Talk Self };
 

@@ -1,6 +1,7 @@
-//! Either of two programs as one program. So one type stands for several applications, and a drive is compiled once for
-//! them all: the drives of a tree of `Either`s run whichever program is there. A drive emits and absorbs by the batch, so that a
-//! tree costs one choice for each batch and none for an item.
+//! Either of two programs as one program. So one type stands for several applications, and a drive
+//! is compiled once for them all: the drives of a tree of `Either`s run whichever program is there.
+//! A drive emits and absorbs by the batch, so that a tree costs one choice for each batch and none
+//! for an item.
 
 use crate::arrivals::Arrivals;
 use crate::departures::Departures;

@@ -1,12 +1,14 @@
 //! Programs that many ranks run together in rounds.
 //!
-//! A program says what one rank does; how items travel is a drive's work. In each round a rank emits items to ranks,
-//! absorbs what comes, and votes; then every rank ends the round with the sum of the votes, and the program goes on
-//! or has ended. `specs/Canonical` defines what all ranks compute together, the *canonical run*: the emissions are read
-//! from the states, each rank absorbs them sender by sender, and the votes are summed. It has no word on transport.
+//! A program says what one rank does; how items travel is a drive's work. In each round a rank
+//! emits items to ranks, absorbs what comes, and votes; then every rank ends the round with the sum
+//! of the votes, and the program goes on or has ended. `specs/Canonical` defines what all ranks
+//! compute together, the *canonical run*: the emissions are read from the states, each rank absorbs
+//! them sender by sender, and the votes are summed. It has no word on transport.
 //!
-//! A drive absorbs in whatever order items come, with ranks in different rounds. That it ends in the canonical
-//! run's states rests on the program's laws (`specs/Laws`) and on the two theorems below.
+//! A drive absorbs in whatever order items come, with ranks in different rounds. That it ends in
+//! the canonical run's states rests on the program's laws (`specs/Laws`) and on the two theorems
+//! below.
 //!
 //! | Item | What it is |
 //! |---|---|
@@ -20,10 +22,11 @@
 //! | `same_runs` | one program as a case of another: a run of the cases is the run of the program |
 //! | `Either` (of the crate either) | either of two programs is a program, and runs whichever is there: see `either_runs` |
 //!
-//! The definitions, in the order in which to read them: `Rules` (a program's meanings), `Laws`, `Emissions` and `Batches` (items
-//! that are handed over, and that come, one after the other), `Canonical` (the canonical run), `Orders` (the interleaving theorem),
-//! `Epochs` (the theorem over all rounds), `Injections` (one program as a case of another), `Eithers` (either of two programs),
-//! `Talks` (askers), `Replies` (what askers hear).
+//! The definitions, in the order in which to read them: `Rules` (a program's meanings), `Laws`,
+//! `Emissions` and `Batches` (items that are handed over, and that come, one after the other),
+//! `Canonical` (the canonical run), `Orders` (the interleaving theorem), `Epochs` (the theorem over
+//! all rounds), `Injections` (one program as a case of another), `Eithers` (either of two
+//! programs), `Talks` (askers), `Replies` (what askers hear).
 #![tactic(auto)]
 
 mod arrivals;

@@ -25,22 +25,25 @@ use bale_items::{Item, NoMemory};
 /// | `goes_on(votes)` | | whether another round follows this one, if the votes have that sum |
 /// | `end_round(votes)` | | begins the next round, and answers what `goes_on` does |
 ///
-/// Contracts see a program as its state. `rules` says what each call answers or makes of a state, and `laws` proves that
-/// the rules are lawful, once for each implementation:
+/// Contracts see a program as its state. `rules` says what each call answers or makes of a state,
+/// and `laws` proves that the rules are lawful, once for each implementation:
 ///
 /// 1. an emission goes to a rank that may be sent it;
 /// 2. items of two senders are absorbed in either order with the same outcome;
-/// 3. an absorb changes no rank, ranks, round, shape, most or emission, so it changes no `fits` either;
+/// 3. an absorb changes no rank, ranks, round, shape, most or emission, so it changes no `fits`
+///    either;
 /// 4. a vote is below 2^32;
-/// 5. the end of a round keeps rank, ranks, shape and most and begins the next round, and whether a round
-///    follows depends on the shape, the round and the votes alone. All ranks of a run share the shape, so all agree.
+/// 5. the end of a round keeps rank, ranks, shape and most and begins the next round, and whether a
+///    round follows depends on the shape, the round and the votes alone. All ranks of a run share
+///    the shape, so all agree.
 ///
-/// A program that answered `NoMemory` isn't used again for answers. Its emissions of the round stay as they were, so
-/// that what it began to send can be sent.
+/// A program that answered `NoMemory` isn't used again for answers. Its emissions of the round stay
+/// as they were, so that what it began to send can be sent.
 ///
-/// An implementation keeps what it emits in its state and reads it there: a drive asks for each emission once or
-/// more, so `count` and `emission` are O(1) and search for nothing. Where the emissions aren't simply a part of the
-/// input, build a list of them in `end_round`, which may take memory, and let `emission` read it by index.
+/// An implementation keeps what it emits in its state and reads it there: a drive asks for each
+/// emission once or more, so `count` and `emission` are O(1) and search for nothing. Where the
+/// emissions aren't simply a part of the input, build a list of them in `end_round`, which may take
+/// memory, and let `emission` read it by index.
 pub trait Program: Drop {
     ghost rules: { Rules Self };
 
@@ -73,8 +76,8 @@ pub trait Program: Drop {
         requires { i < length (rules.emissions self.now) }
         ensures { slice_get (rules.emissions self.now) i ≡ Some result };
 
-    /// Hands the emissions from number `from` on to `out`, in order, until one is refused or all are handed over. Answers how many
-    /// are by then.
+    /// Hands the emissions from number `from` on to `out`, in order, until one is refused or all
+    /// are handed over. Answers how many are by then.
     fn emit_each<D: Departures>(&self, from: u64, out: &mut D) -> u64
         requires from { from ≤ length (rules.emissions self.now) }
         requires may { All (λ e. D.may out.old e.0) (drop from (rules.emissions self.now)) }
@@ -94,7 +97,8 @@ pub trait Program: Drop {
         next
     }
 
-    /// Whether this rank may be sent `item` by the rank `from`: a rank that gets an item can't know what its sender emits.
+    /// Whether this rank may be sent `item` by the rank `from`: a rank that gets an item can't know
+    /// what its sender emits.
     fn fits(&self, from: u32, item: Item) -> bool
         ensures { result ≡ fits rules self.now from item };
 
@@ -104,7 +108,8 @@ pub trait Program: Drop {
         ensures absorbed { OnOk result (self.new ≡ rules.absorbed self.old from item) }
         ensures refused { OnErr result (rules.emissions self.new ≡ rules.emissions self.old) };
 
-    /// Takes in what fits of what came, in order. After `NoMemory` the emissions are as before, and what was left is dropped.
+    /// Takes in what fits of what came, in order. After `NoMemory` the emissions are as before, and
+    /// what was left is dropped.
     /// A program that stands for one of several chooses here once for all of them.
     fn absorb_each<I: Arrivals>(&mut self, came: I) -> Result<(), NoMemory>
         ensures absorbed { OnOk result (self.new ≡ all_taken_in rules self.old (I.items came)) }
@@ -124,13 +129,13 @@ pub trait Program: Drop {
     fn vote(&self) -> u64
         ensures { result ≡ rules.vote self.now };
 
-    /// Whether another round follows, if the votes of all ranks have the sum `votes`. A rank that has no memory for the next
-    /// round learns from it whether there is one.
+    /// Whether another round follows, if the votes of all ranks have the sum `votes`. A rank that
+    /// has no memory for the next round learns from it whether there is one.
     fn goes_on(&self, votes: u64) -> bool
         ensures { result ≡ rules.goes_on (rules.shape self.now) (rules.round self.now) votes };
 
-    /// Ends the round and begins the next, and answers whether it is one of the run. After `NoMemory` the emissions are as
-    /// before.
+    /// Ends the round and begins the next, and answers whether it is one of the run. After
+    /// `NoMemory` the emissions are as before.
     fn end_round(&mut self, votes: u64) -> Result<bool, NoMemory>
         ensures ended { OnOk result (self.new ≡ rules.ended self.old votes) }
         ensures answer { IfOk result (λ more. more ≡ rules.goes_on (rules.shape self.old)

@@ -7,7 +7,8 @@ use bale_items::NoMemory;
 use std::alloc::Global;
 use std::marker::Model;
 
-/// A list of programs. A drive takes them out from the front, rank by rank, and adds them again when their run has ended.
+/// A list of programs. A drive takes them out from the front, rank by rank, and adds them again
+/// when their run has ended.
 #[derive(Drop)]
 pub struct Progs<Q> {
     list: Vec<Q>,

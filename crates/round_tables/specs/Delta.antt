@@ -70,7 +70,8 @@ pub record Took (entries : List Triple) (sent : Triple → Bool) (old new : ℕ 
   pub took : new v ≡ Some (before + nat_abs edge.v)
   pub better : is_better (before + nat_abs edge.v) (old v) ≡ true
 
--- Some edges offered: no vertex has more than it was offered, and each is as it was, or took an offer and is pending.
+-- Some edges offered: no vertex has more than it was offered, and each is as it was, or took an
+-- offer and is pending.
 pub record Improves (entries : List Triple) (sent : Triple → Bool) (old : ℕ → Option ℕ) (was : ℕ → Bool)
     (y : Look) : Type 0 where
   pub tried : (e : Triple) → Contains entries e → sent e ≡ true → (w : ℕ) → old e.i ≡ Some w
@@ -113,7 +114,8 @@ abbrev pub least_pending : ℕ → Sparse → Look → ℕ → Option ℕ
 least_pending ranks m x r = fold (λ w v. lesser w (x.found v)) None (own_vertices ranks m x.pending r)
 
 -- What own vertices that pass a test offer along the edges that are wanted.
--- for each such vertex i, ascending, of weight w, and each such edge (i,j,v) by j: to j mod ranks, (j, w + v, 0)
+-- for each such vertex i, ascending, of weight w, and each such edge (i,j,v) by j: to j mod ranks,
+-- (j, w + v, 0)
 abbrev pub offers : ℕ → Sparse → (ℕ → Option ℕ) → (ℕ → Bool) → (Triple → Bool) → ℕ → List (ℕ × Item)
 offers ranks m found test wanted r =
     flat_map (λ i. offered ranks (found i) (filter (λ t. t.i == i && wanted t) (gathered m.entries)))

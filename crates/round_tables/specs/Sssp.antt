@@ -49,7 +49,8 @@ improves found (suc k) v = falls (found k v) (found (suc k) v)
 abbrev pub improved_with : Sparse → (ℕ → ℕ → Option ℕ) → ℕ → List ℕ
 improved_with m found k = filter (improves found k) (range_with_len 0 m.rows)
 
--- What a vertex of a weight offers along edges: to the owner of each edge's end, the end and the sum of the weights.
+-- What a vertex of a weight offers along edges: to the owner of each edge's end, the end and the
+-- sum of the weights.
 -- offered 2 (Some 5) ((1,2,2)) = (2,7,0) to rank 0
 abbrev pub offered : ℕ → Option ℕ → List Triple → List (ℕ × Item)
 offered ranks None edges = []

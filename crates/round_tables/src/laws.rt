@@ -2,13 +2,14 @@
 ghost use Rattle.round_tables.specs.Delta.{DeltaRounds};
 ghost use Rattle.round_tables.specs.Sssp.{SsspRounds};
 
-/// sssp tells each edge to the owner of its beginning; then, with one edge more in each round, the vertices that have lighter walks than
-/// before offer their weights along their edges.
+/// sssp tells each edge to the owner of its beginning; then, with one edge more in each round, the
+/// vertices that have lighter walks than before offer their weights along their edges.
 pub fn sssp_rounds()
     ensures { SsspRounds }
 {}
 
-/// sssp by buckets is delta-stepping over the whole graph, and each rank sends in each round its own vertices' part of it.
+/// sssp by buckets is delta-stepping over the whole graph, and each rank sends in each round its
+/// own vertices' part of it.
 pub fn delta_rounds()
     ensures { DeltaRounds }
 {}

@@ -31,7 +31,8 @@ coord (n ∷ ns) r zero = 0
 coord (n ∷ ns) r (suc zero) = r % n
 coord (n ∷ ns) r (suc (suc h)) = coord ns (r / n) (suc h)
 
--- Where an entry from s to d stands after h hops: the rank with coordinates 1 to h of d and the others of s.
+-- Where an entry from s to d stands after h hops: the rank with coordinates 1 to h of d and the
+-- others of s.
 -- place s d 0 = s, place s d k = d
 -- In the grid 2x2x2 the places from rank 1 to rank 6 are 1, 0, 2 and 6.
 unfoldable pub place : List ℕ → ℕ → ℕ → ℕ → ℕ

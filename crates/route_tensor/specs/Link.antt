@@ -23,7 +23,8 @@ links_before dims h = sum (take (h - 1) dims)
 abbrev pub links : List ℕ → ℕ
 links dims = ranks dims * sum dims
 
--- The number of the link (h,a,b): links are counted by hop, then by sender, then by the reader's coordinate h.
+-- The number of the link (h,a,b): links are counted by hop, then by sender, then by the reader's
+-- coordinate h.
 -- P * (n1 + .. + n(h-1)) + a * nh + coord b h
 -- In the grid 2x2x2 the link (2,0,2) has the number 17.
 abbrev pub link : List ℕ → ℕ → ℕ → ℕ → ℕ

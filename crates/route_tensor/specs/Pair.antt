@@ -16,8 +16,8 @@ pub record PassesThrough (dims : List ℕ) (r s d h : ℕ) : Type 0 where
   pub last_hop : h < length dims
   pub here : place dims s d h ≡ r
 
--- Whether an entry on the hop-h link of the route from s to d belongs to that pair: its sender is s and its
--- destination is d.
+-- Whether an entry on the hop-h link of the route from s to d belongs to that pair: its sender is s
+-- and its destination is d.
 -- In the grid 2x2x2 an entry with the tag (1,0,1) on (2,0,2) belongs to the pair from 1 to 6.
 abbrev pub belongs : List ℕ → ℕ → ℕ → ℕ → Entry → Bool
 belongs dims s d h e =
@@ -27,8 +27,8 @@ belongs dims s d h e =
 abbrev pub items_of_pair : List ℕ → ℕ → ℕ → ℕ → List Entry → List Item
 items_of_pair dims s d h entries = map (λ e. e.item) (filter (belongs dims s d h) entries)
 
--- The tag of the pair from s to d names it on the link (h,a,b) of its route: the tag is fair there, its sender and its
--- destination are s and d, and a relay makes of it the tag on the next link.
+-- The tag of the pair from s to d names it on the link (h,a,b) of its route: the tag is fair there,
+-- its sender and its destination are s and d, and a relay makes of it the tag on the next link.
 -- In the grid 2x2x2 the tag (1,0,1) of the pair from 1 to 6 is fair on (2,0,2), tells 1 and 6
 -- there, and becomes (1,0,0).
 pub record NamesPair (dims : List ℕ) (s d h a b : ℕ) : Type 0 where

@@ -15,7 +15,8 @@ pub record Site : Type 0 where
   pub dims : List ℕ
   pub rank : ℕ
 
--- Where an entry from r to d goes first: to the neighbour of hop 1 that has d's first coordinate, with its first tag.
+-- Where an entry from r to d goes first: to the neighbour of hop 1 that has d's first coordinate,
+-- with its first tag.
 -- In the grid 2x2x2 an entry from 1 to 6 goes to neighbour number 0, rank 0, with the tag (0,1,1).
 abbrev pub first_step : List ℕ → ℕ → ℕ → Onward
 first_step dims r d = record { out = coord dims d 1; tag = tag_at dims r d 1 }
@@ -33,10 +34,10 @@ about dims r i = record {
   filler = 0;
 }
 
--- Where an entry goes that came from a neighbour: to the neighbour of the next hop with the coordinate that the tag
--- tells, with the next tag.
--- In the grid 2x2x2 an entry with the tag (0,1,1) that came from rank 1 to rank 0 on hop 1 goes to neighbour number
--- 3, rank 2, with the tag (1,0,1).
+-- Where an entry goes that came from a neighbour: to the neighbour of the next hop with the
+-- coordinate that the tag tells, with the next tag.
+-- In the grid 2x2x2 an entry with the tag (0,1,1) that came from rank 1 to rank 0 on hop 1 goes to
+-- neighbour number 3, rank 2, with the tag (1,0,1).
 abbrev pub passed_on : Neighbour → Tag → Onward
 passed_on n tag = record {
   out = n.next + digit tag (n.hop + 1);

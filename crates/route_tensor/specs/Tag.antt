@@ -21,14 +21,16 @@ with_digit tag (suc (suc zero)) c = record tag { d2 = c }
 with_digit tag (suc (suc (suc zero))) c = record tag { d3 = c }
 with_digit tag (suc (suc (suc (suc h)))) c = tag
 
--- A tag is fair on hop h: every digit of a dimension is below it, digit h and the digits past the last dimension are 0.
+-- A tag is fair on hop h: every digit of a dimension is below it, digit h and the digits past the
+-- last dimension are 0.
 -- On hop 1 of the grid 2x2x2 the tag (0,1,1) is fair and (1,1,1) isn't.
 pub record IsFair (dims : List ℕ) (h : ℕ) (tag : Tag) : Type 0 where
   pub below : (i : ℕ) → 1 ≤ i → i ≤ length dims → digit tag i < dim dims i
   pub here : digit tag h ≡ 0
   pub past : (i : ℕ) → length dims < i → digit tag i ≡ 0
 
--- Digit i of the tag from s to d on hop h: below h the sender's coordinate, at h 0, above h the destination's.
+-- Digit i of the tag from s to d on hop h: below h the sender's coordinate, at h 0, above h the
+-- destination's.
 unfoldable pub tag_digit : List ℕ → ℕ → ℕ → ℕ → ℕ → ℕ
 tag_digit dims s d h i = if nat_lt i h then coord dims s i else if nat_lt h i then coord dims d i else 0
 
@@ -37,7 +39,8 @@ tag_digit dims s d h i = if nat_lt i h then coord dims s i else if nat_lt h i th
 abbrev pub tag_at : List ℕ → ℕ → ℕ → ℕ → Tag
 tag_at dims s d h = record { d1 = tag_digit dims s d h 1; d2 = tag_digit dims s d h 2; d3 = tag_digit dims s d h 3 }
 
--- The tag on the next link, of an entry that came from a on hop h: digit h becomes a's coordinate, digit h+1 becomes 0.
+-- The tag on the next link, of an entry that came from a on hop h: digit h becomes a's coordinate,
+-- digit h+1 becomes 0.
 -- In the grid 2x2x2, with a = 1 and h = 1, (0,1,1) becomes (1,0,1).
 abbrev pub next_tag : List ℕ → Tag → ℕ → ℕ → Tag
 next_tag dims tag h a = with_digit (with_digit tag h (coord dims a h)) (h + 1) 0
@@ -53,12 +56,14 @@ rank_of (n ∷ ns) (c ∷ cs) = c + n * rank_of ns cs
 abbrev pub tag_rank : List ℕ → Tag → ℕ
 tag_rank dims tag = rank_of dims (tag.d1 ∷ tag.d2 ∷ tag.d3 ∷ [])
 
--- The sender of an entry on the link (h,a,b): its coordinates below h stand in the tag, the others are a's.
+-- The sender of an entry on the link (h,a,b): its coordinates below h stand in the tag, the others
+-- are a's.
 -- In the grid 2x2x2, with the tag (1,0,1) on (2,0,2), it is 1.
 abbrev pub sender_of : List ℕ → Tag → ℕ → ℕ → ℕ
 sender_of dims tag h a = place dims a (tag_rank dims tag) (h - 1)
 
--- The destination of an entry on the link (h,a,b): its coordinates up to h are b's, the others stand in the tag.
+-- The destination of an entry on the link (h,a,b): its coordinates up to h are b's, the others
+-- stand in the tag.
 -- In the grid 2x2x2, with the tag (1,0,1) on (2,0,2), it is 6.
 abbrev pub destination_of : List ℕ → Tag → ℕ → ℕ → ℕ
 destination_of dims tag h b = place dims (tag_rank dims tag) b h

@@ -24,7 +24,8 @@ pub enum GridError {
     TooManyRanks,
 }
 
-/// One to three positive dimensions with at most 64 ranks. Contracts see the list of the dimensions.
+/// One to three positive dimensions with at most 64 ranks. Contracts see the list of the
+/// dimensions.
 #[derive(Clone, Copy)]
 pub struct Grid {
     /// How many dimensions there are.
@@ -196,8 +197,8 @@ impl Grid {
         }
     }
 
-    /// The product of the first `h` dimensions: by how much two ranks differ that differ by 1 in coordinate
-    /// `h + 1` alone.
+    /// The product of the first `h` dimensions: by how much two ranks differ that differ by 1 in
+    /// coordinate `h + 1` alone.
     #[tactic(auto, using(crate::proofs::Kept::bounds_kept))]
     pub(crate) fn stride(&self, h: u32) -> u32
         requires { h ≤ length self.now }

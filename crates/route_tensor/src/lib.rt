@@ -1,8 +1,9 @@
 //! Grids of ranks, the links between them, and the way of an entry from hop to hop.
 //!
-//! A grid arranges the ranks in one to three dimensions. An entry from rank `s` to rank `d` takes one hop
-//! for each dimension, and each hop sets one coordinate from that of `s` to that of `d`. So each rank has
-//! links to few others only, and what it sends to many destinations shares their buffers.
+//! A grid arranges the ranks in one to three dimensions. An entry from rank `s` to rank `d` takes
+//! one hop for each dimension, and each hop sets one coordinate from that of `s` to that of `d`. So
+//! each rank has links to few others only, and what it sends to many destinations shares their
+//! buffers.
 //!
 //! | Call | Answer |
 //! |---|---|
@@ -15,8 +16,9 @@
 //! | `tags_law` | nothing: it tells that a pair's tag is fair and names the pair on each link of its route |
 //! | `Routes` | what one rank looks up for each entry: its neighbours, first steps, next steps, senders |
 //!
-//! The definitions, in the order in which to read them: `Grid` (ranks and coordinates), `Link` and `Ends` (links and their numbers),
-//! `Neighbour`, `Pair` (the way from one rank to another), `Tag`, `Routes`, `Refusal`. `Kept` is a grid as the code keeps it.
+//! The definitions, in the order in which to read them: `Grid` (ranks and coordinates), `Link` and
+//! `Ends` (links and their numbers), `Neighbour`, `Pair` (the way from one rank to another), `Tag`,
+//! `Routes`, `Refusal`. `Kept` is a grid as the code keeps it.
 #![tactic(auto)]
 
 mod grid;

@@ -1,4 +1,5 @@
-//! The numbers of the links, counted by hop, then by sender, then by the reader's coordinate of that hop.
+//! The numbers of the links, counted by hop, then by sender, then by the reader's coordinate of
+//! that hop.
 
 ghost use Rattle.std.specs.Prelude.{◌≡◌, ◌+◌, ◌-◌, ◌*◌, ◌<◌, ◌≤◌, length, sum};
 ghost use Rattle.route_tensor.specs.Grid.{ranks, dim, coord, place};
@@ -36,7 +37,8 @@ impl Grid {
         (h, a, b)
     }
 
-    /// The hop of a number, where numbers are given hop by hop, and `per` of them to each coordinate.
+    /// The hop of a number, where numbers are given hop by hop, and `per` of them to each
+    /// coordinate.
     pub(crate) fn hop_among(&self, per: u32, number: u32) -> u32
         requires number { number < per * sum self.now }
         requires few { per ≤ 64 }

@@ -1,5 +1,5 @@
-//! What one rank knows of its ways, for the loops that handle every item: made once, so that sending,
-//! passing on and receiving an entry is a look-up and no division.
+//! What one rank knows of its ways, for the loops that handle every item: made once, so that
+//! sending, passing on and receiving an entry is a look-up and no division.
 
 ghost use Rattle.std.specs.Prelude.{◌≡◌, ℕ, ◌+◌, ◌-◌, ◌<◌, ◌≤◌, length, sum, slice_index_or, IfOk};
 ghost use Rattle.list_laws.specs.Lists.{EachAt};
@@ -88,7 +88,8 @@ pub struct Routes {
     stamps: Vec<Entry>,
     /// By number.
     neighbours: Vec<Neighbour>,
-    /// By link: the number of the neighbour at the link's other end, where the link is one of this rank's.
+    /// By link: the number of the neighbour at the link's other end, where the link is one of this
+    /// rank's.
     numbers: Vec<u8>,
 }
 
@@ -143,7 +144,8 @@ impl Routes {
         self.neighbours.len() as u32
     }
 
-    /// The number of the first neighbour on hop `h`; past the last hop, how many neighbours there are.
+    /// The number of the first neighbour on hop `h`; past the last hop, how many neighbours there
+    /// are.
     #[inline]
     pub fn first_of(&self, h: u32) -> u32
         requires first { 1 ≤ h }
@@ -182,7 +184,8 @@ impl Routes {
         }
     }
 
-    /// The entry for `to` with this item, as this rank sends it first. It is copied whole, so that the tag goes as one word.
+    /// The entry for `to` with this item, as this rank sends it first. It is copied whole, so that
+    /// the tag goes as one word.
     #[inline]
     pub fn entry(&self, to: u32, item: Item) -> Entry
         requires { to < ranks self.now.dims }

@@ -1,9 +1,9 @@
-//! The tags of entries: what an entry must carry so that each relay knows its next link, and its reader
-//! knows its sender.
+//! The tags of entries: what an entry must carry so that each relay knows its next link, and its
+//! reader knows its sender.
 //!
-//! On hop `h` an entry has taken the destination's coordinates below `h`, and still has the sender's from
-//! `h` on: its link tells those. The tag holds what is missing, the sender's coordinates below `h` and the
-//! destination's above `h`.
+//! On hop `h` an entry has taken the destination's coordinates below `h`, and still has the
+//! sender's from `h` on: its link tells those. The tag holds what is missing, the sender's
+//! coordinates below `h` and the destination's above `h`.
 
 ghost use Rattle.std.specs.Prelude.{◌≡◌, ℕ, ◌+◌, ◌-◌, ◌<◌, ◌≤◌, length};
 ghost use Rattle.bale_items.specs.declared.item.Tag.{Tag};
@@ -55,7 +55,8 @@ impl Grid {
         }
     }
 
-    /// The sender and the destination of an entry that came with this tag on hop `h` from `a` to `b`.
+    /// The sender and the destination of an entry that came with this tag on hop `h` from `a` to
+    /// `b`.
     pub fn pair_of(&self, tag: Tag, h: u32, a: u32, b: u32) -> (u32, u32)
         requires link { IsLink self.now h a b }
         requires fair { IsFair self.now h tag }

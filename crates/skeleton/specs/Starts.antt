@@ -12,7 +12,8 @@ use Rattle.skeleton.specs.State.{State}
 abbrev pub send_of : ℕ → Triple → ℕ × Item
 send_of ranks t = (t.j % ranks, record { a = t.j; b = t.i; c = 0 })
 
--- A rank as it begins: it sends the entries of its rows, and each cell is the number of rows, which is no row.
+-- A rank as it begins: it sends the entries of its rows, and each cell is the number of rows, which
+-- is no row.
 abbrev pub begins : ℕ → Sparse → ℕ → State
 begins ranks m rank =
     record {

@@ -1,4 +1,5 @@
-//! From a matrix to the answer: the programs, driven on one thread or on several, and the cells of their owners.
+//! From a matrix to the answer: the programs, driven on one thread or on several, and the cells of
+//! their owners.
 
 ghost use Rattle.round_program.specs.Ranks.{AreRanks};
 ghost use Rattle.std.specs.Prelude.{◌≡◌, length, IfOk};

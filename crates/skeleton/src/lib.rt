@@ -1,7 +1,8 @@
 //! A program in rounds that is proved as it stands, to be changed into one's own.
 //!
-//! As it stands it finds, for each column of a matrix, the least row that has an entry there: each entry is sent by the owner of its
-//! row to the owner of its column, which keeps the least. It takes one round.
+//! As it stands it finds, for each column of a matrix, the least row that has an entry there: each
+//! entry is sent by the owner of its row to the owner of its column, which keeps the least. It
+//! takes one round.
 //!
 //! | File | What is in it |
 //! |---|---|

@@ -8,8 +8,8 @@ use reductions::{HasCells, Reduced, Reduction};
 use round_program::Program;
 use std::marker::Model;
 
-/// One rank of the run. Column `j` belongs to rank `j mod ranks`; each rank has a cell for every column, and only those of its own
-/// columns ever change.
+/// One rank of the run. Column `j` belongs to rank `j mod ranks`; each rank has a cell for every
+/// column, and only those of its own columns ever change.
 #[derive(Drop)]
 pub struct Skeleton {
     rank: u32,

@@ -1,5 +1,6 @@
--- Every element of a list that is dealt out reaches its receiver once: after a round in which the ranks emit what is
--- theirs of a list, each rank is as if it alone had gone through the list and absorbed what is sent to it.
+-- Every element of a list that is dealt out reaches its receiver once: after a round in which the
+-- ranks emit what is theirs of a list, each rank is as if it alone had gone through the list and
+-- absorbed what is sent to it.
 use Rattle.std.proofs.Common.{ℕ, ◌<◌, ◌≤◌, ◌≡◌, Bool, true, false, cond, eqb, List, [], ◌∷◌, Some, map, length, slice_get, All, arith, inl, inr, refl, sym, ap, ◌∙◌, subst}
 use Rattle.std.proofs.lemmas.Bool.{cases_eq, cases_lt, eq-eqb, ne_eqb}
 use Rattle.std.proofs.lemmas.List.Elements.{All-nil, All-cons}

@@ -1,5 +1,5 @@
--- Triples that stand at places of their own, put in order: they are the same triples with the same values, and a rank's
--- part of them is the rank's triples in order.
+-- Triples that stand at places of their own, put in order: they are the same triples with the same
+-- values, and a rank's part of them is the rank's triples in order.
 use Rattle.std.proofs.Common.{ℕ, ◌+◌, ◌%◌, ◌<◌, ◌≡◌, Bool, true, false, cond, eqb, List, [], ◌∷◌, ◌++◌, Some, None, map, get_or, IsPermutation, inl, inr, refl, sym, ap, ◌∙◌, subst}
 use Rattle.std.specs.List.{All, AllPairs, filter, flat_map, range_with_len}
 use Rattle.std.proofs.lemmas.Bool.{cases_Bool, false_from_ne_true}

@@ -43,7 +43,8 @@ head_own n s c maps h =
     let e : s + 0 ≡ s = omega arith in
     subst (λ m. All (λ t. t.i % n ≡ m) c) e (h 0 c (omega arith))
 
--- maps of the ranks from s on: a row of an earlier rank has no value, and one of theirs has its rank's
+-- maps of the ranks from s on: a row of an earlier rank has no value, and one of theirs has its
+-- rank's
 below_all : (n s i j : ℕ) (maps : List (List Triple)) → EachAt (λ k cells. All (λ t. t.i % n ≡ s + k) cells) maps → All (λ cells. InOrder cells) maps
     → i % n < s → value_at (together maps) i j ≡ None
 below_all n s i j [] own order l = refl

@@ -12,7 +12,8 @@ use Rattle.sparse_rows.specs.Deals.{dealt}
 use Rattle.sparse_rows.specs.Parts.{parts_of}
 use Rattle.bale_items.specs.declared.triple.Triple.{Triple}
 
--- a number is rank r's own where it is r more than a multiple of n, and none of the n - 1 numbers before such a one is
+-- a number is rank r's own where it is r more than a multiple of n, and none of the n - 1 numbers
+-- before such a one is
 own_here : (n r q m : ℕ) → r < n → m ≡ q * n + r → eqb (m % n) r ≡ true
 own_here n r q m l e = eq-eqb _ _ (ap (λ k. k % n) e ∙ mod-mul-add q n r l)
 
@@ -36,7 +37,8 @@ later {X} t ts m i j e =
     let s : m + 1 + j ≡ m + suc j = omega arith in
     ap (λ k. option_map {U = ℕ × X} (λ u. (k, u)) (slice_get ts j)) s ∙ ap (λ k. option_map {U = ℕ × X} (λ u. (m + k, u)) (slice_get (t ∷ ts) k)) (sym e)
 
--- entry number x of rank r's part of what comes from number m on, where the rank's next number is o places behind m
+-- entry number x of rank r's part of what comes from number m on, where the rank's next number is o
+-- places behind m
 pub turn_get : (n r : ℕ) {X : Type 0} (ts : List X) (q m o x : ℕ) → r < n → o < n → m + o ≡ q * n + r
     → slice_get (dealt (λ (e : ℕ × X). e.0 % n) r (enumerate_from m ts)) x ≡ option_map {U = ℕ × X} (λ t. (m + (o + x * n), t)) (slice_get ts (o + x * n))
 turn_get n r [] q m o x l k e = refl

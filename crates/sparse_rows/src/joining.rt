@@ -10,12 +10,13 @@ use bale_items::NoMemory;
 use mtx_text::{Cells, Kind, Matrix};
 use std::alloc::Global;
 
-/// The matrix of all cells of the ranks, from 1 to 64, ordered by row and then column. Rank `r` has cells in
-/// rows `i` with `i mod P = r`.
+/// The matrix of all cells of the ranks, from 1 to 64, ordered by row and then column. Rank `r` has
+/// cells in rows `i` with `i mod P = r`.
 ///
 /// # Errors
 ///
-/// `NoMemory` where there was none, or where there are more cells than the 524,288 entries of a matrix.
+/// `NoMemory` where there was none, or where there are more cells than the 524,288 entries of a
+/// matrix.
 pub fn join(
     alloc: Global,
     rows: u32,

@@ -8,8 +8,8 @@ use mtx_text::Matrix;
 use std::alloc::Global;
 use std::marker::Model;
 
-/// The parts of a matrix, one for each rank: a list of triples with their numbers in the matrix. They are read where
-/// the matrix has them.
+/// The parts of a matrix, one for each rank: a list of triples with their numbers in the matrix.
+/// They are read where the matrix has them.
 #[derive(Drop)]
 pub struct Parts<'a> {
     /// All entries of the matrix, in order.
@@ -30,8 +30,8 @@ impl<'a> Model for Parts<'a> {
     ghost invariant = { λ p. (1 ≤ p.ranks) × (p.ranks ≤ 64) × (length p.entries.now ≤ 524_288) };
 }
 
-/// The parts of a matrix on `ranks` ranks, from 1 to 64: entry number `e` stands in the part of rank
-/// `e mod ranks`, in order.
+/// The parts of a matrix on `ranks` ranks, from 1 to 64: entry number `e` stands in the part of
+/// rank `e mod ranks`, in order.
 ///
 /// # Errors
 ///
@@ -57,8 +57,8 @@ impl<'a> Parts<'a> {
         (self.entries.len() + (ranks - 1 - rank as usize)) / ranks
     }
 
-    /// Entry number `x`, from 0, of the part of a rank, with its number in the matrix. The rank is below the number of
-    /// parts, and `x` below the part's length.
+    /// Entry number `x`, from 0, of the part of a rank, with its number in the matrix. The rank is
+    /// below the number of parts, and `x` below the part's length.
     pub fn entry(&self, rank: u32, x: usize) -> (u32, Triple)
         requires rank { rank < length self.now }
         requires within { x < length (slice_index_or self.now rank []) }

@@ -5,8 +5,8 @@ ghost use Rattle.sparse_rows.specs.Permutations.{Permutes};
 use bale_items::NoMemory;
 use std::alloc::Global;
 
-/// Whether `p` has each number below `n` once and no other. Takes no more memory than a byte for each
-/// number of `p`.
+/// Whether `p` has each number below `n` once and no other. Takes no more memory than a byte for
+/// each number of `p`.
 ///
 /// # Errors
 ///

@@ -211,8 +211,8 @@ fn texts_with_a_bad_line(rt: HostRuntime) -> Result<(), Fail> {
     Ok(())
 }
 
-/// A source of three pieces of LF, the last of which is empty. It counts how often it was asked, and keeps the least room that it was
-/// offered.
+/// A source of three pieces of LF, the last of which is empty. It counts how often it was asked,
+/// and keeps the least room that it was offered.
 #[derive(Drop)]
 struct Asked {
     calls: u64,

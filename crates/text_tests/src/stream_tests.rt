@@ -1,4 +1,5 @@
-//! Sources and sinks: what they give, take and refuse, and how a text comes to a sink through a buffer.
+//! Sources and sinks: what they give, take and refuse, and how a text comes to a sink through a
+//! buffer.
 
 use bale_items::{bits_of, value_of};
 use bale_types::{Failed, MemSink, MemSource, Out, Sink, Source};

@@ -42,7 +42,8 @@ fn at_port<P: Port<2>>(alloc: Global, grid: &Grid, port: P) -> Result<AtPort<P>,
     Ok(AtPort { side, port })
 }
 
-/// Makes the calls of two ranks, up to the first that answers otherwise than wanted, and tells how many came before that.
+/// Makes the calls of two ranks, up to the first that answers otherwise than wanted, and tells how
+/// many came before that.
 fn make_calls<P: Port<2>>(
     zero: &mut AtPort<P>,
     one: &mut AtPort<P>,
@@ -61,8 +62,8 @@ fn make_calls<P: Port<2>>(
     Ok(calls.len())
 }
 
-/// Makes the calls of ranks on the conveyors of grid 2 and capacity 2, over a slot bank with 2 slots per link, and
-/// tells how many came before the first that answered otherwise.
+/// Makes the calls of ranks on the conveyors of grid 2 and capacity 2, over a slot bank with 2
+/// slots per link, and tells how many came before the first that answered otherwise.
 #[tactic(auto, unfolding(port_bank::specs::Port::IsSlots))]
 pub(crate) fn answered_over_slots(
     alloc: Global,

@@ -20,8 +20,8 @@ const Y: Item = Item { a: 2, b: 0, c: 0 };
 
 const Z: Item = Item { a: 3, b: 0, c: 0 };
 
-/// Makes the calls of ranks on the conveyors of grid 2 and capacity 2, over a plain bank with 2 slots per link, and
-/// tells how many came before the first that answered otherwise.
+/// Makes the calls of ranks on the conveyors of grid 2 and capacity 2, over a plain bank with 2
+/// slots per link, and tells how many came before the first that answered otherwise.
 #[tactic(auto, unfolding(port_bank::specs::Port::IsSlots))]
 fn answered(alloc: Global, steady: bool, calls: &[(u32, Call, Answer)]) -> Result<usize, NoMemory> {
     let Ok(grid) = Grid::new(&[2]) else {

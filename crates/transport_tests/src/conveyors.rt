@@ -66,7 +66,8 @@ impl<const CAP: usize, const HOPS: usize> Conveyors<CAP, HOPS> {
         Ok((Conveyors { sides, bank }, answer))
     }
 
-    /// Makes the calls of ranks, up to the first that answers otherwise than wanted, and tells how many came before that.
+    /// Makes the calls of ranks, up to the first that answers otherwise than wanted, and tells how
+    /// many came before that.
     pub(crate) fn make_calls(
         self,
         calls: &[(u32, Call, Answer)],

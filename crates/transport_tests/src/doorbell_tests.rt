@@ -1,5 +1,5 @@
-//! The doorbells by hand: two ranks of the grid 2, and what the second collects. What each collect hears and looks in is
-//! said by the clauses of `SlotSeat::collect`.
+//! The doorbells by hand: two ranks of the grid 2, and what the second collects. What each collect
+//! hears and looks in is said by the clauses of `SlotSeat::collect`.
 ghost use Rattle.std.specs.Prelude.{◌<◌};
 
 use crate::hand::{Answer, Call, Hand};
@@ -12,8 +12,8 @@ use route_tensor::Grid;
 use std::alloc::Global;
 use std::test::Fail;
 
-/// Makes the calls, each post at the first port and each collect at the second, and tells how many came before the first that
-/// answered otherwise than wanted.
+/// Makes the calls, each post at the first port and each collect at the second, and tells how many
+/// came before the first that answered otherwise than wanted.
 fn answered<P: Port<1>>(
     posts: Hand<P>,
     collects: Hand<P>,

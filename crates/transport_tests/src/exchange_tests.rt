@@ -43,8 +43,10 @@ fn pushes() -> [(u32, Call, Answer); 4] {
     SENT.map(|(from, item, to)| (from, Push(item, to), Answer::Pushed(Pushed::Accepted)))
 }
 
-/// One epoch: all that was pulled in it, and whether all ranks came to its end and each call before answered as it should.
-/// It sweeps so often, with an advance and some pulls of each rank, that all that was pushed comes to its destination.
+/// One epoch: all that was pulled in it, and whether all ranks came to its end and each call before
+/// answered as it should.
+/// It sweeps so often, with an advance and some pulls of each rank, that all that was pushed comes
+/// to its destination.
 fn epoch(ranks: Ranks, number: u64, pulled: &mut Vec<Got>) -> Result<(Ranks, bool), NoMemory> {
     let (ranks, begun) = ranks.make_calls(&of_each(Begin, Begun))?;
     let (mut ranks, pushed) = ranks.make_calls(&pushes())?;
@@ -66,7 +68,8 @@ fn epoch(ranks: Ranks, number: u64, pulled: &mut Vec<Got>) -> Result<(Ranks, boo
     Ok((ranks, (begun, pushed, over, reset) == (8, SENT.len(), 8, 8)))
 }
 
-/// Two epochs, with so many slots per link: how many the bank has ended, where no call answers otherwise than it should.
+/// Two epochs, with so many slots per link: how many the bank has ended, where no call answers
+/// otherwise than it should.
 fn exchange(alloc: Global, slots: u32, pulled: &mut Vec<Got>) -> Result<Option<u64>, NoMemory>
     requires slots { IsSlots slots }
 {

@@ -23,7 +23,8 @@ pub(crate) enum Call {
     /// Pop all items of one sender.
     PopAll,
     Unpop,
-    /// Look at how many items are unread, at the headroom toward this rank, and at the least headroom.
+    /// Look at how many items are unread, at the headroom toward this rank, and at the least
+    /// headroom.
     Look(u32),
     Reset,
 }

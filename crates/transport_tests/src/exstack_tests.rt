@@ -19,8 +19,8 @@ const Y: Item = Item { a: 2, b: 0, c: 0 };
 
 const Z: Item = Item { a: 3, b: 0, c: 0 };
 
-/// Makes the calls of so many ranks on their exstacks of capacity 2, over a plain bank with 2 slots per link, and tells how many came
-/// before the first that answered otherwise.
+/// Makes the calls of so many ranks on their exstacks of capacity 2, over a plain bank with 2 slots
+/// per link, and tells how many came before the first that answered otherwise.
 #[tactic(auto, unfolding(port_bank::specs::Port::IsSlots))]
 fn answered(alloc: Global, ranks: u32, calls: &[(u32, Call, Answer)]) -> Result<usize, NoMemory> {
     let Ok(grid) = Grid::new(&[ranks]) else {
@@ -56,7 +56,8 @@ const WORKED: [(u32, Call, Answer); 23] = [
     (1, Call::Reset, Answer::Reset),
 ];
 
-/// Rank 0 waits for the parcel of rank 2, while rank 1 has the one of the next cycle posted: that stays where it is.
+/// Rank 0 waits for the parcel of rank 2, while rank 1 has the one of the next cycle posted: that
+/// stays where it is.
 const AHEAD: [(u32, Call, Answer); 13] = [
     (0, Call::Proceed(false), Proceeded(Proceed::NotYet(3))),
     (1, Call::Proceed(false), Proceeded(Proceed::NotYet(7))),

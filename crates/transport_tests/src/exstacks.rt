@@ -33,7 +33,8 @@ impl<const CAP: usize> Model for Exstacks<CAP> {
 }
 
 impl<const CAP: usize> Exstacks<CAP> {
-    /// The exstacks of a grid of one number, with nothing pushed, over a bank of so many slots per link.
+    /// The exstacks of a grid of one number, with nothing pushed, over a bank of so many slots per
+    /// link.
     pub(crate) fn new(alloc: Global, grid: &Grid, slots: u32) -> Result<Self, NoMemory>
         requires cap { IsCap CAP }
         requires one_hop { length grid.now ≡ 1 }
@@ -60,7 +61,8 @@ impl<const CAP: usize> Exstacks<CAP> {
         Ok((Exstacks { sides, bank }, answer))
     }
 
-    /// Makes the calls of ranks, up to the first that answers otherwise than wanted, and tells how many came before that.
+    /// Makes the calls of ranks, up to the first that answers otherwise than wanted, and tells how
+    /// many came before that.
     pub(crate) fn make_calls(self, calls: &[(u32, Call, Answer)]) -> Result<usize, NoMemory> {
         let mut all = self;
         for (made, (rank, call, wanted)) in calls.iter().enumerate() {

@@ -27,7 +27,8 @@ pub(crate) enum Answer {
     Nothing,
 }
 
-/// A rank's port, in the first epoch, and an empty parcel to post and one to collect. Contracts see its rank.
+/// A rank's port, in the first epoch, and an empty parcel to post and one to collect. Contracts see
+/// its rank.
 #[derive(Drop)]
 pub(crate) struct Hand<P: Port<1>> {
     port: P,
@@ -59,7 +60,8 @@ impl<P: Port<1>> Hand<P> {
         })
     }
 
-    /// Makes a call. One that its contract does not allow, and one that ends the epoch, counts as no memory.
+    /// Makes a call. One that its contract does not allow, and one that ends the epoch, counts as
+    /// no memory.
     pub(crate) fn make(self, call: Call) -> Result<(Self, Answer), NoMemory> {
         match call {
             Call::Post(link, a) => self.post(link, a),

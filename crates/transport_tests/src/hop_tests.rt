@@ -70,7 +70,8 @@ fn begun_and_pushed<const HOPS: usize>(
     Ok(state)
 }
 
-/// The parcel of a link goes from its sender to its reader, whose empty inbox comes back for it. Answers its first entry.
+/// The parcel of a link goes from its sender to its reader, whose empty inbox comes back for it.
+/// Answers its first entry.
 fn carry<const HOPS: usize>(
     rt: &impl Abort,
     link: u32,
@@ -99,8 +100,8 @@ fn carry<const HOPS: usize>(
     first
 }
 
-/// The parcel of a link that has this number, hop, sender and reader is carried. Answers its first entry, and the pair of
-/// ranks to which that belongs.
+/// The parcel of a link that has this number, hop, sender and reader is carried. Answers its first
+/// entry, and the pair of ranks to which that belongs.
 fn hop<const HOPS: usize>(
     rt: &impl Abort,
     grid: &Grid,
@@ -147,7 +148,8 @@ fn three_hops_by_lending(rt: HostRuntime) -> Result<(), Fail> {
     Ok(())
 }
 
-/// The open parcel of the link from the rank to itself is lent twice: it comes back as it was, and then it is sent.
+/// The open parcel of the link from the rank to itself is lent twice: it comes back as it was, and
+/// then it is sent.
 fn send_to_itself(
     rt: &impl Abort,
     alloc: Global,

@@ -8,7 +8,8 @@ use Rattle.app_histo_ig.specs.Owners.{risen}
 use Rattle.app_histo_ig.specs.Histos.{may_count}
 use Rattle.app_histo_ig.specs.Igs.{noted, answered}
 
--- The numbers of own columns after values came for them; what is for another rank's column is dropped.
+-- The numbers of own columns after values came for them; what is for another rank's column is
+-- dropped.
 -- all_risen of rank 1 of 2: of (0,(7,1,0)), (0,(4,9,0)) the first alone, 1 more at place 3
 abbrev pub own_risen : Seat → List ℕ → ℕ → Item → List ℕ
 own_risen seat numbers from x =

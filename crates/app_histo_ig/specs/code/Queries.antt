@@ -3,7 +3,8 @@ use Rattle.std.specs.Prelude.{◌<◌, ◌/◌, ◌^◌, ℕ, List, length}
 use Rattle.std.specs.List.{All}
 use Rattle.bale_items.specs.declared.item.Item.{Item}
 
--- a rank of so many can reply to queries: each asks for one of its sums, and their senders are numbered in 32 bits
+-- a rank of so many can reply to queries: each asks for one of its sums, and their senders are
+-- numbered in 32 bits
 pub record CanReply (ranks : ℕ) (sums : List ℕ) (senders : ℕ) (queries : List (List Item)) : Type 0 where
   pub some : 0 < ranks
   pub numbered : senders < 2 ^ 32

@@ -16,6 +16,7 @@ sent_of round ranks cells = map (to_owner round ranks) cells
 abbrev pub with_new_row : ℕ → List ℕ → Triple → Triple
 with_new_row ranks news t = record { i = new_number ranks news t.i; j = t.j; v = t.v }
 
--- after round 1 of permute: a cell, kept by its column first, with the new number of its column, by its row first
+-- after round 1 of permute: a cell, kept by its column first, with the new number of its column, by
+-- its row first
 abbrev pub with_new_column : ℕ → List ℕ → Triple → Triple
 with_new_column ranks news t = record { i = t.j; j = new_number ranks news t.i; v = t.v }

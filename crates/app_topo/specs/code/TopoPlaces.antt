@@ -22,7 +22,8 @@ pub record AreCounted (ranks rank size : ℕ) (numbers sums : List ℕ) : Type 0
   pub numbers_for : length numbers ≡ places_for ranks size
   pub sums_for : length sums ≡ places_for ranks size
 
--- entries in order are split at a place: the rows before it are below `row`, and those from it on are not
+-- entries in order are split at a place: the rows before it are below `row`, and those from it on
+-- are not
 pub record SplitsAt (row at : ℕ) (entries : List Triple) : Type 0 where
   pub within : at ≤ length entries
   pub before : (k : ℕ) (d : Triple) → k < at → (slice_index_or entries k d).i < row

@@ -10,7 +10,8 @@ pub record IsSeat (seat : Seat) (s : TopoState) : Type 0 where
   pub size : seat.size ≡ s.size
   pub round : seat.round ≡ s.round
 
--- an item is taken in from a seat: the state becomes the one that is made, and what is sent and the seat stay
+-- an item is taken in from a seat: the state becomes the one that is made, and what is sent and the
+-- seat stay
 pub record TakesIn {T E : Type 0} (made : TopoState) (seat : Seat) (old new : TopoState)
     (result : Result T E) : Type 0 where
   pub ok : OnOk result (new ≡ made)

@@ -1,4 +1,5 @@
--- What a rank of topo sends in its round, put together from the pairs of numbers that it keeps for that.
+-- What a rank of topo sends in its round, put together from the pairs of numbers that it keeps for
+-- that.
 use Rattle.std.specs.Prelude.{ℕ, ◌-◌, ◌%◌, ◌==◌, List, [], ◌∷◌, map, if◌then◌else◌}
 use Rattle.std.specs.List.{flat_map}
 use Rattle.bale_items.specs.declared.Item.{Item}

@@ -4,7 +4,7 @@ use Rattle.std.proofs.lemmas.Bool.{cases_lt}
 use Rattle.rank_crews.specs.Runs.{RanLaws}
 use Rattle.round_program.specs.Talks.{Talk}
 use Rattle.rank_group.specs.laws.NotedLaws.{same_laws}
-use Rattle.biconvey.specs.Seats.{SeatedState, Ran, MadeNone}
+use Rattle.biconvey.specs.Seats.{SeatedState, Ran, AskerMadeNone}
 
 pub ran_laws : {S : Type 0} (T : Talk S) (cap : ℕ) (told : ℕ → ℕ → Bool) → RanLaws (λ x y. Ran T cap told x y)
 ran_laws T cap told =
@@ -28,8 +28,8 @@ ran_laws T cap told =
       };
     }
 
-pub none_laws : {S : Type 0} → RanLaws (MadeNone {S = S})
-none_laws {S} =
+pub asker_none_laws : {S : Type 0} → RanLaws (AskerMadeNone {S = S})
+asker_none_laws {S} =
     let q = same_laws (λ (x : SeatedState S). x.queries) in
     let p = same_laws (λ (x : SeatedState S). x.replies) in
     record {

@@ -14,7 +14,8 @@ pub record IsSeat (seat : Seat) (s : DeltaState) : Type 0 where
   pub phase : seat.phase ≡ s.phase
   pub early : seat.phase ≡ First → seat.round ≡ 0
 
--- an item is taken in from a seat: the state becomes the one that is made, and what is sent and the seat stay
+-- an item is taken in from a seat: the state becomes the one that is made, and what is sent and the
+-- seat stay
 pub record TakesIn {T E : Type 0} (made : DeltaState) (seat : Seat) (old new : DeltaState)
     (result : Result T E) : Type 0 where
   pub ok : OnOk result (new ≡ made)

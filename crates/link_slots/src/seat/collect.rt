@@ -22,7 +22,8 @@ use crate::table::wire::Wire;
 use item_buffer::Parcel;
 use port_bank::Collected;
 
-/// Hears the doorbell of the link's hop, unless the link is marked, or the doorbell was heard since its latest collect.
+/// Hears the doorbell of the link's hop, unless the link is marked, or the doorbell was heard since
+/// its latest collect.
 fn hear_if_due<const CAP: usize>(
     top: &Top<CAP>,
     place: &mut Place<CAP>,
@@ -54,7 +55,8 @@ fn hear_if_due<const CAP: usize>(
     }
 }
 
-/// Looks into the link where it is marked, and takes its mark away. Answers how many parcels are at hand then.
+/// Looks into the link where it is marked, and takes its mark away. Answers how many parcels are at
+/// hand then.
 fn look_if_marked<const CAP: usize>(
     top: &Top<CAP>,
     place: &mut Place<CAP>,
@@ -92,8 +94,8 @@ fn look_if_marked<const CAP: usize>(
     }
 }
 
-/// Finds how many parcels of the link are at hand: where none is, it hears the doorbell if that is due, and looks into the link if it is
-/// marked. It makes no other step.
+/// Finds how many parcels of the link are at hand: where none is, it hears the doorbell if that is
+/// due, and looks into the link if it is marked. It makes no other step.
 fn find_parcel<const CAP: usize>(
     top: &Top<CAP>,
     place: &mut Place<CAP>,
@@ -119,7 +121,8 @@ fn find_parcel<const CAP: usize>(
         (counted (listens (in_of (own_logs place.new.me.0) link))) }
     // A parcel that is at hand costs no step.
     ensures at_hand { end.old.waiting ≢ 0 → place.new.me.0 ≡ place.old.me.0 }
-    // Else the doorbell is heard where a hear is due, and the link is looked in where it is then marked.
+    // Else the doorbell is heard where a hear is due, and the link is looked in where it is then
+    // marked.
     ensures heard { end.old.waiting ≡ 0 → (m : ℕ) → m < links top.now.key.dims
         → reader_at top.now.key.dims m ≡ place.old.me.0.pick → hop_at top.now.key.dims m ≡ hop_at top.now.key.dims link
         → m ≢ link
@@ -181,7 +184,8 @@ pub(crate) fn collect_on<const CAP: usize>(
     ensures no_looking { end.old.waiting ≢ 0 → own_logs place.new.me.0
         ≡ with_in (own_logs place.old.me.0) link (taken_more (in_of (own_logs place.old.me.0) link)
         (in_of (own_logs place.new.me.0) link).released_at) }
-    // Else the doorbell is heard where a hear is due, and the link is looked in where it is then marked.
+    // Else the doorbell is heard where a hear is due, and the link is looked in where it is then
+    // marked.
     ensures heard { end.old.waiting ≡ 0 → (m : ℕ) → m < links top.now.key.dims
         → reader_at top.now.key.dims m ≡ place.old.me.0.pick → hop_at top.now.key.dims m ≡ hop_at top.now.key.dims link
         → m ≢ link
@@ -200,8 +204,8 @@ pub(crate) fn collect_on<const CAP: usize>(
     collect_now(top, place, end, ear, wire, slots, link, parcel)
 }
 
-/// The same, where the seat's counts don't tell it.
-#[inline(never)]
+/// Collects where the counts of the seat do not answer already: hears and looks in as far as is
+/// due.
 fn collect_now<const CAP: usize>(
     top: &Top<CAP>,
     place: &mut Place<CAP>,
@@ -242,7 +246,8 @@ fn collect_now<const CAP: usize>(
     ensures no_looking { end.old.waiting ≢ 0 → own_logs place.new.me.0
         ≡ with_in (own_logs place.old.me.0) link (taken_more (in_of (own_logs place.old.me.0) link)
         (in_of (own_logs place.new.me.0) link).released_at) }
-    // Else the doorbell is heard where a hear is due, and the link is looked in where it is then marked.
+    // Else the doorbell is heard where a hear is due, and the link is looked in where it is then
+    // marked.
     ensures heard { end.old.waiting ≡ 0 → (m : ℕ) → m < links top.now.key.dims
         → reader_at top.now.key.dims m ≡ place.old.me.0.pick → hop_at top.now.key.dims m ≡ hop_at top.now.key.dims link
         → m ≢ link

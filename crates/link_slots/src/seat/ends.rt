@@ -24,7 +24,8 @@ pub(crate) struct InEnd {
     pub(crate) _filler: u64,
 }
 
-/// The slot through which parcel number `count` of a link goes, where the count is known modulo 2^64. The number of slots is a power of two.
+/// The slot through which parcel number `count` of a link goes, where the count is known modulo
+/// 2^64. The number of slots is a power of two.
 #[inline]
 #[tactic(auto, unfolding(port_bank::specs::Port::IsSlots))]
 pub(crate) fn slot_of(slots: u32, link: u32, count: u64) -> usize

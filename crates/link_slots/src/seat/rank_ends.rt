@@ -56,9 +56,9 @@ pub(crate) fn new_ends(alloc: Global, links: usize) -> Result<RankEnds, NoMemory
     })
 }
 
-/// A list of so many equal elements, with room for some more behind them. One thread makes the lists of all ranks, side
-/// by side, and each is changed by a thread of its own: with 128 unused bytes between them no two share a cache line,
-/// nor a pair of lines.
+/// A list of so many equal elements, with room for some more behind them. One thread makes the
+/// lists of all ranks, side by side, and each is changed by a thread of its own: with 128 unused
+/// bytes between them no two share a cache line, nor a pair of lines.
 fn list_apart<A: Copy + Drop>(
     alloc: Global,
     each: A,

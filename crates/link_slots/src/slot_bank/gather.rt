@@ -1,4 +1,5 @@
-//! The gathering seat: it gives out the seat of each rank, and takes in what the ranks know at the end.
+//! The gathering seat: it gives out the seat of each rank, and takes in what the ranks know at the
+//! end.
 ghost use Rattle.std.specs.Prelude.{◌≡◌, ◌≢◌, ℕ, ◌<◌, false, true, replicate, slice_index_or, slice_set, Some, None};
 ghost use Rattle.route_tensor.specs.Grid.{ranks};
 ghost use Rattle.route_tensor.specs.Link.{links};
@@ -113,7 +114,8 @@ impl<const CAP: usize> GatherSeat<CAP> {
 }
 
 impl<const CAP: usize> SlotBank<CAP> {
-    /// The gathering seat learns what the rank knows, and what it knew of the others stands. The seat's slots stay where they are.
+    /// The gathering seat learns what the rank knows, and what it knew of the others stands. The
+    /// seat's slots stay where they are.
     pub fn gather(&self, g: &mut GatherSeat<CAP>, seat: SlotSeat<CAP>)
         requires bank { (g.old.id ≡ self.now.id) × (g.old.shape ≡ self.now.shape) }
         requires seat { (seat.id ≡ self.now.id) × (seat.shape ≡ self.now.shape) }

@@ -17,8 +17,8 @@ use std::alloc::Global;
 use std::marker::Model;
 use std::snapshot::Snapshot;
 
-/// All parcels that were posted on a slot bank's links and collected from them, for contracts alone. It stores no parcel, and is made by
-/// `SlotBank::close` alone.
+/// All parcels that were posted on a slot bank's links and collected from them, for contracts
+/// alone. It stores no parcel, and is made by `SlotBank::close` alone.
 #[derive(Drop)]
 pub struct SlotRound {
     pub(crate) grid: Grid,

@@ -19,8 +19,10 @@ impl<const CAP: usize> TableRule<Slot<CAP>, Knows, Plan> for Links<CAP> {
     ghost first = { λ shape. first_view shape (ranks shape.dims) (links shape.dims) };
 }
 
-/// Word `2 * link` counts the parcels posted on a link, word `2 * link + 1` those released by its reader, and behind
-/// these words stand the doorbells. Word number `n` stands at word `16 * n` of the table, on cache lines of its own. Slot `slots * link + n % slots` is the way of parcel number n.
+/// Word `2 * link` counts the parcels posted on a link, word `2 * link + 1` those released by its
+/// reader, and behind these words stand the doorbells. Word number `n` stands at word `16 * n` of
+/// the table, on cache lines of its own. Slot `slots * link + n % slots` is the way of parcel
+/// number n.
 pub(crate) type Board<const CAP: usize> = Table<Slot<CAP>, Knows, Plan, Links<CAP>, Global>;
 
 pub(crate) type Top<const CAP: usize> = Shared<Slot<CAP>, Knows, Plan, Links<CAP>>;

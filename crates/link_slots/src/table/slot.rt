@@ -12,7 +12,8 @@ use std::marker::Model;
 #[derive(Drop)]
 pub struct Slot<const CAP: usize> {
     pub(crate) parcel: Parcel<CAP>,
-    /// Fills a slot up to 128 bytes, so that it shares no cache line with a slot that another thread is at.
+    /// Fills a slot up to 128 bytes, so that it shares no cache line with a slot that another
+    /// thread is at.
     _filler: [u64; 13],
 }
 

@@ -1,4 +1,5 @@
-//! The steps of a rank's seat: each is one exchange with the table, and the way of a parcel into a slot or out of it.
+//! The steps of a rank's seat: each is one exchange with the table, and the way of a parcel into a
+//! slot or out of it.
 ghost use Rattle.std.specs.Prelude.{◌≡◌, ◌+◌, ◌*◌, ◌^◌, ◌<◌, true, ◌∷◌, length};
 ghost use mathlib.Core.Option.{some};
 ghost use lib.ListN.{get_elem?};
@@ -86,8 +87,9 @@ pub(crate) fn send<const CAP: usize>(
     top.fetch_add::<Post>(place, 16 * (2 * link as usize), 1);
 }
 
-/// Sets the link's bit of its reader's doorbell, for all parcels posted so far. It looks first, for all senders of the reader
-/// share the doorbell's cache line: where the bit is set already, nothing is written.
+/// Sets the link's bit of its reader's doorbell, for all parcels posted so far. It looks first, for
+/// all senders of the reader share the doorbell's cache line: where the bit is set already, nothing
+/// is written.
 pub(crate) fn ring<const CAP: usize>(
     top: &Top<CAP>,
     place: &mut Place<CAP>,
@@ -107,8 +109,8 @@ pub(crate) fn ring<const CAP: usize>(
     }
 }
 
-/// Empties the doorbell of the link's hop, and answers the bits that were set. It marks their links. It looks first: where no bit
-/// is set, nothing is written.
+/// Empties the doorbell of the link's hop, and answers the bits that were set. It marks their
+/// links. It looks first: where no bit is set, nothing is written.
 pub(crate) fn hear<const CAP: usize>(
     top: &Top<CAP>,
     place: &mut Place<CAP>,
@@ -127,7 +129,8 @@ pub(crate) fn hear<const CAP: usize>(
     top.swap::<Hear>(place, word, 0)
 }
 
-/// Loads how many parcels were posted on the marked link, takes the slots of those that are new, and takes the mark away.
+/// Loads how many parcels were posted on the marked link, takes the slots of those that are new,
+/// and takes the mark away.
 pub(crate) fn look_in<const CAP: usize>(top: &Top<CAP>, place: &mut Place<CAP>, link: u32) -> u64
     requires at { IsAtIn top.now.key top.now.table_id place.old.table_id place.old.me link }
     requires marked { (in_of (own_logs place.old.me.0) link).marked ≡ true }

@@ -52,9 +52,9 @@ draft_from form sizes end done run =
     draft_of form sizes end run.left done (lines_from run.number (lines_of run.rest.now))
 
 -- A run reads on: what it leaves to be read, after the entries that it adds, drafts the same.
--- lines, room, on: as many lines, and at most as many bytes, are left as stood behind those that it read
--- within: entries whose rows and columns are within the sizes stay so
--- few: each line gives at most two entries
+-- lines, room, on: as many lines, and at most as many bytes, are left as stood behind those that it
+-- read within: entries whose rows and columns are within the sizes stay so few: each line gives at
+-- most two entries
 pub record ReadsOn (form : Form) (sizes : Sizes) (old new : List Triple) (from to : Run) : Type 0 where
   pub draft : (end : ℕ) → draft_from form sizes end new to ≡ draft_from form sizes end old from
   pub lines : to.number + length (lines_of to.rest.now) ≡ from.number + length (lines_of from.rest.now)
@@ -64,7 +64,8 @@ pub record ReadsOn (form : Form) (sizes : Sizes) (old new : List Triple) (from t
       → All (λ t. IsWithin (max sizes.rows sizes.cols) t) new
   pub few : length new + 2 * to.left ≤ length old + 2 * from.left
 
--- Sizes within the limits, and a text whose lines have numbers below 2^63 where its first line has the number given.
+-- Sizes within the limits, and a text whose lines have numbers below 2^63 where its first line has
+-- the number given.
 pub record CanRead (sizes : Sizes) (text : List ℕ) (number : ℕ) : Type 0 where
   pub limits : AreLimited sizes
   pub room : number + length text < 2 ^ 63

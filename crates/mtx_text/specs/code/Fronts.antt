@@ -8,7 +8,8 @@ use Rattle.mtx_text.specs.declared.kind.Kind.TheVariants as kind
 abbrev pub row_text : ℕ → List ℕ
 row_text row = decimal row ++ 32 ∷ []
 
--- What follows it: the column, which counts from 0 and is written from 1, and the value in an integer matrix.
+-- What follows it: the column, which counts from 0 and is written from 1, and the value in an
+-- integer matrix.
 abbrev pub rest_text : Kind → ℕ → ℤ → List ℕ
 rest_text kind.Integer column value = decimal (column + 1) ++ 32 ∷ [] ++ signed_decimal value ++ 10 ∷ []
 rest_text kind.Pattern column value = decimal (column + 1) ++ 10 ∷ []

@@ -20,7 +20,8 @@ use Rattle.mtx_text.specs.code.Capped.{capped, read_three}
 
 -- The text's first line is its first `len` bytes, and the others are those of what stands behind
 -- its first `next` bytes.
---   of "1 2/3/" with 3 and 4, or with CR before its first LF with 3 and 5: the line "1 2", and then the lines of "3/"
+--   of "1 2/3/" with 3 and 4, or with CR before its first LF with 3 and 5: the line "1 2", and then
+--   the lines of "3/"
 pub record LineAt (text : List ℕ) (len next : ℕ) : Type 0 where
   pub within : len < next
   pub room : next ≤ length text
@@ -31,7 +32,8 @@ pub record CountsAt (text : List ℕ) (len next : ℕ) : Type 0 where
   pub line : LineAt text len next
   pub counts : is_skipped (words_of (take len text)) ≡ false
 
--- The first line that counts of a text whose first line has a number, as it was cut off, with what stands behind it.
+-- The first line that counts of a text whose first line has a number, as it was cut off, with what
+-- stands behind it.
 -- kept: it is the first of the lines that count, and those behind it are the others
 -- left, room, shorter: as many lines, and at most as many bytes, are left as stood behind it
 --   of "%/3 3/1/" from line 2: line 3, "3 3", and "1/"
@@ -48,7 +50,8 @@ pub record NoneCounts (text : List ℕ) (number end : ℕ) : Type 0 where
   pub none : lines_from number (lines_of text) ≡ []
   pub is_end : end ≡ number + length (lines_of text)
 
--- The text begins with `len` digits, one or more, whose number is `size`, and the byte `end` follows.
+-- The text begins with `len` digits, one or more, whose number is `size`, and the byte `end`
+-- follows.
 --   "12 3" with 2 digits, the number 12 and a space as the end
 pub record DigitsTo (end : ℕ) (text : List ℕ) (len size : ℕ) : Type 0 where
   pub full : 0 < len
@@ -57,7 +60,8 @@ pub record DigitsTo (end : ℕ) (text : List ℕ) (len size : ℕ) : Type 0 wher
   pub value : size ≡ min (digits_value 10 (take len text)) 1_000_000_000_000_000_000
   pub ends : get_or text len 0 ≡ end
 
--- The text's first line is `len` digits, one or more, whose number is `size`, and the next begins at the byte `next`.
+-- The text's first line is `len` digits, one or more, whose number is `size`, and the next begins
+-- at the byte `next`.
 --   of "12/3/" with 2, 3 and 12
 pub record DigitsEnd (text : List ℕ) (len next size : ℕ) : Type 0 where
   pub full : 0 < len
@@ -66,21 +70,24 @@ pub record DigitsEnd (text : List ℕ) (len next size : ℕ) : Type 0 where
   pub value : size ≡ min (digits_value 10 (take len text)) 1_000_000_000_000_000_000
   pub line : LineAt text len next
 
--- The text's first line is one word of `len` bytes, the integer `z`, and the next begins at the byte `next`.
+-- The text's first line is one word of `len` bytes, the integer `z`, and the next begins at the
+-- byte `next`.
 --   "-7/1 2/" with 2, 3 and the integer -7
 pub record LastAt (text : List ℕ) (len next : ℕ) (z : Integer) : Type 0 where
   pub line : LineAt text len next
   pub word : words_of (take len text) ≡ take len text ∷ []
   pub value : Some z ≡ option_map capped (integer_of (take len text))
 
--- The text begins with digits, none or more, and another byte follows; a number of many digits isn't read.
+-- The text begins with digits, none or more, and another byte follows; a number of many digits
+-- isn't read.
 --   of "12 7/" two digits, and 12
 pub record LeadingDigits (text : List ℕ) (d : Digits) : Type 0 where
   pub within : d.len < length text
   pub digits : list_all is_ascii_digit (take d.len text) ≡ true
   pub value : d.len ≤ 18 → d.size ≡ min (digits_value 10 (take d.len text)) 1_000_000_000_000_000_000
 
--- The line begins with `len` digits, none or more, and `size` is their number, or the cap where that is less.
+-- The line begins with `len` digits, none or more, and `size` is their number, or the cap where
+-- that is less.
 pub record CappedTo (line : List ℕ) (len size : ℕ) : Type 0 where
   pub within : len ≤ length line
   pub digits : list_all is_ascii_digit (take len line) ≡ true
@@ -134,7 +141,8 @@ pub record TwoAt (text : List ℕ) (two : Two) : Type 0 where
   pub others : two.others
       ≡ mask_l (bits_of (14 - (two.row.len + two.column.len)) (drop (two.column.len + 1) (drop (two.row.len + 1) text)))
 
--- A text begins with two runs of few digits, each with a space behind it, and `rest` is what follows.
+-- A text begins with two runs of few digits, each with a space behind it, and `rest` is what
+-- follows.
 --   of "1 22 7/" it is "7/"
 pub record FrontAt (text : List ℕ) (two : Two) (rest : List ℕ) : Type 0 where
   pub front : IsFew two rest

@@ -21,7 +21,8 @@ pub record PostedOn (slots : ℕ) (old new : Channel) (p : Shipped) (r : Result 
   pub no_memory : IsErr r → new ≡ old
   pub looks : old.looks_out ≤ new.looks_out
 
--- A collect: p is the next parcel of the link where it got one. It looks and listens, and counts both.
+-- A collect: p is the next parcel of the link where it got one. It looks and listens, and counts
+-- both.
 pub record CollectedOn (old new : Channel) (p : Shipped) (r : Collected) : Type 0 where
   pub got : r ≡ Got → new ≡ collected old p
   pub next : r ≡ Got → slice_get old.sent (length old.got) ≡ Some p

@@ -10,9 +10,9 @@ abbrev pub is_for_it : ℕ → ℕ → Item → Bool
 is_for_it ranks from x = nat_lt from ranks && nat_lt x.a 1024 && is_item x
 
 -- The counts of a rank after items came; what is for no cell, or from no rank, is dropped.
--- all_raised of 2 ranks: of (0,(7,1,0)), (5,(7,1,0)) the first alone, 1 more for cell 7
-abbrev pub all_raised : ℕ → List ℕ → List (ℕ × Item) → List ℕ
-all_raised ranks counts came =
+-- all_counted of 2 ranks: of (0,(7,1,0)), (5,(7,1,0)) the first alone, 1 more for cell 7
+abbrev pub all_counted : ℕ → List ℕ → List (ℕ × Item) → List ℕ
+all_counted ranks counts came =
     fold (λ l e. if is_for_it ranks e.0 e.1 then raised l e.1 else l) counts came
 
 -- The sum of the numbers of the items that came, modulo 2^64, in the same way.

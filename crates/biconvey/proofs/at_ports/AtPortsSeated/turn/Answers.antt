@@ -2,7 +2,7 @@ use Rattle.std.proofs.Common.{◌≡◌, ◌==◌, ◌+◌, Bool, true, false, t
 use Rattle.std.proofs.lemmas.Bool.{eq-eqb}
 use Rattle.port_bank.specs.Port.{Others}
 use Rattle.rank_crews.proofs.Crewed.{neither}
-use Rattle.biconvey.specs.Seats.{SeatedState, HasWay, Ran, MadeNone}
+use Rattle.biconvey.specs.Seats.{SeatedState, HasWay, Ran, AskerMadeNone}
 use Rattle.biconvey.specs.Worlds.{is_over}
 use Rattle.biconvey.proofs.OnPorts.{one_seat, has_way, turned, none_moved, some_moved, any_of}
 use Rattle.biconvey.proofs.at_ports.AtPortsSeated.turn.Goals as goal
@@ -49,7 +49,7 @@ returns g c =
           let last = neither ((asked || c.is_over-has_ended.result) || c.moved.result) c.moved-2.result none in
           let first = neither (asked || c.is_over-has_ended.result) c.moved.result last.0 in
           let made = neither asked c.is_over-has_ended.result first.0 in
-          subst (λ (z : SeatedState g.row.A.Denot). MadeNone z y) c.self.view_is
+          subst (λ (z : SeatedState g.row.A.Denot). AskerMadeNone z y) c.self.view_is
           record {
             queries = none_moved i.queries.port.seat c.watch.new.self.first.value.seat n.queries.first.value.seat n.queries.port.seat (c.moved.ensures.none first.1)
                 (ap (λ (r : Others). r.sent) t.queries.same_port.others) (ap (λ (r : Others). r.got) t.queries.same_port.others) (ap (λ k. k.seat) c.watch.ensures.first);
@@ -59,7 +59,7 @@ returns g c =
             over = sym c.is_over-has_ended.ensures ∙ (made.1 ∙ sym (ap (λ (z : SeatedState g.row.A.Denot). is_over z.node) c.self.view_is ∙ c.requires.going));
           };
       progress = λ some same'.
-          let same = subst (λ (z : SeatedState g.row.A.Denot). MadeNone z y) (sym c.self.view_is) same' in
+          let same = subst (λ (z : SeatedState g.row.A.Denot). AskerMadeNone z y) (sym c.self.view_is) same' in
           let asked = not (c.asked.result == c.asked-asked.result) in
           any_of ((asked || c.is_over-has_ended.result) || c.moved.result) c.moved-2.result some
           (λ e. any_of (asked || c.is_over-has_ended.result) c.moved.result e

@@ -65,7 +65,8 @@ returns-clause-left g c =
           out_itself v speaks l long v3 _ (then_out v speaks l long v2 v3 _ _ e2 c.ring.ensures.rung));
     }
 
--- what was looked for was looked for before the parcel was sent, and only where no empty slot was at hand
+-- what was looked for was looked for before the parcel was sent, and only where no empty slot was
+-- at hand
 pub returns-clause-link : goal.returns-clause-link
 returns-clause-link g c =
     let v : Knowing = c.args.place.now.me.0 in let v1 : Knowing = c.make_room.new.place.me.0 in let v2 : Knowing = c.send.new.place.me.0 in let v3 : Knowing = c.ring.new.place.me.0 in let l : ℕ = c.args.link in

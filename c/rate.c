@@ -1,12 +1,14 @@
 /* How many million items a second ranks on threads exchange, through this library one item a call
-   and many a call, and through an exchange written by hand in C for this purpose alone: for each
-   pair of ranks two slots and two counters, entries with a tag, buffers handed over by their
-   pointers. Each rank sends so many items to ranks drawn by a random sequence, and sums up what
-   comes. Where crates/measure_threads is built, it runs beside them, over the same conveyors without
-   C. The ways take turns, so that what else the machine does is shared out; the first turn isn't
-   measured. Median and best of the others.
+   and many a call, and through two exchanges written in C for this purpose alone. The one by hand:
+   for each pair of ranks two slots and two counters, entries with a tag, buffers handed over by
+   their pointers, and no step that is sequentially consistent. The protocol: the steps of
+   docs/SLOT_LINKS.md, which the library makes too, with its doorbells, in plain C. Each rank sends
+   so many items to ranks drawn by a random sequence, and sums up what comes. If
+   crates/measure_threads is built, it runs beside them, over the same conveyors without C. The ways
+   take turns, so that what else the machine does is shared out; the first turn isn't measured.
+   Median and best of the others.
    rate [items a rank, 4,000,000 [turns, 7 [ranks [buffer [way]]]]]; with ranks, buffer and way (0
-   by hand, 1 one a call, 2 many a call, 3 measure_threads) that alone. */
+   by hand, 1 the protocol, 2 one a call, 3 many a call, 4 measure_threads) that alone. */
 #define _POSIX_C_SOURCE 200809L
 #include "bale.h"
 #include <pthread.h>
@@ -16,7 +18,7 @@
 #include <stdlib.h>
 #include <time.h>
 
-enum { MOST = 64, MOST_TURNS = 99, AT_ONCE = 1024, WAYS = 4 };
+enum { MOST = 64, MOST_TURNS = 99, AT_ONCE = 1024, WAYS = 5 };
 
 static uint32_t many, capacity, items_each = 4000000;
 static int turns = 7;
@@ -115,6 +117,165 @@ static void *by_hand(void *arg) {
     return NULL;
 }
 
+/* The protocol: words and slots on lines of their own, each step on a word sequentially consistent. */
+typedef struct {
+    _Alignas(128) _Atomic uint64_t value;
+} word;
+
+typedef struct {
+    _Alignas(128) hand_buffer buffer;
+} place;
+
+static word *posted_of, *released_of; /* by link */
+static word *bell_of;                 /* by reader, a bit for each sender */
+static place *places;                 /* two a link */
+
+/* What a rank knows of a link out: parcels posted, and slots that it may use. */
+typedef struct {
+    uint64_t sent;
+    uint32_t room;
+} out_end;
+
+/* What it knows of a link in: parcels taken, parcels seen and not taken, and how often it had heard
+   when it found none. */
+typedef struct {
+    uint64_t taken, noted;
+    uint32_t seen;
+} in_end;
+
+/* The bits that it heard and has not looked after, and how often it heard. */
+typedef struct {
+    uint64_t marks, hears;
+} ear;
+
+static inline void swap(hand_buffer *a, hand_buffer *b) {
+    hand_buffer t = *a;
+    *a = *b;
+    *b = t;
+}
+
+static inline bool post(uint32_t from, uint32_t to, out_end *end, hand_buffer *buffer) {
+    uint32_t link = from * many + to;
+    uint64_t bit = UINT64_C(1) << from;
+    if (end->room == 0)
+        end->room = 2 - (uint32_t)(end->sent - atomic_load(&released_of[link].value));
+    if (end->room == 0)
+        return false;
+    swap(&places[2 * link + end->sent % 2].buffer, buffer);
+    atomic_fetch_add(&posted_of[link].value, 1);
+    if ((atomic_load(&bell_of[to].value) & bit) == 0)
+        atomic_fetch_or(&bell_of[to].value, bit);
+    end->sent++;
+    end->room--;
+    return true;
+}
+
+static inline bool collect(uint32_t from, uint32_t to, in_end *end, ear *heard, hand_buffer *buffer) {
+    uint32_t link = from * many + to;
+    uint64_t bit = UINT64_C(1) << from;
+    if (end->seen == 0) {
+        if ((heard->marks & bit) == 0 && heard->hears <= end->noted) {
+            if (atomic_load(&bell_of[to].value) != 0)
+                heard->marks |= atomic_exchange(&bell_of[to].value, 0);
+            heard->hears++;
+        }
+        if ((heard->marks & bit) != 0) {
+            end->seen = (uint32_t)(atomic_load(&posted_of[link].value) - end->taken);
+            heard->marks ^= bit;
+        }
+        end->noted = heard->hears;
+        if (end->seen == 0)
+            return false;
+    }
+    swap(&places[2 * link + end->taken % 2].buffer, buffer);
+    atomic_fetch_add(&released_of[link].value, 1);
+    end->taken++;
+    end->seen--;
+    return true;
+}
+
+static void *by_protocol(void *arg) {
+    uint32_t me = (uint32_t)(size_t)arg, left = items_each, unsent = many, unended = many;
+    uint64_t seed = me + 1, sum = 0;
+    hand_buffer open[MOST], came = new_buffer();
+    bool closed[MOST] = {false}, over[MOST] = {false};
+    out_end outs[MOST] = {{0, 0}};
+    in_end ins[MOST] = {{0, 0, 0}};
+    ear heard = {0, 0};
+    for (uint32_t r = 0; r < many; r++)
+        open[r] = new_buffer();
+    uint32_t to = next_of(&seed);
+    while (unsent > 0 || unended > 0) {
+        bool moved = false;
+        while (left > 0 && open[to].count < capacity) {
+            moved = true;
+            open[to].entries[open[to].count++] = (hand_entry){me, {left, me, to}};
+            to = next_of(&seed);
+            left--;
+        }
+        for (uint32_t r = 0; r < many; r++)
+            if (!over[r] && collect(r, me, &ins[r], &heard, &came)) {
+                moved = true;
+                for (uint32_t k = 0; k < came.count; k++)
+                    sum += came.entries[k].item.a + came.entries[k].tag;
+                over[r] = came.last;
+                unended -= came.last;
+                came.count = 0;
+                came.last = false;
+            }
+        for (uint32_t r = 0; r < many; r++)
+            if (!closed[r] && (left == 0 || open[r].count == capacity)) {
+                open[r].last = left == 0;
+                if (!post(me, r, &outs[r], &open[r]))
+                    continue;
+                moved = true;
+                closed[r] = left == 0;
+                unsent -= closed[r];
+                open[r].count = 0;
+                open[r].last = false;
+            }
+        if (!moved)
+            sched_yield();
+    }
+    for (uint32_t r = 0; r < many; r++)
+        free(open[r].entries);
+    free(came.entries);
+    sums[me][0] = sum;
+    return NULL;
+}
+
+static void *lines_of(size_t size, size_t count) {
+    char *lines = aligned_alloc(128, size * count);
+    if (lines == NULL)
+        exit(1);
+    return lines;
+}
+
+static void make_protocol(void) {
+    uint32_t all = many * many;
+    posted_of = lines_of(sizeof(word), all);
+    released_of = lines_of(sizeof(word), all);
+    bell_of = lines_of(sizeof(word), many);
+    places = lines_of(sizeof(place), 2 * (size_t)all);
+    for (uint32_t l = 0; l < all; l++) {
+        atomic_init(&posted_of[l].value, 0);
+        atomic_init(&released_of[l].value, 0);
+    }
+    for (uint32_t r = 0; r < many; r++)
+        atomic_init(&bell_of[r].value, 0);
+    for (uint32_t s = 0; s < 2 * all; s++)
+        places[s].buffer = new_buffer();
+}
+
+static void free_protocol(void) {
+    for (uint32_t s = 0; s < 2 * many * many; s++)
+        free(places[s].buffer.entries);
+    free(places);
+    free(bell_of);
+    free(released_of);
+    free(posted_of);
+}
+
 /* Through the library. */
 static bale_rank ranks[MOST];
 
@@ -211,6 +372,8 @@ static double one_run(void *(*work)(void *)) {
             for (int k = 0; k < 2; k++)
                 links[l].slots[k] = new_buffer();
         }
+    } else if (work == by_protocol) {
+        make_protocol();
     } else {
         if (bale_group_new(dims, 1, capacity, 2, false, &group) != BALE_OK)
             exit(1);
@@ -230,6 +393,8 @@ static double one_run(void *(*work)(void *)) {
             for (int k = 0; k < 2; k++)
                 free(links[l].slots[k].entries);
         free(links);
+    } else if (work == by_protocol) {
+        free_protocol();
     } else {
         for (uint32_t r = 0; r < many; r++)
             bale_rank_free(&ranks[r]);
@@ -263,8 +428,8 @@ static int by_value(const void *a, const void *b) {
 
 /* One turn of one way; what came must be the same by each. */
 static double turn_of(int way, uint64_t *wanted) {
-    static void *(*const works[])(void *) = {by_hand, one_a_call, many_a_call};
-    if (way == 3)
+    static void *(*const works[])(void *) = {by_hand, by_protocol, one_a_call, many_a_call};
+    if (way == WAYS - 1)
         return from_beside();
     double rate = one_run(works[way]);
     uint64_t sum = 0;
@@ -324,14 +489,14 @@ int main(int argc, char **argv) {
             printf("%.1f\n", turn_of((int)numbers[4], &wanted));
         return 0;
     }
-    static const uint32_t ranks_of[] = {4, 2}, capacities[] = {1, 64, 1024};
+    static const uint32_t ranks_of[] = {4, 2}, capacities[] = {1, 8, 64, 1024};
     printf("million items a second, median / best of %d turns of %u items a rank (a sixteenth at buffer 1)\n", turns, items_each);
     if (beside == NULL)
         printf("measure_threads isn't built: (cd crates/measure_threads && rt run) builds it\n");
-    printf("ranks buffer        C by hand      one a call     many a call%s\n", beside == NULL ? "" : "   measure_threads");
+    printf("ranks buffer        C by hand   the protocol      one a call     many a call%s\n", beside == NULL ? "" : "   measure_threads");
     fflush(stdout);
     for (int p = 0; p < 2; p++)
-        for (int c = 0; c < 3; c++)
+        for (int c = 0; c < 4; c++)
             line_of(ranks_of[p], capacities[c]);
     return 0;
 }

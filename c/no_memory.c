@@ -1,5 +1,5 @@
-/* Each allocation of each call failing in turn: the call answers that there is no memory, nothing has changed, and it may be made again. No call
-   but the two that make something takes memory at all. */
+/* Each allocation of each call failing in turn: the call answers that there is no memory, nothing has
+   changed, and it may be made again. No call but the two that make something asks for memory. */
 #include "bale.h"
 #include <stdio.h>
 #include <stdlib.h>
@@ -11,7 +11,7 @@ typedef struct {
 } tried;
 
 static long left = -1; /* so many allocations succeed; below 0, all */
-static long taken;
+static long taken, asked;
 static char none;
 
 tried rattle_alloc(size_t size, size_t align);
@@ -24,6 +24,7 @@ static tried tried_of(void *p) {
 }
 
 static bool refused(void) {
+    asked++;
     if (left == 0)
         return true;
     left -= left > 0;
@@ -87,22 +88,34 @@ int main(void) {
     /* The archive's own allocator comes along with its version, and is not used. */
     if (strncmp(bale_version(), BALE_VERSION, strlen(BALE_VERSION)) != 0)
         want("bale_version", -99, BALE_OK);
-    left = 0; /* from here no allocation succeeds, and none is needed */
+    left = 0; /* from here no allocation succeeds, and none is asked for */
+    asked = 0;
     uint32_t pulled = 0, pushed = 0, over = 0;
+    bale_item items[3];
+    uint32_t senders[3];
     for (uint32_t r = 0; r < 4; r++)
         want("bale_begin", bale_begin(&ranks[r]), BALE_OK);
     while (over < 4) {
         over = 0;
         for (uint32_t r = 0; r < 4; r++) {
-            if (bale_phase(&ranks[r]) == BALE_STATE_WORKING && pushed < 1000 && bale_push(&ranks[r], &item, pushed % 4) == BALE_OK)
+            uint32_t to = pushed % 4;
+            if (bale_phase(&ranks[r]) == BALE_STATE_WORKING && pushed < 1000 &&
+                (pushed % 2 == 0 ? bale_push(&ranks[r], &item, to) == BALE_OK : bale_push_many(&ranks[r], &item, 1, &to, 1) == 1))
                 pushed++;
             over += bale_advance(&ranks[r], pushed == 1000) == BALE_COMPLETE;
-            while (bale_pull(&ranks[r], &item, &from) == BALE_OK)
-                pulled++;
+            if (bale_pull(&ranks[r], &item, &from) == BALE_OK && bale_unpull(&ranks[r]) != BALE_OK)
+                want("bale_unpull", -99, BALE_OK);
+            while (bale_pull(&ranks[r], &item, &from) == BALE_OK) {
+                int64_t more = bale_pull_many(&ranks[r], items, 3, senders, 3);
+                pulled += 1 + (more > 0 ? (uint32_t)more : 0);
+            }
         }
     }
-    for (uint32_t r = 0; r < 4; r++) {
+    for (uint32_t r = 0; r < 4; r++)
         want("bale_reset", bale_reset(&ranks[r]), BALE_OK);
+    if (asked != 0)
+        want("a call asked for memory", -99, BALE_OK);
+    for (uint32_t r = 0; r < 4; r++) {
         want("bale_rank_free", bale_rank_free(&ranks[r]), BALE_OK);
     }
     want("bale_group_free", bale_group_free(&group), BALE_OK);

@@ -6,6 +6,7 @@ pub mod Many
 pub mod Grouped
 pub mod Cases
 pub mod Holds
+pub mod Lends
 pub mod Items
 pub mod Handles
 pub mod Shown

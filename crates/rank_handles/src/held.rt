@@ -1,5 +1,6 @@
 //! What a handle has, behind a pointer that C may keep.
 ghost use Rattle.std.specs.Prelude.{◌≡◌, Some, None, Option, is_some, true};
+ghost use Rattle.std.specs.Borrow.{sem};
 ghost use Rattle.rank_handles.specs.declared.part.Part.{Part};
 
 use crate::loose::Loose;
@@ -22,6 +23,8 @@ impl Model for Held {
 }
 
 impl Held {
+    ghost use Rattle.rank_handles.specs.Lends.{lends_part};
+
     /// Nothing.
     pub(crate) fn none() -> Held
         ensures { result.value ≡ None }
@@ -37,6 +40,16 @@ impl Held {
     {
         let Loose { at, alloc: _ } = part;
         Held { at: at as *mut u8 }
+    }
+
+    /// The part, where it stands.
+    #[inline]
+    pub(crate) fn part(&mut self) -> &mut Part
+        requires there { is_some self.old.value ≡ true }
+        ensures* writes_back { sem 𝓛 (lends_part self.entry result) }
+        ensures value { Some result.now ≡ self.old.value }
+    {
+        unsafe { &mut *(self.at as *mut Part) }
     }
 
     /// The box again.

@@ -1,0 +1,15 @@
+-- What a handle has, once a loan of its part is over.
+use Rattle.std.specs.Prelude.{Some}
+use Rattle.std.specs.Borrow.{Lends, MutBor, Fml}
+use Rattle.rank_handles.specs.declared.part.Part.{Part}
+use Rattle.rank_handles.specs.declared.held.Held.{Held}
+use Rattle.rank_handles.specs.contracts.held.Held.{the_row as held_row}
+use Rattle.rank_handles.specs.contracts.part.Part.{the_row as part_row}
+
+-- h with another part
+abbrev pub with_part : Held → Part → Held
+with_part h part = record h { value = Some part }
+
+-- once the borrow r ends, the handle has the part that was left behind r
+abbrev pub lends_part : MutBor Held → MutBor Part → Fml
+lends_part h r = Lends held_row part_row h r (with_part h.now)

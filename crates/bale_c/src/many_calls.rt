@@ -6,37 +6,28 @@ ghost use Rattle.rank_handles.specs.Many.{push_many_answer, pull_many_answer, nu
 ghost use Rattle.rank_handles.specs.Shown.{rank_of};
 
 use rank_handles::{Answer, BaleItem, BaleRank, pull_number, push_number};
-use std::alloc::Global;
 
 /// Pushes items toward ranks, as so many single calls, until one finds no room. How many were
 /// pushed, or what is wrong: all destinations are looked at first, so that misuse changes nothing.
 #[unsafe(no_mangle)]
-pub extern "C" fn bale_push_many(
-    alloc: Global,
-    rank: &mut BaleRank,
-    items: &[BaleItem],
-    to: &[u32],
-) -> i64
+pub extern "C" fn bale_push_many(rank: &mut BaleRank, items: &[BaleItem], to: &[u32]) -> i64
     ensures answer { result ≡ told_of (number_or (if_there (rank_of rank.old)
         (λ s. push_many_answer s (take (min (length items.now) (length to.now)) to.now))) (count_in result)) }
     ensures few { count_in result ≤ min (length items.now) (length to.now) }
     ensures pushes { OnRank (PushesMany (take (min (length items.now) (length to.now)) items.now)
         (take (min (length items.now) (length to.now)) to.now) (count_in result)) (rank_of rank.old) (rank_of rank.new) }
 {
-    let Some(mut part) = rank.take(alloc) else {
+    let Some(there) = rank.get_mut() else {
         return i64::from(Answer::Gone.code());
     };
     let most = items.len().min(to.len());
-    let pushed = push_number(&mut part, &items[..most], &to[..most]);
-    rank.put(part);
-    pushed
+    push_number(there, &items[..most], &to[..most])
 }
 
 /// Pulls items, as so many single calls, until there are none or no place is left. How many were
 /// pulled, or what is wrong.
 #[unsafe(no_mangle)]
 pub extern "C" fn bale_pull_many(
-    alloc: Global,
     rank: &mut BaleRank,
     items: &mut [BaleItem],
     from: &mut [u32],
@@ -50,11 +41,9 @@ pub extern "C" fn bale_pull_many(
         (take (min (length items.old) (length from.old)) from.new) (count_in result))
         (rank_of rank.old) (rank_of rank.new) }
 {
-    let Some(mut part) = rank.take(alloc) else {
+    let Some(there) = rank.get_mut() else {
         return i64::from(Answer::Gone.code());
     };
     let most = items.len().min(from.len());
-    let pulled = pull_number(&mut part, &mut items[..most], &mut from[..most]);
-    rank.put(part);
-    pulled
+    pull_number(there, &mut items[..most], &mut from[..most])
 }

@@ -15,81 +15,66 @@ use std::alloc::Global;
 
 /// Begins an epoch.
 #[unsafe(no_mangle)]
-#[tactic(auto, using(rank_handles::proofs::Handed::on_there, rank_handles::proofs::Handed::on_none))]
-pub extern "C" fn bale_begin(alloc: Global, rank: &mut BaleRank) -> i32
+#[tactic(auto, using(rank_handles::proofs::Handed::on_none))]
+pub extern "C" fn bale_begin(rank: &mut BaleRank) -> i32
     ensures answer { result ≡ code_of (if_there (rank_of rank.old) (λ s. begin_answer s.state.phase)) }
     ensures begins { OnRank Begins (rank_of rank.old) (rank_of rank.new) }
 {
-    let Some(mut part) = rank.take(alloc) else {
+    let Some(there) = rank.get_mut() else {
         return Answer::Gone.code();
     };
-    let answer = part.begin();
-    rank.put(part);
-    answer.code()
+    there.begin().code()
 }
 
 /// Pushes an item toward a rank.
 #[unsafe(no_mangle)]
-#[tactic(auto, using(rank_handles::proofs::Handed::on_there, rank_handles::proofs::Handed::on_none))]
-pub extern "C" fn bale_push(alloc: Global, rank: &mut BaleRank, item: &BaleItem, to: u32) -> i32
+#[tactic(auto, using(rank_handles::proofs::Handed::on_none))]
+pub extern "C" fn bale_push(rank: &mut BaleRank, item: &BaleItem, to: u32) -> i32
     ensures answer { result ≡ code_of (if_there (rank_of rank.old) (λ s. push_answer s to)) }
     ensures pushes { OnRank (Pushes (item_of item.now) to) (rank_of rank.old) (rank_of rank.new) }
 {
-    let Some(mut part) = rank.take(alloc) else {
+    let Some(there) = rank.get_mut() else {
         return Answer::Gone.code();
     };
-    let answer = part.push(item_from(item), to);
-    rank.put(part);
-    answer.code()
+    there.push(item_from(item), to).code()
 }
 
 /// Puts the item back that the latest call pulled.
 #[unsafe(no_mangle)]
-pub extern "C" fn bale_unpull(alloc: Global, rank: &mut BaleRank) -> i32
+pub extern "C" fn bale_unpull(rank: &mut BaleRank) -> i32
     ensures answer { result ≡ code_of (if_there (rank_of rank.old) unpull_answer) }
     ensures unpulls { OnRank Unpulls (rank_of rank.old) (rank_of rank.new) }
 {
-    let Some(mut part) = rank.take(alloc) else {
+    let Some(there) = rank.get_mut() else {
         return Answer::Gone.code();
     };
-    let answer = part.unpull();
-    rank.put(part);
-    answer.code()
+    there.unpull().code()
 }
 
 /// Ends an epoch that is complete.
 #[unsafe(no_mangle)]
-pub extern "C" fn bale_reset(alloc: Global, rank: &mut BaleRank) -> i32
+pub extern "C" fn bale_reset(rank: &mut BaleRank) -> i32
     ensures answer { result ≡ code_of (if_there (rank_of rank.old) reset_answer) }
     ensures resets { OnRank Resets (rank_of rank.old) (rank_of rank.new) }
 {
-    let Some(mut part) = rank.take(alloc) else {
+    let Some(there) = rank.get_mut() else {
         return Answer::Gone.code();
     };
-    let answer = part.reset();
-    rank.put(part);
-    answer.code()
+    there.reset().code()
 }
 
 /// Pulls the next item that came, with its sender.
 #[unsafe(no_mangle)]
-pub extern "C" fn bale_pull(
-    alloc: Global,
-    rank: &mut BaleRank,
-    item: &mut BaleItem,
-    from: &mut u32,
-) -> i32
+pub extern "C" fn bale_pull(rank: &mut BaleRank, item: &mut BaleItem, from: &mut u32) -> i32
     ensures answer { result ≡ code_of (answer_with (result_if_there (rank_of rank.old) pull_result)) }
     ensures item { item.new ≡ item_given (result_if_there (rank_of rank.old) pull_result) item.old }
     ensures from { from.new ≡ sender_given (result_if_there (rank_of rank.old) pull_result) from.old }
     ensures pulls { OnRank Pulls (rank_of rank.old) (rank_of rank.new) }
 {
-    let Some(mut part) = rank.take(alloc) else {
+    let Some(there) = rank.get_mut() else {
         return Answer::Gone.code();
     };
-    let pulled = part.pull();
-    rank.put(part);
-    match pulled {
+    match there.pull() {
         Ok((sender, given)) => {
             *from = sender;
             *item = bale_item_from(given);
@@ -101,45 +86,39 @@ pub extern "C" fn bale_pull(
 
 /// Advances the exchange, and tells how far the rank is.
 #[unsafe(no_mangle)]
-pub extern "C" fn bale_advance(alloc: Global, rank: &mut BaleRank, done: bool) -> i32
+pub extern "C" fn bale_advance(rank: &mut BaleRank, done: bool) -> i32
     ensures answer { result ≡ code_of (if_there (rank_of rank.old) (λ s. advance_answer s done
         (phase_in (rank_of rank.new)))) }
     ensures advances { OnRank (Advances done) (rank_of rank.old) (rank_of rank.new) }
 {
-    let Some(mut part) = rank.take(alloc) else {
+    let Some(there) = rank.get_mut() else {
         return Answer::Gone.code();
     };
-    let answer = part.advance(done);
-    rank.put(part);
-    answer.code()
+    there.advance(done).code()
 }
 
 /// How many ranks there are; 0 where the handle has no rank.
 #[unsafe(no_mangle)]
-pub extern "C" fn bale_ranks(alloc: Global, rank: &mut BaleRank) -> u32
+pub extern "C" fn bale_ranks(rank: &mut BaleRank) -> u32
     ensures value { result ≡ ranks_in (rank_of rank.old) }
     ensures unchanged { rank_of rank.new ≡ rank_of rank.old }
 {
-    let Some(part) = rank.take(alloc) else {
+    let Some(there) = rank.get_mut() else {
         return 0;
     };
-    let ranks = part.ranks();
-    rank.put(part);
-    ranks
+    there.ranks()
 }
 
 /// How far the rank is in its epoch.
 #[unsafe(no_mangle)]
-pub extern "C" fn bale_phase(alloc: Global, rank: &mut BaleRank) -> i32
+pub extern "C" fn bale_phase(rank: &mut BaleRank) -> i32
     ensures value { result ≡ phase_code (option_map (λ s. s.state.phase) (rank_of rank.old)) }
     ensures unchanged { rank_of rank.new ≡ rank_of rank.old }
 {
-    let Some(part) = rank.take(alloc) else {
+    let Some(there) = rank.get_mut() else {
         return Answer::Gone.code();
     };
-    let phase = part.phase();
-    rank.put(part);
-    code_of_phase(phase)
+    code_of_phase(there.phase())
 }
 
 /// Frees the rank. Its group and the other ranks stay.

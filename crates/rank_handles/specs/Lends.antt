@@ -5,6 +5,9 @@ use Rattle.rank_handles.specs.declared.part.Part.{Part}
 use Rattle.rank_handles.specs.declared.held.Held.{Held}
 use Rattle.rank_handles.specs.contracts.held.Held.{the_row as held_row}
 use Rattle.rank_handles.specs.contracts.part.Part.{the_row as part_row}
+use Rattle.rank_handles.specs.contracts.cases.AnyRank.{the_row as rank_row}
+use Rattle.rank_handles.specs.declared.part.Part.TheVariants.{Rank}
+use Rattle.rank_handles.specs.Seated.{Seated}
 
 -- h with another part
 abbrev pub with_part : Held → Part → Held
@@ -13,3 +16,11 @@ with_part h part = record h { value = Some part }
 -- once the borrow r ends, the handle has the part that was left behind r
 abbrev pub lends_part : MutBor Held → MutBor Part → Fml
 lends_part h r = Lends held_row part_row h r (with_part h.now)
+
+-- h with another rank
+abbrev pub with_rank : Held → Seated → Held
+with_rank h rank = with_part h (Rank rank)
+
+-- once the borrow r ends, the handle has the rank that was left behind r
+abbrev pub lends_rank : MutBor Held → MutBor Seated → Fml
+lends_rank h r = Lends held_row rank_row h r (with_rank h.now)

@@ -7,6 +7,7 @@ pub mod Grouped
 pub mod Cases
 pub mod Holds
 pub mod Lends
+pub mod LendsRank
 pub mod Items
 pub mod Handles
 pub mod Shown

@@ -1,7 +1,9 @@
 //! The handles that C has: of a group, and of a rank.
 ghost use Rattle.std.specs.Prelude.{◌≡◌, Some, None, IfSome, is_some, true};
+ghost use Rattle.std.specs.Borrow.{sem};
 ghost use Rattle.rank_handles.specs.Handles.{rank_in, group_in};
 
+use crate::cases::AnyRank;
 use crate::held::Held;
 use crate::loose::Loose;
 use crate::part::Part;
@@ -69,6 +71,8 @@ impl BaleGroup {
 }
 
 impl BaleRank {
+    ghost use Rattle.rank_handles.specs.LendsRank.{lends_rank_of};
+
     /// A handle with nothing.
     fn nothing() -> BaleRank
         ensures { result.held.value ≡ None }
@@ -77,6 +81,19 @@ impl BaleRank {
             held: Held::none(),
             live: false,
         }
+    }
+
+    /// The rank, if there is one, where it stands.
+    #[inline]
+    pub fn get_mut(&mut self) -> Option<&mut AnyRank>
+        ensures* writes_back { sem 𝓛 (lends_rank_of self.entry result) }
+        ensures gone { result ≡ None → rank_in self.old.held.value ≡ None }
+        ensures value { IfSome result (λ r. Some r.now ≡ rank_in self.old.held.value) }
+    {
+        if !self.live {
+            return None;
+        }
+        Some(self.held.rank_mut())
     }
 
     /// Takes the rank out, if there is one.

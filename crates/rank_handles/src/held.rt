@@ -2,7 +2,9 @@
 ghost use Rattle.std.specs.Prelude.{◌≡◌, Some, None, Option, is_some, true};
 ghost use Rattle.std.specs.Borrow.{sem};
 ghost use Rattle.rank_handles.specs.declared.part.Part.{Part};
+ghost use Rattle.rank_handles.specs.Handles.{rank_in};
 
+use crate::cases::AnyRank;
 use crate::loose::Loose;
 use crate::part::Part;
 use std::alloc::Global;
@@ -23,7 +25,7 @@ impl Model for Held {
 }
 
 impl Held {
-    ghost use Rattle.rank_handles.specs.Lends.{lends_part};
+    ghost use Rattle.rank_handles.specs.Lends.{lends_part, lends_rank};
 
     /// Nothing.
     pub(crate) fn none() -> Held
@@ -44,12 +46,25 @@ impl Held {
 
     /// The part, where it stands.
     #[inline]
-    pub(crate) fn part(&mut self) -> &mut Part
+    pub(crate) fn part_mut(&mut self) -> &mut Part
         requires there { is_some self.old.value ≡ true }
         ensures* writes_back { sem 𝓛 (lends_part self.entry result) }
         ensures value { Some result.now ≡ self.old.value }
     {
         unsafe { &mut *(self.at as *mut Part) }
+    }
+
+    /// The rank, where it stands.
+    #[inline]
+    pub(crate) fn rank_mut(&mut self) -> &mut AnyRank
+        requires there { is_some (rank_in self.old.value) ≡ true }
+        ensures* writes_back { sem 𝓛 (lends_rank self.entry result) }
+        ensures value { Some result.now ≡ rank_in self.old.value }
+    {
+        let Part::Rank(rank) = self.part_mut() else {
+            unreachable!()
+        };
+        rank
     }
 
     /// The box again.

@@ -1,4 +1,4 @@
--- `part` lends the part, and the handle follows it.
+-- `part_mut` lends the part, and the handle follows it.
 use Rattle.std.proofs.Common.{◌≡◌, ℕ, List, [], ◌∷◌, refl, sym, ap, ◌∙◌, Option, Some, is_some, true}
 use seplogic.Ra.Ura.{Ura}
 use base.Fraction.{full_share}
@@ -33,10 +33,10 @@ use Rattle.rank_handles.specs.contracts.held.Held as held
 use Rattle.rank_handles.specs.Holds.{holds, heap}
 use Rattle.rank_handles.specs.Lends.{with_part}
 use Rattle.rank_handles.proofs.HeldValues.{lone_ptr, held_in, held_out, the_part}
-use Rattle.rank_handles.specs.contracts.held.Held.part.{ended, clauses}
-use Rattle.rank_handles.specs.contracts.held.Held.part.Key.{name as #self}
-use Rattle.rank_handles.proofs.held.Held.part.Statement.{statement}
-use Rattle.rank_handles.proofs.held.Held.part.Code as code
+use Rattle.rank_handles.specs.contracts.held.Held.part_mut.{ended, clauses}
+use Rattle.rank_handles.specs.contracts.held.Held.part_mut.Key.{name as #self}
+use Rattle.rank_handles.proofs.held.Held.part_mut.Statement.{statement}
+use Rattle.rank_handles.proofs.held.Held.part_mut.Code as code
 
 abbrev Hd : RattleType
 Hd = held.the_row
@@ -59,8 +59,8 @@ module _ {M : Type 1} {𝓤 : Ura M} (𝓛 : Logic 𝓤) (d : Hd.Denot) (b o rb 
       held_in ! (block_ptr b o) (Some w) $ rewrite ! 0 (λ (p : Ptr). ‵ (Hd.own_val (record { at = p; value = Some w }) (lone_ptr (block_ptr b o) ∷ []))) (sym at) refl $ move ! (1 ∷ 0 ∷ []) $ fjoin ! $
       fpack ! (List Val) (λ us. fsep (cell_at full_share Hd.mir us rb ro) (Hd.own_val (with_part d w) us)) (lone_ptr (block_ptr b o) ∷ []) $ done !
 
-pub part_spec : {M : Type 1} → statement M
-part_spec 𝓤 𝓛 𝓜 𝓡 wired =
+pub part_mut_spec : {M : Type 1} → statement M
+part_mut_spec 𝓤 𝓛 𝓜 𝓡 wired =
     let H = 𝓛.H in let 𝓣 = tables 𝓤 H 𝓜 𝓡 𝓡.env in let c = clauses 𝓛 𝓜.mem 𝓡.returns in let W = walk_of 𝓛 ended stayed c in let fn = code.function in
     proved 𝓛 ended stayed c 𝓜 𝓡 (Goes-spent_ref 𝓛 1 (0 ∷ []) tt (plain (λ _. Hd)), tt) #self fn (code.unfolded 𝓤 H 𝓜 𝓡 wired)
     (λ κs. (mut_vals, tt)) (λ κs. (mut_Tells (named 0) κs.0 Hd, tt)) (λ κs qs bounds a _ are.

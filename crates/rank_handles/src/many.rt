@@ -1,6 +1,8 @@
 //! Many items at a conveyor, as so many single calls.
-ghost use Rattle.std.specs.Prelude.{◌≡◌, ◌≢◌, ◌+◌, ◌<◌, ◌≤◌, ◌++◌, ◌∷◌, [], true, false, None, Some, length, slice_index_or};
+ghost use Rattle.std.specs.Prelude.{◌≡◌, ◌≢◌, ◌+◌, ◌<◌, ◌≤◌, ◌++◌, ◌∷◌, [], true, false, None, Some, length, sum, slice_index_or};
 ghost use Rattle.route_tensor.specs.Grid.{ranks};
+ghost use Rattle.route_tensor.specs.Neighbour.{hop_to, neighbour};
+ghost use Rattle.route_tensor.specs.Tag.{IsFair, sender_of};
 ghost use Rattle.port_bank.specs.Machine.Step.{Push, Pull, Idle};
 ghost use Rattle.hop_core.specs.State.{State, in_at, lowest_unread, pulls};
 ghost use Rattle.convey.specs.Conveyors.{standing_toward};
@@ -8,6 +10,7 @@ ghost use Rattle.rank_handles.specs.Many.{steps_of, then_idle, all_ranks, SamePa
 ghost use Rattle.rank_handles.specs.Kept.{RunOf};
 
 use crate::item::{BaleItem, bale_item_from, item_from};
+use bale_items::Tag;
 use convey::{Conveyor, Phase, Pushed};
 
 /// Whether every number is one of so many ranks. It doesn't end at the first that is none, so that
@@ -128,12 +131,38 @@ fn copy_batch<const CAP: usize, const HOPS: usize>(
         → RunOf (steps_of Pull (start + count) items.new from.new ++ then_idle count 1) st (pulls count conveyor.now) }
 {
     let entries = conveyor.batch(number);
+    let near = conveyor.routes().neighbour(number).rank;
     let mut at = 0;
     while at < count {
         let entry = entries[at];
         items[start + at] = bale_item_from(entry.item);
-        from[start + at] = conveyor.sender_of(number, entry.tag);
+        from[start + at] = sender_in(conveyor, number, near, entry.tag);
         at += 1;
+    }
+}
+
+/// The sender of an entry of that link with this tag. On one hop it is the neighbour, whatever the
+/// tag, so that a batch looks it up once.
+#[tactic(auto, using(crate::proofs::Senders::near_sender))]
+#[inline]
+fn sender_in<const CAP: usize, const HOPS: usize>(
+    conveyor: &Conveyor<CAP, HOPS>,
+    number: u32,
+    near: u32,
+    tag: Tag,
+) -> u32
+    requires hops { length conveyor.now.dims ≡ HOPS }
+    requires number { number < sum conveyor.now.dims }
+    requires last { hop_to conveyor.now.dims number ≡ length conveyor.now.dims }
+    requires fair { IsFair conveyor.now.dims (length conveyor.now.dims) tag }
+    requires near { near ≡ neighbour conveyor.now.dims conveyor.now.rank number }
+    ensures { result ≡ sender_of conveyor.now.dims tag (length conveyor.now.dims)
+        (neighbour conveyor.now.dims conveyor.now.rank number) }
+{
+    if HOPS == 1 {
+        near
+    } else {
+        conveyor.sender_of(number, tag)
     }
 }
 

@@ -13,7 +13,7 @@ use Rattle.rank_handles.proofs.many.copy_batch.Goals as goal
 
 pub loop-at-preserved : goal.loop-at-preserved
 loop-at-preserved g c =
-    let n : ℕ = c.args.start in let k : ℕ = c.loop-at.at in let items = c.loop-at.items in let from : List ℕ = c.loop-at.from in let x = c.bale_item_from.result in let r : ℕ = c.sender_of.result in
+    let n : ℕ = c.args.start in let k : ℕ = c.loop-at.at in let items = c.loop-at.items in let from : List ℕ = c.loop-at.from in let x = c.bale_item_from.result in let r : ℕ = c.sender_in.result in
     let inv = c.loop-at.invariant in let st : State = c.args.conveyor.now in let entries : List Entry = c.batch-entries.result.now in
     let there : length entries ≡ length (in_at st c.args.number).parcel.untaken = ap length c.batch-entries.ensures.value in
     let inside : k < length entries = omega (arith, c.loop-at-test.true, c.requires.there, there) in
@@ -27,7 +27,7 @@ loop-at-preserved g c =
       past_set n k items c.args.items.now x inv.3,
       past_set n k from c.args.from.now r inv.4,
       λ a run. run_next n k items from x (sender_of st.dims e.tag (length st.dims) (neighbour st.dims st.rank c.args.number)) r e.item a st place place' (inv.5 a run)
-          (c.batch-entries.ensures.gives k e (slice_get-get_or entries k (record { tag = record { d1 = 0; d2 = 0; d3 = 0 }; item = record { a = 0; b = 0; c = 0 } }) inside)) c.bale_item_from.ensures c.sender_of.ensures,
+          (c.batch-entries.ensures.gives k e (slice_get-get_or entries k (record { tag = record { d1 = 0; d2 = 0; d3 = 0 }; item = record { a = 0; b = 0; c = 0 } }) inside)) c.bale_item_from.ensures c.sender_in.ensures,
     )
 
 pub returns-clause-pulled : goal.returns-clause-pulled

@@ -15,7 +15,6 @@ use std::alloc::Global;
 
 /// Begins an epoch.
 #[unsafe(no_mangle)]
-#[tactic(auto, using(rank_handles::proofs::Handed::on_none))]
 pub extern "C" fn bale_begin(rank: &mut BaleRank) -> i32
     ensures answer { result ≡ code_of (if_there (rank_of rank.old) (λ s. begin_answer s.state.phase)) }
     ensures begins { OnRank Begins (rank_of rank.old) (rank_of rank.new) }
@@ -28,7 +27,6 @@ pub extern "C" fn bale_begin(rank: &mut BaleRank) -> i32
 
 /// Pushes an item toward a rank.
 #[unsafe(no_mangle)]
-#[tactic(auto, using(rank_handles::proofs::Handed::on_none))]
 pub extern "C" fn bale_push(rank: &mut BaleRank, item: &BaleItem, to: u32) -> i32
     ensures answer { result ≡ code_of (if_there (rank_of rank.old) (λ s. push_answer s to)) }
     ensures pushes { OnRank (Pushes (item_of item.now) to) (rank_of rank.old) (rank_of rank.new) }

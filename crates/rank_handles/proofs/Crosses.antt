@@ -1,5 +1,4 @@
 -- What a handle may have may go to another thread.
-use Prim.Native.Nat.{ℕ}
 use denote.RattleType.{RattleType}
 use denote.Param.Send.{IsSend, sendable}
 use Rattle.std.proofs.Crossing.{crosses}

@@ -1,7 +1,6 @@
 -- The sender of what comes over one hop. Assumes `Logic`.
 use Rattle.std.proofs.Common.{◌≡◌, ℕ, List, ap, ◌∙◌}
 use Rattle.bale_items.specs.declared.item.Tag.{Tag}
-use Rattle.route_tensor.specs.Grid.{place}
 use Rattle.route_tensor.specs.Tag.{sender_of, tag_rank}
 use Rattle.route_tensor.proofs.Places.{place-zero}
 

@@ -1,5 +1,5 @@
 -- What contracts see of a group, and of a rank that was just made.
-use Rattle.std.specs.Prelude.{◌≡◌, ℕ, ◌==◌, ◌||◌, not, is_some, Bool, true, false, List, [], ◌∷◌, sum, replicate}
+use Rattle.std.specs.Prelude.{◌≡◌, ℕ, ◌==◌, ◌||◌, not, is_some, Bool, true, false, List, [], sum, replicate}
 use Rattle.std.specs.Prelude.{if◌then◌else◌}
 use Rattle.std.specs.Prelude.{slice_set, None, nat_lt, slice_index_or, Result, Ok, Err}
 use Rattle.item_buffer.specs.Capacity.{is_capacity}

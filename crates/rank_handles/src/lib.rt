@@ -7,7 +7,7 @@
 //!
 //! | | |
 //! |---|---|
-//! | `BaleGroup`, `BaleRank` | the handles: nothing, or a `Part`, which `take` takes out and `put` puts in |
+//! | `BaleGroup`, `BaleRank` | the handles: nothing, or a `Part`, which `take` takes out and `put` puts in; `get_mut` lends a rank where it stands |
 //! | `make_group`, `make_rank` | a group of these numbers; a rank of a group |
 //! | `Exchange` | the conveyor's own calls, each a step of the exchange machine, one or many at a time |
 //! | `push_number`, `pull_number` | calls of many items, as the number that C is told |
@@ -20,8 +20,8 @@
 //! The definitions, in the order in which to read them: `Codes` (the numbers that C knows),
 //! `Seated` (a rank, and a call that makes a step), `Answers` (when each answer comes), `Calls`
 //! (what a call leaves), `Grouped` (a group, and a rank that was just made), `Handles` and `Shown`
-//! (what a handle has), `Many` (calls of many items), `Items`. `Kept`, `Cases` and `Holds` are the
-//! code's own.
+//! (what a handle has), `Many` (calls of many items), `Items`. `Kept`, `Cases`, `Holds`, `Lends` and
+//! `LendsRank` are the code's own.
 #![tactic(auto)]
 
 mod answer;

@@ -1,4 +1,4 @@
-use Rattle.std.proofs.Common.{ℕ, ℤ, ◌≡◌, ◌≤◌, length, to_z, of_z, w64, ◌∙◌, subst}
+use Rattle.std.proofs.Common.{ℕ, ℤ, ◌≤◌, length, to_z, of_z, w64, ◌∙◌, subst}
 use Rattle.std.proofs.lemmas.Int.{to_z-of_z}
 use Rattle.rank_handles.specs.Many.{push_many_answer, PushesMany}
 use Rattle.rank_handles.proofs.Told.{count_told, answer_told}

@@ -78,11 +78,11 @@ transpose_means m is =
     let values : IsTransposed m (transposed m) = transposed_is m is in
     record { matrix = transposed m; text = refl; values = values }
 
--- the matrix that the answer of permute means has nothing else than the values of A, each at its new place
+-- the matrix that permute's answer means has nothing but the values of A, each at its new place
 pub nothing_else : (p q : List ℕ) (m : Sparse) (bytes : List ℕ) (means : PermuteMeans p q m bytes) → (k l : ℕ) (v : ℤ) → at means.matrix k l ≡ Some v → ComesFrom p q m k l v
 nothing_else p q m bytes means = comes_from m means.matrix p q means.rows means.cols means.values
 
--- its entries are a finite map, and so are those of the matrix that the answer of transpose means
+-- its entries are a finite map, and so are those of the matrix that transpose's answer means
 pub permute_agrees : (p q : List ℕ) (m : Sparse) (bytes : List ℕ) (means : PermuteMeans p q m bytes) → Agree means.matrix
 permute_agrees p q m bytes means = in_order means.matrix means.values.ordered
 

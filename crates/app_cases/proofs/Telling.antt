@@ -20,7 +20,6 @@ pub tells_case : {S T : Type 0} {R : Rules S} {Q : Rules T} {i : S → T} {w : L
 tells_case {R = R} {Q = Q} {i = i} j same starts n made manner round t =
     record {
       bank = t.bank;
-      lawful = t.lawful;
       ended = t.ended;
       by_last = t.by_last;
       collected = t.collected;

@@ -15,7 +15,7 @@ use Rattle.mtx_text.proofs.FiniteMaps.{listed, mapped}
 use Rattle.mtx_text.proofs.PlaceOrder.{not_same}
 use Rattle.app_permute.specs.Moved.{number_in, permuted, transposed, IsPermuted, IsTransposed}
 use Rattle.app_permute.proofs.Answers.{permuted_is, transposed_is}
-use Rattle.app_permute.specs.Meanings.{ComesFrom, PermuteMeans, TransposeMeans}
+use Rattle.app_permute.specs.Meanings.{PermuteMeans, TransposeMeans}
 
 -- entries in order stand at places of their own, so they are a finite map
 in_order : (m : Sparse) → InOrder m.entries → Agree m
@@ -37,6 +37,16 @@ onto n p k h low =
     get_or_other [] i d e l = absurd (omega arith)
     get_or_other (x ∷ xs) zero d e l = refl
     get_or_other (x ∷ xs) (suc i) d e l = get_or_other xs i d e (omega arith)
+
+-- The place at row k and column l is the new one of a place at which the matrix has this value.
+-- k = p(i), l = q(j) and A(i,j) = v for some i and j
+-- of (0,1,9), p = 1, 2, 0 and q = 2, 0, 1: row 1, column 0 and the value 9
+pub record ComesFrom (p q : List ℕ) (m : Sparse) (k l : ℕ) (v : ℤ) : Type 0 where
+  pub i : ℕ
+  pub j : ℕ
+  pub row : number_in p i ≡ k
+  pub col : number_in q j ≡ l
+  pub value : at m i j ≡ Some v
 
 comes_from : (m b : Sparse) (p q : List ℕ) → Permutes m.rows p → Permutes m.cols q → IsPermuted p q m b → (k l : ℕ) (v : ℤ) → at b k l ≡ Some v → ComesFrom p q m k l v
 comes_from m b p q rows cols values k l v h =
@@ -61,11 +71,20 @@ permute_means m p q is rows cols =
       rows = rows;
       cols = cols;
       values = values;
-      nothing_else = comes_from m (permuted p q m) p q rows cols values;
-      agrees = in_order (permuted p q m) values.ordered;
     }
 
 pub transpose_means : (m : Sparse) → IsSparse m → TransposeMeans m (text_of (transposed m))
 transpose_means m is =
     let values : IsTransposed m (transposed m) = transposed_is m is in
-    record { matrix = transposed m; text = refl; values = values; agrees = in_order (transposed m) values.ordered }
+    record { matrix = transposed m; text = refl; values = values }
+
+-- the matrix that permute's answer means has nothing but the values of A, each at its new place
+pub nothing_else : (p q : List ℕ) (m : Sparse) (bytes : List ℕ) (means : PermuteMeans p q m bytes) → (k l : ℕ) (v : ℤ) → at means.matrix k l ≡ Some v → ComesFrom p q m k l v
+nothing_else p q m bytes means = comes_from m means.matrix p q means.rows means.cols means.values
+
+-- its entries are a finite map, and so are those of the matrix that transpose's answer means
+pub permute_agrees : (p q : List ℕ) (m : Sparse) (bytes : List ℕ) (means : PermuteMeans p q m bytes) → Agree means.matrix
+permute_agrees p q m bytes means = in_order means.matrix means.values.ordered
+
+pub transpose_agrees : (m : Sparse) (bytes : List ℕ) (means : TransposeMeans m bytes) → Agree means.matrix
+transpose_agrees m bytes means = in_order means.matrix means.values.ordered

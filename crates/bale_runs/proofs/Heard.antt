@@ -15,7 +15,6 @@ use Rattle.round_program.specs.Replies.{HaveHeard}
 use Rattle.rank_node.specs.Movers.{manner_of}
 use Rattle.rank_node.specs.declared.via.Via.TheVariants as via
 use Rattle.rank_group.specs.declared.closed_round.ClosedRound.{ClosedRound}
-use Rattle.rank_group.specs.Rounds.{round_of}
 use Rattle.rank_group.specs.Told.{Made, turns_within}
 use Rattle.app_histo_ig.specs.Sums.{SumsState, sums_rules}
 use Rattle.app_histo_ig.specs.SumsRuns.{sums_begins, sums_starts, SumsEnded}
@@ -24,7 +23,6 @@ use Rattle.app_histo_ig.specs.AskingRuns.{AreAskersOf}
 use Rattle.app_histo_ig.specs.ColumnAnswers.{IgHeard}
 use Rattle.app_histo_ig.proofs.SumsStarts.{one_round}
 use Rattle.app_cases.specs.Any.{AnyState, any_rules, sums_way}
-use Rattle.biconvey.specs.Drives.{TellsExchange}
 use Rattle.biconvey.specs.Worlds.{turns_of}
 use Rattle.bale_words.specs.declared.command.Command.{Command}
 use Rattle.bale_words.specs.declared.task.Task.{Task}
@@ -62,11 +60,6 @@ abbrev pub sums_ended : (m : Sparse) (p : ℕ) (ends : List SumsState) → 1 ≤
 sums_ended m p ends some sparse h = record { ranks = p; some = some; matrix = sparse; ended = h }
 
 -- ---- What is told
-
-pub told_replies : (m : Sparse) (made : Made) (steady : Bool) (rounds : List ClosedRound) (askers : List AskingState) → AreAskersOf m (ranks made.dims) askers
-    → ((q : ClosedRound) × (r : ClosedRound) × (rounds ≡ q ∷ r ∷ []) × TellsExchange ig_talk askers made steady (round_of q) (round_of r))
-    → TellsReplies m made steady rounds
-told_replies m made steady rounds askers are x = record { queries = x.0; replies = x.1; two = x.2; askers = askers; are = are; exchanged = x.3 }
 
 pub tells_asking : (m : Sparse) (made : Made) (steady : Bool) (rounds first others : List ClosedRound)
     → Tells sums_rules (sums_starts (ranks made.dims) m) made (manner_of via.Convey steady) first → TellsReplies m made steady others

@@ -3,3 +3,4 @@ pub mod Cases
 pub mod Exchanges
 pub mod Heard
 pub mod Orders
+pub mod Replied

@@ -3,7 +3,11 @@
 use Rattle.std.specs.Prelude.{◌≡◌, ◌<◌, ◌≤◌, ◌+◌, ◌*◌, ◌++◌, ℕ, Bool, true, false, List, [], ◌∷◌, map, length}
 use Rattle.std.specs.List.{range_with_len}
 use Rattle.route_tensor.specs.Grid.{ranks}
+use Rattle.bale_items.specs.declared.item.Item.{Item}
+use Rattle.bale_items.specs.Bits.{twos_complement}
 use Rattle.mtx_text.specs.Sparse.{Sparse}
+use Rattle.sparse_rows.specs.Deals.{dealt}
+use Rattle.sparse_rows.specs.Owners.{column_owner, own_entries}
 use Rattle.rank_node.specs.Movers.{manner_of}
 use Rattle.rank_node.specs.declared.via.Via.TheVariants as via
 use Rattle.rank_group.specs.declared.closed_round.ClosedRound.{ClosedRound}
@@ -12,13 +16,15 @@ use Rattle.rank_group.specs.Rounds.{round_of}
 use Rattle.rank_group.specs.Told.{Made, turns_within}
 use Rattle.rank_group.specs.Driven.{ToldOfTurns}
 use Rattle.round_program.specs.Canonical.{HaveEnded}
+use Rattle.round_program.specs.Replies.{carrying}
 use Rattle.app_cases.specs.Any.{AnyState, any_rules, sums_way}
+use Rattle.app_histo_ig.specs.IgLines.{column_sum}
 use Rattle.app_histo_ig.specs.Sums.{sums_rules}
 use Rattle.app_histo_ig.specs.SumsRuns.{sums_starts}
 use Rattle.app_histo_ig.specs.Asking.{AskingState, ig_talk}
 use Rattle.app_histo_ig.specs.AskingRuns.{AreAskersOf}
 use Rattle.app_histo_ig.specs.ColumnAnswers.{IgHeard}
-use Rattle.biconvey.specs.Drives.{TellsExchange}
+use Rattle.biconvey.specs.Drives.{TellsWay}
 use Rattle.biconvey.specs.Driven.{HasSweptBoth}
 use Rattle.biconvey.specs.Worlds.{turns_of}
 use Rattle.bale_words.specs.declared.command.Command.{Command}
@@ -28,15 +34,30 @@ use Rattle.bale_runs.specs.Jobs.{by_asking, manner_for}
 use Rattle.bale_answers.specs.Tasks.{plan_of, starts_of}
 use Rattle.bale_runs.specs.Runs.{made_for, SweptInOrder, Tells, TellsTask, TurnsOfTask, FewestOfTask}
 
+-- The columns that rank s asks rank d about, in order: those of its entries that d owns.
+-- columns_asked m ranks s d = the columns of the entries e of s with column_owner ranks e = d
+-- Of entries in the columns 0, 1, 3, 1 and 5, on 2 ranks, rank 0 has those in 0, 3 and 5; it asks
+-- rank 1 about 3 and 5.
+abbrev pub columns_asked : Sparse → ℕ → ℕ → ℕ → List ℕ
+columns_asked m ranks s d = map (λ e. e.1.j) (dealt (column_owner ranks) d (own_entries ranks s m.entries))
+
+-- The queries of s to d: an item for each, which carries it.
+abbrev pub queries_for : Sparse → ℕ → ℕ → ℕ → List Item
+queries_for m ranks s d = map carrying (columns_asked m ranks s d)
+
+-- The replies of d to s: for each the sum of this column, as its two's complement.
+-- Where columns 3 and 5 have the sums 7 and -1, rank 1 replies 7 and 2^64 - 1.
+abbrev pub replies_for : Sparse → ℕ → ℕ → ℕ → List Item
+replies_for m ranks d s = map (λ j. carrying (twos_complement (column_sum j m.entries))) (columns_asked m ranks s d)
+
 -- Two closed rounds tell the queries, of each entry's rank for its column, and the replies, over
 -- two banks of one make.
 pub record TellsReplies (m : Sparse) (made : Made) (steady : Bool) (rounds : List ClosedRound) : Type 0 where
   pub queries : ClosedRound
   pub replies : ClosedRound
   pub two : rounds ≡ queries ∷ replies ∷ []
-  pub askers : List AskingState
-  pub are : AreAskersOf m (ranks made.dims) askers
-  pub exchanged : TellsExchange ig_talk askers made steady (round_of queries) (round_of replies)
+  pub asking : TellsWay made steady (queries_for m (ranks made.dims)) (round_of queries)
+  pub replying : TellsWay made steady (replies_for m (ranks made.dims)) (round_of replies)
 
 -- The rounds of ig by queries and replies are three. The first tells the one round on conveyors in
 -- which the columns are summed, over a bank of the same make, and the rest the queries and the

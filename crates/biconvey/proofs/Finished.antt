@@ -109,7 +109,7 @@ module _ {S : Type 0} (T : Talk S) (laws : TalkLaws T) (law : ClosesLaw) (cap : 
         (subst (λ (b : Logs). Facts cap slots steady cs items dims a b) closed.got (record { grid = every.grid; links_keep = keep; shape = shape; each = each; pushes = pushes })))
 
     way_told : TellsWay (record { dims = dims; cap = cap; slots = slots; by_slots = by_slots }) steady items c
-    way_told = tells_way c cap slots steady cs facts.grid facts.links_keep closed.in_order.in_order facts.shape facts.each (record { dims = dims; cap = cap; slots = slots; by_slots = by_slots }) items closed.bank (ap (λ (m : Made). m.cap) closed.bank) facts.pushes closed.in_order
+    way_told = tells_way c cap slots steady cs facts.grid facts.links_keep closed.in_order.in_order facts.shape facts.each (record { dims = dims; cap = cap; slots = slots; by_slots = by_slots }) items closed.bank (ap (λ (m : Made). m.cap) closed.bank) facts.pushes
 
   -- both closed banks tell the exchange
   pub told_both : (by_slots : Bool) (q r : Round) → IsClosed (record { dims = dims; cap = cap; slots = slots; by_slots = by_slots }) sides.asking sides.asked q → IsClosed (record { dims = dims; cap = cap; slots = slots; by_slots = by_slots }) sides.replying sides.replied r

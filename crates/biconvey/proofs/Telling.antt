@@ -8,7 +8,7 @@ use Rattle.route_tensor.specs.Ends.{sender_at, reader_at}
 use Rattle.port_bank.specs.Logs.{Logs, lasts, segment, starting_at, ending_at, EndsLast, lasts_in}
 use Rattle.port_bank.specs.Flow.{hop_link, flow, items_of}
 use Rattle.port_bank.specs.Link.{LinkLaw}
-use Rattle.port_bank.specs.Round.{Round, IsRound, CloseLaw, logs_of, pushed, pulled}
+use Rattle.port_bank.specs.Round.{Round, CloseLaw, logs_of, pushed, pulled}
 use Rattle.port_bank.specs.Shapes.{IsConveyorShape}
 use Rattle.port_bank.proofs.Routes.{numbered}
 use Rattle.route_tensor.specs.Pair.{belongs}
@@ -109,11 +109,10 @@ module _ (round : Round) (cap slots : ℕ) (steady : Bool) (cs : ℕ → State) 
       ]
 
   pub tells_way : (made : Made) (items : ℕ → ℕ → List Item) → record { dims = round.dims; cap = round.cap; slots = round.slots; by_slots = round.by_slots } ≡ made → round.cap ≡ cap
-      → ((s d : ℕ) → s < ranks round.dims → d < ranks round.dims → (part_of (buffers_of (cs s)) (starting_at round.dims s (logs_of round.sent)) (ending_at round.dims s (logs_of round.got))).pushed 0 d ≡ items s d) → IsRound round → TellsWay made steady items round
-  tells_way made items is same pushes lawful =
+      → ((s d : ℕ) → s < ranks round.dims → d < ranks round.dims → (part_of (buffers_of (cs s)) (starting_at round.dims s (logs_of round.sent)) (ending_at round.dims s (logs_of round.got))).pushed 0 d ≡ items s d) → TellsWay made steady items round
+  tells_way made items is same pushes =
       record {
         bank = is;
-        lawful = lawful;
         ended = λ l below. (out l below).ended;
         by_last = λ l below. (out l below).by_last;
         collected = collected;

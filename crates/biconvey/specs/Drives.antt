@@ -4,7 +4,7 @@ use Rattle.bale_items.specs.declared.item.Item.{Item}
 use Rattle.route_tensor.specs.Grid.{ranks}
 use Rattle.route_tensor.specs.Link.{links}
 use Rattle.port_bank.specs.Logs.{lasts, EndsLast}
-use Rattle.port_bank.specs.Round.{Round, IsRound, logs_of, pushed, pulled}
+use Rattle.port_bank.specs.Round.{Round, logs_of, pushed, pulled}
 use Rattle.port_bank.specs.Shapes.{IsConveyorShape}
 use Rattle.hop_core.specs.declared.phase.Phase.TheVariants.{Working}
 use Rattle.convey.specs.Buffers.{in_of}
@@ -35,8 +35,9 @@ abbrev pub replies_by : {S : Type 0} → Talk S → List S → ℕ → ℕ → L
 replies_by T askers d s = answers_of T (slice_get askers d) s (queries_by T askers s d)
 
 -- A closed round tells one way of an exchange, in which each rank s had some items for each rank d.
--- bank: it was made as asked. lawful: what holds of every closed round, pairs and their order among
--- it.
+-- What holds of every closed round is not said again: ClosedRound's ranks and epochs tell it
+-- (IsRound).
+-- bank: it was made as asked.
 -- ended, by_last: each link ended one epoch, and nothing came after it. collected: all parcels
 -- were.
 -- pushed: each rank pushed toward each what it had for it. all_came: each pulled what was pushed
@@ -44,7 +45,6 @@ replies_by T askers d s = answers_of T (slice_get askers d) s (queries_by T aske
 -- shape: each parcel is filled as conveyors fill it, steady or not.
 pub record TellsWay (made : Made) (steady : Bool) (items : ℕ → ℕ → List Item) (round : Round) : Type 0 where
   pub bank : record { dims = round.dims; cap = round.cap; slots = round.slots; by_slots = round.by_slots } ≡ made
-  pub lawful : IsRound round
   pub ended : (l : ℕ) → l < links round.dims → lasts (logs_of round.sent l) ≡ 1
   pub by_last : (l : ℕ) → l < links round.dims → EndsLast (logs_of round.sent l)
   pub collected : (l : ℕ) → l < links round.dims → logs_of round.got l ≡ logs_of round.sent l

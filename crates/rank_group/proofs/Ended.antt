@@ -193,7 +193,7 @@ module _ {S : Type 0} (R : Rules S) (laws : Laws R) (law : ClosesLaws) (cap : �
   told round is in_order =
       subst (λ c. TellsRun R starts n (record { dims = dims; cap = cap; slots = slots; by_slots = false }) manner c) (sym is)
       (tells_run R laws law (closed cap b) cap slots manner starts h rs world (subst IsRound is in_order).in_order over shape most n (subst (λ ds. InRound R (ranks ds) 0 shape most starts) (sym ed) start) rounds
-      (record { dims = dims; cap = cap; slots = slots; by_slots = false }) (ap (λ ds. record { dims = ds; cap = cap; slots = b.slots; by_slots = false }) ed ∙ ap (λ k. record { dims = dims; cap = cap; slots = k; by_slots = false }) es) refl (subst IsRound is in_order)) where
+      (record { dims = dims; cap = cap; slots = slots; by_slots = false }) (ap (λ ds. record { dims = ds; cap = cap; slots = b.slots; by_slots = false }) ed ∙ ap (λ k. record { dims = dims; cap = cap; slots = k; by_slots = false }) es) refl) where
         sent : ◌≡◌ {A = Logs} (sent_of b) (logs_of (map (λ c. c.sent) b.channels))
         sent = λ i l. sym (logs_map (λ c. c.sent) b.channels refl l) i
 

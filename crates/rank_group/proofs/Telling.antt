@@ -7,7 +7,7 @@ use Rattle.route_tensor.specs.Link.{links}
 use Rattle.route_tensor.specs.Ends.{sender_at, reader_at}
 use Rattle.port_bank.specs.Logs.{Logs, lasts, segment, starting_at, ending_at, EndsLast}
 use Rattle.port_bank.specs.Flow.{hop_link, belongs, items_of}
-use Rattle.port_bank.specs.Round.{Round, IsRound, logs_of, pushed, pulled, CloseLaw}
+use Rattle.port_bank.specs.Round.{Round, logs_of, pushed, pulled, CloseLaw}
 use Rattle.port_bank.proofs.Routes.{numbered}
 use Rattle.port_bank.proofs.Marks.{none_after, all_got}
 use Rattle.rank_group.specs.Closes.{ClosesLaws}
@@ -129,11 +129,10 @@ module _ {S : Type 0} (R : Rules S) (laws : Laws R) (law : ClosesLaws) (round : 
             ap (items_of (belongs dims s d (length dims))) got_none ∙ sym (ap (items_of (belongs dims s d 1)) sent_none)
       ]
 
-  pub tells_run : (made : Made) → record { dims = round.dims; cap = round.cap; slots = round.slots; by_slots = round.by_slots } ≡ made → round.cap ≡ cap → IsRound round → TellsRun R starts n made manner round
-  tells_run made is same lawful =
+  pub tells_run : (made : Made) → record { dims = round.dims; cap = round.cap; slots = round.slots; by_slots = round.by_slots } ≡ made → round.cap ≡ cap → TellsRun R starts n made manner round
+  tells_run made is same =
       record {
         bank = is;
-        lawful = lawful;
         ended = λ l below. (out l below).ended;
         by_last = λ l below. (out l below).by_last;
         collected = collected;

@@ -5,7 +5,7 @@ use Rattle.bale_items.specs.declared.item.Item.{Item}
 use Rattle.route_tensor.specs.Grid.{ranks}
 use Rattle.route_tensor.specs.Link.{links}
 use Rattle.port_bank.specs.Logs.{lasts, EndsLast}
-use Rattle.port_bank.specs.Round.{Round, IsRound, logs_of, pushed, pulled}
+use Rattle.port_bank.specs.Round.{Round, logs_of, pushed, pulled}
 use Rattle.round_program.specs.Rules.{Rules}
 use Rattle.round_program.specs.Canonical.{absorbed_round, states_at, items_at, emitted_by}
 use Rattle.round_program.specs.Epochs.{vote_item}
@@ -26,8 +26,9 @@ vote_sent R None = []
 vote_sent R (Some s) = vote_item (R.vote s) ∷ []
 
 -- A closed round tells a run of n rounds that began in some states.
--- bank: it was made as asked. lawful: what holds of every closed round, pairs and their order among
--- it.
+-- What holds of every closed round is not said again: ClosedRound's ranks and epochs tell it
+-- (IsRound).
+-- bank: it was made as asked.
 -- ended, by_last: each link ended two epochs a round, and nothing came after them. collected: all
 -- parcels were.
 -- work: in epoch 2m each rank pushed toward each rank what it emits to it in round m of the
@@ -41,7 +42,6 @@ vote_sent R (Some s) = vote_item (R.vote s) ∷ []
 pub record TellsRun {S : Type 0} (R : Rules S) (starts : List S) (n : ℕ) (made : Made) (manner : Manner)
     (round : Round) : Type 0 where
   pub bank : record { dims = round.dims; cap = round.cap; slots = round.slots; by_slots = round.by_slots } ≡ made
-  pub lawful : IsRound round
   pub ended : (l : ℕ) → l < links round.dims → lasts (logs_of round.sent l) ≡ 2 * n
   pub by_last : (l : ℕ) → l < links round.dims → EndsLast (logs_of round.sent l)
   pub collected : (l : ℕ) → l < links round.dims → logs_of round.got l ≡ logs_of round.sent l

@@ -8,7 +8,8 @@ use Rattle.biconvey.specs.Driven.{HasExchanged}
 use Rattle.bale_runs.specs.Asking.{HasAsked}
 use Rattle.bale_runs.proofs.Exchanges.{is_slots}
 use Rattle.bale_runs.specs.Runs.{made_for}
-use Rattle.bale_runs.proofs.Heard.{all_heard, if_ok, told_replies}
+use Rattle.bale_runs.proofs.Heard.{all_heard, if_ok}
+use Rattle.bale_runs.proofs.Replied.{told_replies}
 use Rattle.bale_runs.proofs.asking.hear_on_threads.Given.{Over}
 use Rattle.bale_runs.proofs.asking.hear_on_threads.Goals.{In_ok-askers}
 use Rattle.bale_runs.proofs.asking.hear_on_threads.Goals as goal
@@ -33,7 +34,7 @@ returns g c =
     if_ok c.bi_threads.result (HasExchanged ig_talk c.in_ok-askers.askers (made_for false c.args.command.now) steady) (HasAsked c.args.m.now (made_for false c.args.command.now) steady)
     (λ run h. record {
       heard = all_heard c.args.m.now (ranks c.args.command.now.grid) c.in_ok-askers.askers run.progs (some g x) c.known.ensures (are g x) h.heard;
-      rounds = told_replies c.args.m.now (made_for false c.args.command.now) steady run.rounds c.in_ok-askers.askers (are g x) h.rounds;
+      rounds = told_replies c.args.m.now (made_for false c.args.command.now) steady run.rounds c.in_ok-askers.askers c.known.ensures (are g x) h.rounds;
     })
     c.bi_threads.ensures.exchanged
 

@@ -10,7 +10,8 @@ use Rattle.std.specs.List.{range_with_len}
 use Rattle.bale_runs.specs.Asking.{AskedInOrder, HasAsked}
 use Rattle.bale_runs.proofs.Exchanges.{is_slots}
 use Rattle.bale_runs.specs.Runs.{made_for}
-use Rattle.bale_runs.proofs.Heard.{all_heard, if_ok, one_each, told_replies}
+use Rattle.bale_runs.proofs.Heard.{all_heard, if_ok, one_each}
+use Rattle.bale_runs.proofs.Replied.{told_replies}
 use Rattle.bale_runs.proofs.Orders.{by_number, ordered}
 use Rattle.bale_runs.proofs.asking.hear_serially.Given.{Over}
 use Rattle.bale_runs.proofs.asking.hear_serially.Goals.{In_ok-askers}
@@ -40,7 +41,7 @@ returns-clause-asked g c =
     if_ok c.bi_serial.result (HasExchanged ig_talk c.in_ok-askers.askers (made_for true c.args.command.now) steady) (HasAsked c.args.m.now (made_for true c.args.command.now) steady)
     (λ run h. record {
       heard = all_heard c.args.m.now (ranks c.args.command.now.grid) c.in_ok-askers.askers run.progs (some g x) c.known.ensures (are g x) h.heard;
-      rounds = told_replies c.args.m.now (made_for true c.args.command.now) steady run.rounds c.in_ok-askers.askers (are g x) h.rounds;
+      rounds = told_replies c.args.m.now (made_for true c.args.command.now) steady run.rounds c.in_ok-askers.askers c.known.ensures (are g x) h.rounds;
     })
     c.bi_serial.ensures.exchanged
 

@@ -87,7 +87,7 @@ returns-clause-finished g c =
         c.in_ok-add.ensures.added ∙ ap (λ xs. xs ++ Slots c.close.result ∷ []) c.new-rounds.ensures,
         λ n rounds. subst (λ z. TellsRun R c.args.progs n made (manner_of c.args.via c.args.steady) z) (sym c.close.ensures.round)
             (tells_run R (g.met.Q.Program g.world.𝓛 g.world.𝓜 g.world.𝓡 ((λ s x. x), (λ x. x), (λ x. x), λ x. x)).laws c.closes_laws.ensures round g.row.CAP b.shape.slots (manner_of c.args.via c.args.steady) c.args.progs h (map (λ y. y.rank) ys) w order.in_order over
-            c.requires.run.begins.0 c.requires.run.begins.1 n start rounds made is refl order),
+            c.requires.run.begins.0 c.requires.run.begins.1 n start rounds made is refl),
       );
     }
 

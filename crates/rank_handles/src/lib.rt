@@ -20,8 +20,8 @@
 //! The definitions, in the order in which to read them: `Codes` (the numbers that C knows),
 //! `Seated` (a rank, and a call that makes a step), `Answers` (when each answer comes), `Calls`
 //! (what a call leaves), `Grouped` (a group, and a rank that was just made), `Handles` and `Shown`
-//! (what a handle has), `Many` (calls of many items), `Items`. `Kept`, `Cases`, `Holds`, `Lends` and
-//! `LendsRank` are the code's own.
+//! (what a handle has), `Many` (calls of many items), `Items`. `Kept`, `Cases`, `Holds`, `Lends`
+//! and `LendsRank` are the code's own.
 #![tactic(auto)]
 
 mod answer;

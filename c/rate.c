@@ -2,11 +2,12 @@
    and many a call, and through two exchanges written in C for this purpose alone. The one by hand:
    for each pair of ranks two slots and two counters, entries with a tag, buffers handed over by
    their pointers, and no step that is sequentially consistent. The protocol: the steps of
-   docs/SLOT_LINKS.md, which the library makes too, with its doorbells, in plain C. Each rank sends
-   so many items to ranks drawn by a random sequence, and sums up what comes. If
-   crates/measure_threads is built, it runs beside them, over the same conveyors without C. The ways
-   take turns, so that what else the machine does is shared out; the first turn isn't measured.
-   Median and best of the others.
+   docs/SLOT_LINKS.md, which the library makes too, with its doorbells, in plain C. If
+   crates/measure_threads is built, it runs beside them, over the same conveyors without C. By each
+   way each rank does the same: it sends so many items to the ranks and cells of a table, drawn by a
+   random sequence before, and counts what comes in its 1,024 cells. The ways take turns, so that
+   what else the machine does is shared out; the first turn isn't measured. Median and best of the
+   others.
    rate [items a rank, 4,000,000 [turns, 7 [ranks [buffer [way]]]]]; with ranks, buffer and way (0
    by hand, 1 the protocol, 2 one a call, 3 many a call, 4 measure_threads) that alone. */
 #define _POSIX_C_SOURCE 200809L
@@ -18,16 +19,38 @@
 #include <stdlib.h>
 #include <time.h>
 
-enum { MOST = 64, MOST_TURNS = 99, AT_ONCE = 1024, WAYS = 5 };
+enum { MOST = 64, MOST_TURNS = 99, AT_ONCE = 1024, CELLS = 1024, WAYS = 5 };
 
 static uint32_t many, capacity, items_each = 4000000;
 static int turns = 7;
 static const char *beside = NULL; /* measure_threads's program */
-static uint64_t sums[MOST][16]; /* each rank's on lines of its own */
 
-static inline uint32_t next_of(uint64_t *seed) {
+/* What each rank has to do, and what came for it. */
+typedef struct {
+    uint32_t to, cell;
+} target;
+
+typedef struct {
+    _Alignas(128) target *targets;
+    uint64_t *counts, check;
+} part;
+
+static part parts[MOST];
+
+static inline uint32_t next_of(uint64_t *seed, uint32_t below) {
     *seed = *seed * 6364136223846793005u + 1442695040888963407u;
-    return (uint32_t)(((*seed >> 33) * many) >> 31);
+    return (uint32_t)(((*seed >> 33) * below) >> 31);
+}
+
+static inline bale_item item_of(target aim, uint32_t number) {
+    return (bale_item){aim.cell, 1, number};
+}
+
+static inline void count(uint64_t *counts, uint64_t *check, uint32_t from, const bale_item *item) {
+    if (from < many && item->a < CELLS) {
+        counts[item->a] += item->b;
+        *check += item->c;
+    }
 }
 
 /* The exchange by hand. */
@@ -58,33 +81,31 @@ static hand_buffer new_buffer(void) {
 }
 
 static void *by_hand(void *arg) {
-    uint32_t me = (uint32_t)(size_t)arg, left = items_each, ended = 0, to = 0;
-    uint64_t seed = me + 1, sum = 0, posted[MOST] = {0}, taken[MOST] = {0};
+    uint32_t me = (uint32_t)(size_t)arg, all = items_each, at = 0, ended = 0;
+    const target *targets = parts[me].targets;
+    uint64_t *counts = parts[me].counts, check = 0, posted[MOST] = {0}, taken[MOST] = {0};
     bool closed[MOST] = {false}, over[MOST] = {false};
     hand_buffer open[MOST], at_hand[MOST];
     for (uint32_t r = 0; r < many; r++) {
         open[r] = new_buffer();
         at_hand[r] = new_buffer();
     }
-    to = next_of(&seed);
     uint32_t unsent = many;
     while (ended < many || unsent > 0) {
         bool moved = false;
-        while (left > 0 && open[to].count < capacity) {
+        for (hand_buffer *to; at < all && (to = &open[targets[at].to])->count < capacity; at++) {
             moved = true;
-            open[to].entries[open[to].count++] = (hand_entry){me, {left, me, to}};
-            to = next_of(&seed);
-            left--;
+            to->entries[to->count++] = (hand_entry){me, item_of(targets[at], at)};
         }
         for (uint32_t r = 0; r < many; r++) {
             hand_link *out = &links[me * many + r];
-            if (!closed[r] && (open[r].count == capacity || left == 0) &&
+            if (!closed[r] && (open[r].count == capacity || at == all) &&
                 posted[r] - atomic_load_explicit(&out->taken, memory_order_acquire) < 2) {
                 hand_buffer *slot = &out->slots[posted[r] % 2], spare = *slot;
                 moved = true;
-                open[r].last = left == 0;
+                open[r].last = at == all;
                 *slot = open[r];
-                closed[r] = left == 0;
+                closed[r] = at == all;
                 unsent -= closed[r];
                 spare.count = 0;
                 spare.last = false;
@@ -98,7 +119,7 @@ static void *by_hand(void *arg) {
                 *slot = at_hand[r];
                 atomic_store_explicit(&in->taken, ++taken[r], memory_order_release);
                 for (uint32_t k = 0; k < got.count; k++)
-                    sum += got.entries[k].item.a + got.entries[k].tag;
+                    count(counts, &check, got.entries[k].tag, &got.entries[k].item);
                 over[r] = got.last;
                 ended += got.last;
                 got.count = 0;
@@ -113,7 +134,7 @@ static void *by_hand(void *arg) {
         free(open[r].entries);
         free(at_hand[r].entries);
     }
-    sums[me][0] = sum;
+    parts[me].check = check;
     return NULL;
 }
 
@@ -195,8 +216,9 @@ static inline bool collect(uint32_t from, uint32_t to, in_end *end, ear *heard, 
 }
 
 static void *by_protocol(void *arg) {
-    uint32_t me = (uint32_t)(size_t)arg, left = items_each, unsent = many, unended = many;
-    uint64_t seed = me + 1, sum = 0;
+    uint32_t me = (uint32_t)(size_t)arg, all = items_each, at = 0, unsent = many, unended = many;
+    const target *targets = parts[me].targets;
+    uint64_t *counts = parts[me].counts, check = 0;
     hand_buffer open[MOST], came = new_buffer();
     bool closed[MOST] = {false}, over[MOST] = {false};
     out_end outs[MOST] = {{0, 0}};
@@ -204,32 +226,29 @@ static void *by_protocol(void *arg) {
     ear heard = {0, 0};
     for (uint32_t r = 0; r < many; r++)
         open[r] = new_buffer();
-    uint32_t to = next_of(&seed);
     while (unsent > 0 || unended > 0) {
         bool moved = false;
-        while (left > 0 && open[to].count < capacity) {
+        for (hand_buffer *to; at < all && (to = &open[targets[at].to])->count < capacity; at++) {
             moved = true;
-            open[to].entries[open[to].count++] = (hand_entry){me, {left, me, to}};
-            to = next_of(&seed);
-            left--;
+            to->entries[to->count++] = (hand_entry){me, item_of(targets[at], at)};
         }
         for (uint32_t r = 0; r < many; r++)
             if (!over[r] && collect(r, me, &ins[r], &heard, &came)) {
                 moved = true;
                 for (uint32_t k = 0; k < came.count; k++)
-                    sum += came.entries[k].item.a + came.entries[k].tag;
+                    count(counts, &check, came.entries[k].tag, &came.entries[k].item);
                 over[r] = came.last;
                 unended -= came.last;
                 came.count = 0;
                 came.last = false;
             }
         for (uint32_t r = 0; r < many; r++)
-            if (!closed[r] && (left == 0 || open[r].count == capacity)) {
-                open[r].last = left == 0;
+            if (!closed[r] && (at == all || open[r].count == capacity)) {
+                open[r].last = at == all;
                 if (!post(me, r, &outs[r], &open[r]))
                     continue;
                 moved = true;
-                closed[r] = left == 0;
+                closed[r] = at == all;
                 unsent -= closed[r];
                 open[r].count = 0;
                 open[r].last = false;
@@ -240,7 +259,7 @@ static void *by_protocol(void *arg) {
     for (uint32_t r = 0; r < many; r++)
         free(open[r].entries);
     free(came.entries);
-    sums[me][0] = sum;
+    parts[me].check = check;
     return NULL;
 }
 
@@ -280,38 +299,37 @@ static void free_protocol(void) {
 static bale_rank ranks[MOST];
 
 static void *one_a_call(void *arg) {
-    uint32_t me = (uint32_t)(size_t)arg, left = items_each, from;
-    uint64_t seed = me + 1, sum = 0;
+    uint32_t me = (uint32_t)(size_t)arg, all = items_each, at = 0, from;
+    const target *targets = parts[me].targets;
+    uint64_t *counts = parts[me].counts, check = 0;
     bale_rank *rank = &ranks[me];
     bale_begin(rank);
-    uint32_t to = next_of(&seed);
     int32_t state = BALE_MORE;
     while (state != BALE_COMPLETE) {
         bool moved = false;
-        while (left > 0) {
-            bale_item item = {left, me, to};
-            if (bale_push(rank, &item, to) != BALE_OK)
+        for (; at < all; at++) {
+            bale_item item = item_of(targets[at], at);
+            if (bale_push(rank, &item, targets[at].to) != BALE_OK)
                 break;
             moved = true;
-            to = next_of(&seed);
-            left--;
         }
-        state = bale_advance(rank, left == 0);
+        state = bale_advance(rank, at == all);
         bale_item item;
         while (bale_pull(rank, &item, &from) == BALE_OK) {
-            sum += item.a + from;
+            count(counts, &check, from, &item);
             moved = true;
         }
         if (!moved)
             sched_yield();
     }
-    sums[me][0] = sum;
+    parts[me].check = check;
     return NULL;
 }
 
 static void *many_a_call(void *arg) {
-    uint32_t me = (uint32_t)(size_t)arg, left = items_each;
-    uint64_t seed = me + 1, sum = 0;
+    uint32_t me = (uint32_t)(size_t)arg, all = items_each, at = 0;
+    const target *targets = parts[me].targets;
+    uint64_t *counts = parts[me].counts, check = 0;
     bale_rank *rank = &ranks[me];
     bale_item items[AT_ONCE], came[AT_ONCE];
     uint32_t to[AT_ONCE], from[AT_ONCE], ready = 0, start = 0;
@@ -321,12 +339,12 @@ static void *many_a_call(void *arg) {
     int32_t state = BALE_MORE;
     while (state != BALE_COMPLETE) {
         bool moved = false;
-        while (left > 0 || start < ready) {
+        while (at < all || start < ready) {
             if (start == ready) {
                 start = 0;
-                for (ready = 0; ready < at_once && left > 0; ready++, left--) {
-                    to[ready] = next_of(&seed);
-                    items[ready] = (bale_item){left, me, to[ready]};
+                for (ready = 0; ready < at_once && at < all; ready++, at++) {
+                    to[ready] = targets[at].to;
+                    items[ready] = item_of(targets[at], at);
                 }
             }
             int64_t pushed = bale_push_many(rank, items + start, ready - start, to + start, ready - start);
@@ -337,18 +355,50 @@ static void *many_a_call(void *arg) {
             if (start < ready)
                 break;
         }
-        state = bale_advance(rank, left == 0 && start == ready);
+        state = bale_advance(rank, at == all && start == ready);
         int64_t pulled;
         while ((pulled = bale_pull_many(rank, came, AT_ONCE, from, AT_ONCE)) > 0) {
             for (int64_t k = 0; k < pulled; k++)
-                sum += came[k].a + from[k];
+                count(counts, &check, from[k], &came[k]);
             moved = true;
         }
         if (!moved)
             sched_yield();
     }
-    sums[me][0] = sum;
+    parts[me].check = check;
     return NULL;
+}
+
+static void *memory_of(size_t size) {
+    void *memory = malloc(size);
+    if (memory == NULL)
+        exit(1);
+    return memory;
+}
+
+/* Draws the targets of a rank, and touches all memory of its part. */
+static void begin_part(uint32_t rank) {
+    uint64_t seed = rank + 1;
+    part *p = &parts[rank];
+    p->targets = memory_of(items_each * sizeof(target));
+    p->counts = memory_of(CELLS * sizeof(uint64_t));
+    for (uint32_t i = 0; i < items_each; i++) {
+        p->targets[i].to = next_of(&seed, many);
+        p->targets[i].cell = next_of(&seed, CELLS);
+    }
+    for (uint32_t c = 0; c < CELLS; c++)
+        p->counts[c] = 0;
+}
+
+/* A number of what came for a rank, whose part is over. */
+static uint64_t sum_of(uint32_t rank) {
+    part *p = &parts[rank];
+    uint64_t sum = p->check;
+    for (uint64_t c = 0; c < CELLS; c++)
+        sum += p->counts[c] * (rank * (uint64_t)CELLS + c + 1);
+    free(p->targets);
+    free(p->counts);
+    return sum;
 }
 
 static double seconds(void) {
@@ -431,10 +481,12 @@ static double turn_of(int way, uint64_t *wanted) {
     static void *(*const works[])(void *) = {by_hand, by_protocol, one_a_call, many_a_call};
     if (way == WAYS - 1)
         return from_beside();
+    for (uint32_t r = 0; r < many; r++)
+        begin_part(r);
     double rate = one_run(works[way]);
     uint64_t sum = 0;
     for (uint32_t r = 0; r < many; r++)
-        sum += sums[r][0];
+        sum += sum_of(r);
     if (*wanted == 0)
         *wanted = sum;
     else if (sum != *wanted) {

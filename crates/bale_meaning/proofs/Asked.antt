@@ -24,7 +24,7 @@ use Rattle.bale_words.specs.declared.command.Command.{Command}
 use Rattle.bale_words.specs.declared.command.Generated.{Generated}
 use Rattle.bale_words.specs.declared.task.Task.{Task}
 use Rattle.bale_words.specs.declared.task.Task.TheVariants as task
-use Rattle.bale_words.specs.Ranges.{CanGenerate, MayGenerate, InRanges}
+use Rattle.bale_words.specs.Ranges.{CanGenerate, MayGenerate}
 use Rattle.bale_subjects.specs.declared.subject.Subject.TheVariants as subject
 use Rattle.bale_subjects.specs.Fitness.{task_unfitness, unfitness}
 use Rattle.bale_subjects.specs.Subjects.{is_tally, matrix_asked, of_lines, of_matrix, subject_asked}
@@ -91,12 +91,12 @@ is_matrix : (r : Result Sparse BadLine) (m : Sparse) → of_matrix r ≡ Ok (sub
 is_matrix (Ok k) m h = (let same : k ≡ m = cc in ap (λ w. Ok w) same)
 is_matrix (Err b) m h = absurd (cc)
 
-pub matrix_is : (text : List ℕ) (c : Command) (m : Sparse) → InRanges c → subject_asked c text ≡ Ok (subject.Matrix m) → IsSparse m
-matrix_is text c m ranges read =
+pub matrix_is : (text : List ℕ) (c : Command) (m : Sparse) → MayGenerate c.travel.generated → subject_asked c text ≡ Ok (subject.Matrix m) → IsSparse m
+matrix_is text c m may read =
     elim (cases_Bool (is_tally c.task)) [
       | inl t ↦ absurd (no_matrix (lines_of_text text) m (sym (ap (λ b. if b then of_lines (lines_of_text text) else of_matrix (matrix_asked c.travel.generated text)) t) ∙ read))
       | inr f ↦
-          asked_of c.travel.generated text m ranges.travel.generated
+          asked_of c.travel.generated text m may
           (is_matrix (matrix_asked c.travel.generated text) m (sym (ap (λ b. if b then of_lines (lines_of_text text) else of_matrix (matrix_asked c.travel.generated text)) f) ∙ read))
     ]
 

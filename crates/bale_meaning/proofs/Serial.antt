@@ -1,23 +1,21 @@
 -- What each task's answer means, from what was asked.
 use Rattle.std.proofs.Common.{◌≡◌, ℕ, Bool, List, Option, Some, None, inl, inr, refl, sym, ap, ◌∙◌, subst}
-use Rattle.std.specs.Prelude.{Result, Ok}
+use Rattle.std.specs.Prelude.{Result}
 use Rattle.mtx_text.specs.Sparse.{Sparse, IsSparse}
 use Rattle.app_topo.specs.Levels.{Claim, topo_order}
 use Rattle.bale_words.specs.declared.command.Command.{Command}
 use Rattle.bale_words.specs.declared.task.Task.{Task}
 use Rattle.bale_words.specs.declared.task.Task.TheVariants as task
-use Rattle.bale_words.specs.Ranges.{InRanges}
 use Rattle.bale_words.proofs.Within.{in_ranges}
 use Rattle.bale_subjects.specs.declared.refusal.Refusal.{Refusal}
 use Rattle.bale_subjects.specs.declared.subject.Subject.{Subject}
 use Rattle.bale_subjects.specs.declared.subject.Subject.TheVariants as subject
-use Rattle.bale_subjects.specs.Fitness.{task_unfitness, unfitness}
+use Rattle.bale_subjects.specs.Fitness.{task_unfitness}
 use Rattle.bale_subjects.specs.Numberings.{perms_for}
-use Rattle.bale_subjects.specs.Subjects.{subject_asked}
-use Rattle.bale_answers.specs.Answer.{serial_answer, answer_to, answer_for, answer_by}
+use Rattle.bale_answers.specs.Answer.{answer_to, answer_for, answer_by}
 use Rattle.bale_answers.specs.Needs.{CanMove}
 use Rattle.bale_answers.specs.Orders.{order_status, order_text}
-use Rattle.bale_answers.specs.Tasks.{IsAnswer, MatrixMeans, Means, task_status}
+use Rattle.bale_answers.specs.Tasks.{IsAnswer, MatrixMeans, task_status}
 use Rattle.bale_answers.proofs.Moving.{moves}
 use Rattle.app_histo_ig.specs.Meanings.{HistoMeans, IgMeans}
 use Rattle.app_permute.specs.Meanings.{PermuteMeans, TransposeMeans}
@@ -25,18 +23,10 @@ use Rattle.app_permute.proofs.Meanings.{permute_means, transpose_means}
 use Rattle.app_topo.specs.Meanings.{TopoMeans}
 use Rattle.app_topo.proofs.Meanings.{IsFound, found, none}
 use Rattle.app_tally.specs.Meanings.{TallyMeans}
-use Rattle.bale_meaning.specs.Laws.{Answers, AnswerLaw}
+use Rattle.bale_meaning.specs.Laws.{AnswerLaw, WordsLaw}
 use Rattle.bale_meaning.proofs.Asked.{matrix_is, tally_is, task_fits, square, IsWalked, walked}
 use Rattle.bale_meaning.proofs.Columns.{histo_means, ig_means}
 use Rattle.bale_meaning.proofs.Tallies.{tally_means}
-
--- the status of what was asked
-status_asked : (serial : Command → Bool) (words : List (List ℕ)) (text : List ℕ) (c : Command) (s : Subject) (bytes : List ℕ) → Answers serial words text c s bytes
-    → (serial_answer serial words text).status ≡ task_status c.task s
-status_asked serial words text c s bytes a =
-    ap (λ (o : Option Command). (answer_to serial o text).status) a.asked
-    ∙ ap (λ (r : Result Subject Refusal). (answer_for (serial c) c r).status) a.read
-    ∙ ap (λ u. (answer_by (task_status c.task s) u).status) a.fits
 
 -- topo's order, or that there is none
 order_means : (m : Sparse) (o : Option (List Claim)) → IsSparse m → m.rows ≡ m.cols → topo_order m.rows m.entries ≡ o → TopoMeans m (order_status o) (order_text o)
@@ -72,14 +62,17 @@ matrix_means (task.Sssp source delta) m serial bytes is fits a =
     record { square = w.square; weights = w.weights; some = w.some; vertex = w.vertex; least = a }
 matrix_means task.Tally m serial bytes is fits a = absurd a
 
--- what a command asks of a text, where it fits and its numbers are in their ranges
-pub means_of : (c : Command) (text : List ℕ) (s : Subject) (serial : Bool) (bytes : List ℕ) → InRanges c → subject_asked c text ≡ Ok s → unfitness c s serial ≡ None
-    → IsAnswer c.task s bytes → Means c.task s (task_status c.task s) bytes
-means_of c text (subject.Matrix m) serial bytes ranges read fits a =
-    matrix_means c.task m serial bytes (matrix_is text c m ranges read) (task_fits c m serial fits) a
-means_of c text (subject.Lines lines) serial bytes ranges read fits a = (tally_is c text lines read, subst (TallyMeans lines) (sym a) (tally_means lines))
-
 pub means : AnswerLaw
-means serial words text c s bytes a =
-    subst (λ n. Means c.task s n bytes) (sym (status_asked serial words text c s bytes a))
-    (means_of c text s (serial c) bytes (in_ranges words c a.asked) a.read a.fits a.answers)
+means c text serial (subject.Matrix m) bytes a =
+    matrix_means c.task m serial bytes (matrix_is text c m a.generates a.read) (task_fits c m serial a.fits) a.answers
+means c text serial (subject.Lines lines) bytes a = (tally_is c text lines a.read, subst (TallyMeans lines) (sym a.answers) (tally_means lines))
+
+-- ---- Words
+
+pub of_words : WordsLaw
+of_words serial words text c s asked read fits = (
+  (in_ranges words c asked).travel.generated,
+  ap (λ (o : Option Command). (answer_to serial o text).status) asked
+      ∙ ap (λ (r : Result Subject Refusal). (answer_for (serial c) c r).status) read
+      ∙ ap (λ u. (answer_by (task_status c.task s) u).status) fits,
+)

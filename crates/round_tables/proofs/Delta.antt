@@ -1,11 +1,12 @@
 -- The rounds of delta-stepping.
-use Rattle.std.proofs.Common.{◌≡◌, ◌≢◌, ℕ, zero, suc, ◌+◌, ◌-◌, ◌*◌, ◌/◌, ◌%◌, ◌^◌, ◌<◌, ◌≤◌, ◌==◌, ◌&&◌, min, Bool, true, false, cond, List, [], ◌∷◌, Some, None, length, get_or, slice_get, sum_by, All, arith, inl, inr, refl, sym, ap, ◌∙◌, subst, lit<}
+use Rattle.std.proofs.Common.{◌≡◌, ◌≢◌, ℕ, zero, suc, ◌+◌, ◌-◌, ◌*◌, ◌/◌, ◌%◌, ◌^◌, ◌<◌, ◌≤◌, ◌==◌, ◌&&◌, min, Bool, true, false, cond, List, [], ◌∷◌, Some, None, length, map, get_or, slice_get, sum_by, All, arith, inl, inr, refl, sym, ap, ◌∙◌, subst, lit<}
 use Rattle.std.specs.Prelude.{Contains, nat_lt, not, if◌then◌else◌}
 use Rattle.std.specs.List.{range_with_len}
 use Rattle.std.proofs.Math.Nat.{mod-lt, mul-le-mul}
 use Rattle.std.proofs.lemmas.Bool.{cases_Bool, cases_eq, cases_lt, eq-eqb, ne_eqb, lt-ltb, le-ltb, false≢true}
 use Rattle.std.proofs.lemmas.Nat.{div-mul-add, mod-mul-add}
 use Rattle.std.proofs.lemmas.List.{length-map}
+use Rattle.std.proofs.lemmas.List.FromFn.{length-map-range_with_len}
 use Rattle.std.proofs.lemmas.List.Sums.{sum_by-le, get_or-le-sum_by}
 use Rattle.std.proofs.lemmas.Option.{get_or_from_slice_get}
 use Rattle.list_laws.proofs.Lists.{within, get_once, got_map, all_from_gets}
@@ -33,9 +34,12 @@ use Rattle.sparse_rows.specs.Emits.{Emit}
 use Rattle.round_tables.specs.Sssp.{to_rows}
 use Rattle.round_tables.specs.Delta.{Look, is_light, is_active, some_active, next_phase, next_of, Finds, Changes, line_in, HasDeltaRounds, DeltaRounds}
 use Rattle.sparse_rows.proofs.Emitted.{emit_made, emit_each}
-use Rattle.round_tables.proofs.SsspLists.{in_range_list}
+use Rattle.round_tables.specs.Tables.{IsDeltaTable, delta_line, delta_vote}
+use Rattle.round_tables.specs.Follows.{HasTable}
+use Rattle.round_tables.proofs.Votes.{vote_each}
+use Rattle.round_tables.proofs.SsspLists.{in_range_list, vertex_in, own_vertices as own_by_place}
 use Rattle.round_tables.proofs.DeltaLists.{any_there, there_any}
-use Rattle.round_tables.proofs.DeltaSteps.{all, look, all_in, rank_at, low_rank, phase_is, Known, Stepped, active_in, to_light, to_heavy, ToFind, to_find}
+use Rattle.round_tables.proofs.DeltaSteps.{all, look, all_in, rank_at, low_rank, phase_is, size_is, marks, picked_is, pending_in, Known, Stepped, active_in, to_light, to_heavy, ToFind, to_find}
 
 module _ (ranks : ℕ) (m : Sparse) (source width : ℕ) (some : 0 < ranks) (few : ranks ≤ 64) (positive : 0 < width) (narrow : width ≤ 1_000_000_000_000) (g : IsGraph m) (source_in : source < m.rows) where
   abbrev starts : List DeltaState
@@ -310,6 +314,67 @@ module _ (ranks : ℕ) (m : Sparse) (source width : ℕ) (some : 0 < ranks) (few
             subst (λ k. Emit delta_rules starts k ranks (line_in (next_of m width (sees n)) ranks m width (sees n))) (one n)
             (emit_each delta_rules starts (suc n) ranks (line_in (next_of m width (sees n)) ranks m width (sees n)) (length-map (full n) _ ∙ (full_in n (omega arith)).size) (step n (omega arith)).sent);
       }
+
+  -- ---- The votes
+
+  vote_on : (n : ℕ) → suc n < 2 ^ 60 → Knows (suc n) → (p : Phase) → (sees (suc n)).phase ≡ p → (r : ℕ) (s : DeltaState) → slice_get (full (suc n)) r ≡ Some s
+      → vote_in p s ≡ delta_vote p ranks m width (sees (suc n)) r
+  vote_on n l k First is r s at = refl
+  vote_on n l k Heavy is r s at = refl
+  vote_on n l k Find is r s at =
+      let low : r < ranks = low_rank ranks m source width some few positive narrow g source_in (suc n) (omega arith) r s at in
+      sym (length-map (marked s.vertices) (vertex_in ranks r))
+      ∙ ap (λ ps. length (map (vertex_in ranks r) ps)) (marks ranks m source width some few positive narrow g source_in (suc n) (omega arith) r s at (size_is ranks m source width some few positive narrow g source_in (suc n) (omega arith) k.static r s at))
+      ∙ ap length (own_by_place ranks r m.rows (sees (suc n)).pending low (pending_in ranks m source width some few positive narrow g source_in (suc n) k))
+  vote_on n l k Light is r s at =
+      let low : r < ranks = low_rank ranks m source width some few positive narrow g source_in (suc n) (omega arith) r s at in
+      let active : ℕ → Bool = is_active width (sees (suc n)) in
+      ap (λ c. 1 + c)
+      (sym (length-map (picked (in_bucket s.width s.bucket) s.vertices) (vertex_in ranks r))
+      ∙ ap (λ ps. length (map (vertex_in ranks r) ps)) (picked_is ranks m source width some few positive narrow g source_in (suc n) (omega arith) k r s at)
+      ∙ ap length (own_by_place ranks r m.rows active low (active_in ranks m source width some few positive narrow g source_in (suc n) k)))
+
+  vote_is : (n : ℕ) → n < 2 ^ 60 → (r : ℕ) (s : DeltaState) → slice_get (full n) r ≡ Some s → delta_rules.vote s ≡ delta_vote (sees n).phase ranks m width (sees n) r
+  vote_is zero l r s at =
+      ap (λ (u : DeltaState). vote_in u.phase u) (first_is r s at) ∙ sym (ap (λ p. delta_vote p ranks m width (sees 0) r) first_phase)
+  vote_is (suc n) l r s at =
+      let k : Knows (suc n) = known_at n (omega arith) in
+      ap (λ p. vote_in p s) (k.phase r s at) ∙ vote_on n l k (sees (suc n)).phase refl r s at
+
+  pub delta_table : HasTable delta_rules starts ranks (IsDeltaTable ranks m source width)
+  unfolding table
+  delta_table =
+      let tall : m.rows ≤ 16384 = g.matrix.tall in
+      let most : m.rows * (m.rows + 2) ≤ 16384 * 16386 = mul-le-mul tall (let k : m.rows + 2 ≤ 16386 = omega arith in k) in
+      let bound : table.last ≤ m.rows * (m.rows + 2) + 1 = table.few in
+      record {
+        table = record { rounds = table.last + 1; line = delta_line ranks m width sees; vote = λ n. delta_vote (sees n).phase ranks m width (sees n) };
+        is =
+            record {
+              look = sees;
+              begins = table.begins;
+              source_found = table.source_found;
+              source_pending = table.source_pending;
+              last = table.last;
+              phases = table.phases;
+              changes = table.changes;
+              some = table.some;
+              over = table.over;
+              none = table.none;
+              is = refl;
+            };
+        follows =
+            record {
+              has_rounds = table.rounds;
+              sent = sends;
+              voted = λ n low. vote_each delta_rules starts n ranks (delta_vote (sees n).phase ranks m width (sees n)) (length-map-range_with_len (delta_begins ranks m source width) 0 ranks) (λ r s inside at. vote_is n (omega arith) r s at);
+            };
+      }
+    where
+      sends : (n : ℕ) → n < table.last + 1 → Emit delta_rules starts n ranks (delta_line ranks m width sees n)
+      sends zero low = table.entries_sent
+      sends (suc k) low =
+          subst (λ n. Emit delta_rules starts n ranks (line_in (next_of m width (sees k)) ranks m width (sees k))) (let z : k + 1 ≡ suc k = omega arith in z) (table.sent k (omega arith))
 
 pub delta : DeltaRounds
 delta ranks m source width some few positive narrow g source_in = table ranks m source width some few positive narrow g source_in

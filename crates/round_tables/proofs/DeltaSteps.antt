@@ -161,12 +161,12 @@ module _ (ranks : ℕ) (m : Sparse) (source width : ℕ) (some : 0 < ranks) (few
       let low : j < ranks = low_rank n l j s at in
       ap (λ q. get_or s.vertices q unreached) (sym (div-mul-add p ranks j low)) ∙ sym (at_vertex ranks (all n) j s (vertex_in ranks j p) at (mod-mul-add p ranks j low))
 
-  size_is : (n : ℕ) → n < 2 ^ 62 → Static m.entries m.rows width ranks (all n) → (j : ℕ) (s : DeltaState) → slice_get (all n) j ≡ Some s → length s.vertices ≡ places_for ranks m.rows
+  pub size_is : (n : ℕ) → n < 2 ^ 62 → Static m.entries m.rows width ranks (all n) → (j : ℕ) (s : DeltaState) → slice_get (all n) j ≡ Some s → length s.vertices ≡ places_for ranks m.rows
   size_is n l static j s at =
       let member = (all_in n l).each j s at in
       member.valid.places ∙ ap (λ p. places_for p s.rows) member.all_ranks ∙ ap (places_for ranks) (static.size j s at)
 
-  marks : (n : ℕ) → n < 2 ^ 62 → (j : ℕ) (s : DeltaState) → slice_get (all n) j ≡ Some s → length s.vertices ≡ places_for ranks m.rows
+  pub marks : (n : ℕ) → n < 2 ^ 62 → (j : ℕ) (s : DeltaState) → slice_get (all n) j ≡ Some s → length s.vertices ≡ places_for ranks m.rows
       → marked s.vertices ≡ filter (λ p. (look n).pending (vertex_in ranks j p)) (range_with_len 0 (places_for ranks m.rows))
   marks n l j s at size =
       marks_are (λ p. (look n).pending (vertex_in ranks j p)) 0 s.vertices (λ i inside.
@@ -196,7 +196,7 @@ module _ (ranks : ℕ) (m : Sparse) (source width : ℕ) (some : 0 < ranks) (few
       ∙ ap (λ b. (look n).pending (vertex_in ranks j p) && weight_in width b (get_or s.vertices p unreached).weight) (k.bucket j s at)
       ∙ ap (λ (x : Vertex). (look n).pending (vertex_in ranks j p) && weight_in width (look n).bucket x.weight) (vertex_is n l j s at p)
 
-  picked_is : (n : ℕ) → n < 2 ^ 62 → Known n → (j : ℕ) (s : DeltaState) → slice_get (all n) j ≡ Some s
+  pub picked_is : (n : ℕ) → n < 2 ^ 62 → Known n → (j : ℕ) (s : DeltaState) → slice_get (all n) j ≡ Some s
       → picked (test_of s) s.vertices ≡ filter (λ p. is_active width (look n) (vertex_in ranks j p)) (range_with_len 0 (places_for ranks m.rows))
   picked_is n l k j s at =
       sym (picks_all (test_of s) s.vertices)
@@ -204,8 +204,11 @@ module _ (ranks : ℕ) (m : Sparse) (source width : ℕ) (some : 0 < ranks) (few
       ∙ filter_filter (λ q. test_of s (get_or s.vertices q unreached)) (λ p. (look n).pending (vertex_in ranks j p)) (range_with_len 0 (places_for ranks m.rows))
       ∙ filter_agree _ _ (active_is n l k j s at) (range_with_len 0 (places_for ranks m.rows))
 
+  pub pending_in : (n : ℕ) → Known n → (v : ℕ) → (look n).pending v ≡ true → v < m.rows
+  pending_in n k v is = (let w = k.weighed v is in k.inside v w.0 w.1)
+
   pub active_in : (n : ℕ) → Known n → (v : ℕ) → is_active width (look n) v ≡ true → v < m.rows
-  active_in n k v is = (let w = k.weighed v (and_parts ((look n).pending v) (weight_in width (look n).bucket ((look n).found v)) is).0 in k.inside v w.0 w.1)
+  active_in n k v is = pending_in n k v (and_parts ((look n).pending v) (weight_in width (look n).bucket ((look n).found v)) is).0
 
   -- a rank keeps its edges
   kept_lit : (s u : DeltaState) (vs : List Vertex) (j : ℕ) → s ≡ record (activated u) { vertices = vs } → u.light ≡ light_of j → u.heavy ≡ heavy_of j → (s.light ≡ light_of j) × (s.heavy ≡ heavy_of j)

@@ -1,11 +1,12 @@
 -- The rounds of sssp.
-use Rattle.std.proofs.Common.{◌≡◌, ◌≢◌, ℕ, suc, ◌+◌, ◌-◌, ◌*◌, ◌/◌, ◌%◌, ◌^◌, ◌<◌, ◌≤◌, ◌==◌, Bool, true, false, cond, List, [], ◌∷◌, Option, Some, length, map, get_or, slice_get, sum_by, All, arith, inl, inr, refl, sym, ap, ap₂, ◌∙◌, subst}
+use Rattle.std.proofs.Common.{◌≡◌, ◌≢◌, ℕ, zero, suc, ◌+◌, ◌-◌, ◌*◌, ◌/◌, ◌%◌, ◌^◌, ◌<◌, ◌≤◌, ◌==◌, Bool, true, false, cond, List, [], ◌∷◌, Option, Some, length, map, get_or, slice_get, sum_by, All, arith, inl, inr, refl, sym, ap, ap₂, ◌∙◌, subst}
 use Rattle.std.specs.Prelude.{◌||◌, not, Contains}
 use Rattle.std.specs.List.{filter, flat_map, range_with_len}
 use Rattle.std.proofs.Math.Nat.{mod-lt}
 use Rattle.std.proofs.lemmas.Bool.{cases_Bool, cases_eq, eq-eqb, ne_eqb, false≢true}
 use Rattle.std.proofs.lemmas.Nat.{div-mul-add, mod-mul-add}
 use Rattle.std.proofs.lemmas.List.{length-map}
+use Rattle.std.proofs.lemmas.List.FromFn.{length-map-range_with_len}
 use Rattle.std.proofs.lemmas.List.Elements.{All-filter}
 use Rattle.std.proofs.lemmas.List.Folds.{flat_map-map}
 use Rattle.std.proofs.lemmas.List.Sorted.{All-permutation}
@@ -33,6 +34,9 @@ use Rattle.app_sssp.proofs.Begins.{graph_edges, own_edges, has_place}
 use Rattle.app_sssp.proofs.Ends.{run_ends, when_over}
 use Rattle.sparse_rows.specs.Emits.{Emit}
 use Rattle.round_tables.specs.Sssp.{SsspRounds, HasSsspRounds, to_rows, improves, improved_with, offered, offers}
+use Rattle.round_tables.specs.Tables.{IsSsspTable, sssp_line, sssp_vote}
+use Rattle.round_tables.specs.Follows.{HasTable}
+use Rattle.round_tables.proofs.Votes.{vote_each}
 use Rattle.sparse_rows.proofs.Emitted.{emit_made, emit_each}
 use Rattle.round_tables.proofs.SsspFound.{over, at, found, over_in, run, small, least_within, fresh_is, fresh_in, source_fresh, table_is}
 use Rattle.round_tables.proofs.SsspLists.{flat_on, in_range_list, marks_are, vertex_in, own_vertices, IsLight, own_edges_are, offers_are}
@@ -89,8 +93,9 @@ module _ (ranks : ℕ) (m : Sparse) (source : ℕ) (some : 0 < ranks) (g : IsGra
       ap₂ (λ (o : Option ℕ) es. offers_from o es) weight edges
       ∙ offers_are ranks (weights k h) (filter (λ t. t.i == h) (gathered m.entries)) (small ranks m source some g source_in k l h) (All-filter (λ t. t.i == h) IsLight (gathered m.entries) light)
 
-  sent : (k : ℕ) → k ≤ 16384 → (r : ℕ) (u : SsspState) → slice_get (all k) r ≡ Some u → offers_by_place (table_after u) (map calm u.vertices) (marked u.vertices) ≡ offers ranks m weights k r
-  sent k l r u here =
+  -- own vertices that improve with k edges
+  own_improved : (k : ℕ) → k ≤ 16384 → (r : ℕ) (u : SsspState) → slice_get (all k) r ≡ Some u → map (vertex_in ranks r) (marked u.vertices) ≡ dealt (λ i. i % ranks) r (improved_with m weights k)
+  own_improved k l r u here =
       let low : r < ranks = subst (λ n. r < n) (in_all k (omega arith)).size (within (all k) r u here) in
       let marks : marked u.vertices ≡ filter (λ p. improves weights k (vertex_in ranks r p)) (range_with_len 0 (places_for ranks m.rows)) =
       marks_are (λ p. improves weights k (vertex_in ranks r p)) 0 u.vertices (λ i inside.
@@ -98,13 +103,15 @@ module _ (ranks : ℕ) (m : Sparse) (source : ℕ) (some : 0 < ranks) (g : IsGra
       ∙ sym (fresh_is ranks m source some g source_in k (omega arith) (vertex_in ranks r i))
       ∙ sym (ap (λ (x : Vertex). x.improved) (vertex_is k l r u here i)))
       ∙ ap (λ n. filter (λ p. improves weights k (vertex_in ranks r p)) (range_with_len 0 n)) (size_is k l r u here) in
-      let own : map (vertex_in ranks r) (marked u.vertices) ≡ dealt (λ i. i % ranks) r (improved_with m weights k) =
       ap (map (vertex_in ranks r)) marks
-      ∙ own_vertices ranks r m.rows (improves weights k) low (λ v is. fresh_in ranks m source some g source_in k (omega arith) v (fresh_is ranks m source some g source_in k (omega arith) v ∙ is)) in
+      ∙ own_vertices ranks r m.rows (improves weights k) low (λ v is. fresh_in ranks m source some g source_in k (omega arith) v (fresh_is ranks m source some g source_in k (omega arith) v ∙ is))
+
+  sent : (k : ℕ) → k ≤ 16384 → (r : ℕ) (u : SsspState) → slice_get (all k) r ≡ Some u → offers_by_place (table_after u) (map calm u.vertices) (marked u.vertices) ≡ offers ranks m weights k r
+  sent k l r u here =
       flat_on (offers_at (table_after u) (map calm u.vertices)) (λ p. told k (vertex_in ranks r p)) (marked u.vertices)
       (λ i d lo. one_place k l r u here (get_or (marked u.vertices) i d) (let below : get_or (marked u.vertices) i d < 0 + length u.vertices = marked_below 0 u.vertices i d lo in omega arith))
       ∙ sym (flat_map-map (told k) (vertex_in ranks r) (marked u.vertices))
-      ∙ ap (flat_map (told k)) own
+      ∙ ap (flat_map (told k)) (own_improved k l r u here)
 
   offers_sent : (k : ℕ) → k ≤ 16384 → (r : ℕ) (s : SsspState) → slice_get (states_at sssp_rules starts (suc k)) r ≡ Some s → s.outgoing ≡ offers ranks m weights k r
   offers_sent k l r s there =
@@ -115,6 +122,12 @@ module _ (ranks : ℕ) (m : Sparse) (source : ℕ) (some : 0 < ranks) (g : IsGra
 
   vote_later : (s : SsspState) → s.round ≢ 0 → sssp_rules.vote s ≡ length (marked s.vertices)
   vote_later s n = ap (λ b. cond b 0 (length (marked s.vertices))) (ne_eqb s.round 0 n)
+
+  vote_is : (k : ℕ) → k ≤ 16384 → (r : ℕ) (u : SsspState) → slice_get (all k) r ≡ Some u → sssp_rules.vote u ≡ sssp_vote ranks m weights k r
+  vote_is zero l r u here = ap (λ b. cond b 0 (length (marked u.vertices))) (eq-eqb u.round 0 ((in_all 0 (omega arith)).each r u here).same_round)
+  vote_is (suc k) l r u here =
+      let round : u.round ≡ suc k = ((in_all (suc k) (omega arith)).each r u here).same_round in
+      vote_later u (λ z. absurd (omega arith)) ∙ sym (length-map (marked u.vertices) (vertex_in ranks r)) ∙ ap length (own_improved (suc k) l r u here)
 
   none_voted : (k : ℕ) → 1 ≤ k → k ≤ 16384 → votes_at sssp_rules starts k ≡ 0 → (v : ℕ) → fresh k v ≡ false
   none_voted k late l none v =
@@ -201,6 +214,26 @@ module _ (ranks : ℕ) (m : Sparse) (source : ℕ) (some : 0 < ranks) (g : IsGra
                   | inr some' ↦ absurd (false≢true (sym stops ∙ ap (λ b. b || not (votes_at sssp_rules starts k == 0)) (ne_eqb k 0 late) ∙ ap not (ne_eqb (votes_at sssp_rules starts k) 0 some')))
                 ]
           ]
+
+  pub sssp_table : HasTable sssp_rules starts ranks (IsSsspTable ranks m source)
+  unfolding table
+  sssp_table =
+      let tall : m.rows ≤ 16384 = g.matrix.tall in
+      let few : table.last ≤ m.rows = table.few in
+      record {
+        table = record { rounds = table.last + 1; line = sssp_line ranks m weights; vote = sssp_vote ranks m weights };
+        is = record { found = weights; least = table.least; last = table.last; few = table.few; some = table.some; none = table.none; is = refl };
+        follows =
+            record {
+              has_rounds = table.rounds;
+              sent = sends;
+              voted = λ n low. vote_each sssp_rules starts n ranks (sssp_vote ranks m weights n) (length-map-range_with_len (sssp_begins ranks m source) 0 ranks) (λ r s inside at. vote_is n (omega arith) r s at);
+            };
+      }
+    where
+      sends : (n : ℕ) → n < table.last + 1 → Emit sssp_rules starts n ranks (sssp_line ranks m weights n)
+      sends zero low = table.entries_sent
+      sends (suc k) low = subst (λ n. Emit sssp_rules starts n ranks (offers ranks m weights k)) (let z : k + 1 ≡ suc k = omega arith in z) (table.offers_sent k (omega arith))
 
 pub sssp : SsspRounds
 sssp ranks m source some g source_in = table ranks m source some g source_in

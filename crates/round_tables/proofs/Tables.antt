@@ -7,12 +7,12 @@ use Rattle.round_program.specs.Rules.{Rules}
 use Rattle.round_program.specs.Canonical.{HasRounds}
 use Rattle.sparse_rows.specs.Emits.{Emit}
 use Rattle.round_tables.specs.Tables.{one_round, three_rounds}
-use Rattle.round_tables.specs.Follows.{Follows}
+use Rattle.round_tables.specs.Follows.{FollowsTable}
 use Rattle.round_tables.proofs.Votes.{vote_each}
 
 pub follows_one : {S : Type 0} (R : Rules S) (ranks : ℕ) (begins : ℕ → S) (line : ℕ → List (ℕ × Item)) → ((s : S) → R.vote s ≡ 0)
     → HasRounds R (map begins (range_with_len 0 ranks)) 1 → Emit R (map begins (range_with_len 0 ranks)) 0 ranks line
-    → Follows R (map begins (range_with_len 0 ranks)) ranks (one_round line)
+    → FollowsTable R (map begins (range_with_len 0 ranks)) ranks (one_round line)
 follows_one {S} R ranks begins line none rounds sent =
     let starts : List S = map begins (range_with_len 0 ranks) in
     record {
@@ -24,7 +24,7 @@ follows_one {S} R ranks begins line none rounds sent =
 pub follows_three : {S : Type 0} (R : Rules S) (ranks : ℕ) (begins : ℕ → S) (a b c : ℕ → List (ℕ × Item)) → ((s : S) → R.vote s ≡ 0)
     → HasRounds R (map begins (range_with_len 0 ranks)) 3
     → Emit R (map begins (range_with_len 0 ranks)) 0 ranks a → Emit R (map begins (range_with_len 0 ranks)) 1 ranks b → Emit R (map begins (range_with_len 0 ranks)) 2 ranks c
-    → Follows R (map begins (range_with_len 0 ranks)) ranks (three_rounds a b c)
+    → FollowsTable R (map begins (range_with_len 0 ranks)) ranks (three_rounds a b c)
 follows_three {S} R ranks begins a b c none rounds first second third =
     let starts : List S = map begins (range_with_len 0 ranks) in
     record {

@@ -33,8 +33,8 @@ use Rattle.app_topo.proofs.TopoStates.{claims, next, claim_row, claim_column, cl
 use Rattle.app_topo.proofs.TopoClaims.{claims_all, each_claimed, every, one_each, claims_short, col_few, come_claims, next_inside}
 use Rattle.app_topo.proofs.TopoClaimRound.{all_claiming, IsClaiming}
 use Rattle.app_topo.proofs.TopoRun.{at_claims}
-use Rattle.round_tables.specs.Tables.{Table, IsTopoTable, columns_claimed, topo_line, topo_vote}
-use Rattle.round_tables.specs.Follows.{Follows, HasTable, Vote}
+use Rattle.round_tables.specs.Tables.{Table, IsTopoTable, columns_claimed, topo_sends, topo_vote}
+use Rattle.round_tables.specs.Follows.{FollowsTable, HasTable, Vote}
 use Rattle.round_tables.proofs.Votes.{vote_each}
 
 -- ---- Counting
@@ -341,13 +341,13 @@ module _ (ranks : ℕ) (m : Sparse) (some : 0 < ranks) (square : m.rows ≡ m.co
   abbrev Sends : ℕ → (ℕ → List (ℕ × Item)) → Type 0
   Sends n line = Emit topo_rules starts n ranks line
 
-  sends_as : (n k : ℕ) (line : ℕ → List (ℕ × Item)) → n ≡ k → topo_line ranks m n ≡ line → Sends k line → Sends n (topo_line ranks m n)
+  sends_as : (n k : ℕ) (line : ℕ → List (ℕ × Item)) → n ≡ k → topo_sends ranks m n ≡ line → Sends k line → Sends n (topo_sends ranks m n)
   sends_as n k line same same_line sends = subst (Sends n) (sym same_line) (subst (λ i. Sends i line) (sym same) sends)
 
   pub topo_table : HasTable topo_rules starts ranks (IsTopoTable ranks m)
   topo_table =
       record {
-        table = record { rounds = 2 * h.levels + 2; line = topo_line ranks m; vote = topo_vote ranks m };
+        table = record { rounds = 2 * h.levels + 2; line = topo_sends ranks m; vote = topo_vote ranks m };
         is = record { levels = h.levels; some = h.some; none = h.none; is = refl };
         follows = record { has_rounds = h.rounds; sent = sent; voted = λ n low. vote_each topo_rules starts n ranks (topo_vote ranks m n) size (voted n low) };
       }
@@ -355,12 +355,12 @@ module _ (ranks : ℕ) (m : Sparse) (some : 0 < ranks) (square : m.rows ≡ m.co
       h : HasTopoRounds ranks m
       h = topo ranks m some square is
 
-      sent : (n : ℕ) → n < 2 * h.levels + 2 → Sends n (topo_line ranks m n)
+      sent : (n : ℕ) → n < 2 * h.levels + 2 → Sends n (topo_sends ranks m n)
       sent n low =
           elim (cases_eq n 0) [
             | inl z ↦ sends_as n 0 (entries_told ranks m) z (ap (λ b. cond b (entries_told ranks m) (cond (eqb (n % 2) 1) (rows_claim ranks m (n / 2)) (columns_fall ranks m (n / 2 - 1)))) (eq-eqb n 0 z)) h.entries_sent
             | inr late ↦
-                let not_first : topo_line ranks m n ≡ cond (eqb (n % 2) 1) (rows_claim ranks m (n / 2)) (columns_fall ranks m (n / 2 - 1)) =
+                let not_first : topo_sends ranks m n ≡ cond (eqb (n % 2) 1) (rows_claim ranks m (n / 2)) (columns_fall ranks m (n / 2 - 1)) =
                 ap (λ b. cond b (entries_told ranks m) (cond (eqb (n % 2) 1) (rows_claim ranks m (n / 2)) (columns_fall ranks m (n / 2 - 1)))) (ne_eqb n 0 late) in
                 elim (cases_eq (n % 2) 1) [
                   | inl odd ↦

@@ -11,7 +11,7 @@ abbrev pub Vote : {S : Type 0} → Rules S → List S → ℕ → ℕ → (ℕ �
 Vote R starts n ranks vote = map R.vote (absorbed_round R (states_at R starts n)) ≡ map vote (range_with_len 0 ranks)
 
 -- The run has the table's rounds; in each every rank sends its line and casts its vote.
-pub record Follows {S : Type 0} (R : Rules S) (starts : List S) (ranks : ℕ) (t : Table) : Type 0 where
+pub record FollowsTable {S : Type 0} (R : Rules S) (starts : List S) (ranks : ℕ) (t : Table) : Type 0 where
   pub has_rounds : HasRounds R starts t.rounds
   pub sent : (n : ℕ) → n < t.rounds → Emit R starts n ranks (t.line n)
   pub voted : (n : ℕ) → n < t.rounds → Vote R starts n ranks (t.vote n)
@@ -20,4 +20,4 @@ pub record Follows {S : Type 0} (R : Rules S) (starts : List S) (ranks : ℕ) (t
 pub record HasTable {S : Type 0} (R : Rules S) (starts : List S) (ranks : ℕ) (Is : Table → Type 0) : Type 0 where
   pub table : Table
   pub is : Is table
-  pub follows : Follows R starts ranks table
+  pub follows : FollowsTable R starts ranks table

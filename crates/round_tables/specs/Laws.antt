@@ -23,18 +23,18 @@ use Rattle.app_tally.specs.Tallies.{tally_rules}
 use Rattle.app_tally.specs.TallyRuns.{tally_starts}
 use Rattle.round_tables.specs.Tables.{histo_table, ig_table, sums_table, permute_table, transpose_table, tally_table}
 use Rattle.round_tables.specs.Tables.{IsTopoTable, IsSsspTable, IsDeltaTable}
-use Rattle.round_tables.specs.Follows.{Follows, HasTable}
+use Rattle.round_tables.specs.Follows.{FollowsTable, HasTable}
 
 -- One clause for each application, with what its matrix needs.
 pub record TableLaws : Type 0 where
-  pub histo : (ranks : ℕ) (m : Sparse) → Follows histo_rules (histo_starts ranks m) ranks (histo_table ranks m)
+  pub histo : (ranks : ℕ) (m : Sparse) → FollowsTable histo_rules (histo_starts ranks m) ranks (histo_table ranks m)
   pub ig : (ranks : ℕ) (m : Sparse) → 1 ≤ ranks → IsSparse m
-      → Follows ig_rules (ig_starts ranks m) ranks (ig_table ranks m)
-  pub sums : (ranks : ℕ) (m : Sparse) → Follows sums_rules (sums_starts ranks m) ranks (sums_table ranks m)
+      → FollowsTable ig_rules (ig_starts ranks m) ranks (ig_table ranks m)
+  pub sums : (ranks : ℕ) (m : Sparse) → FollowsTable sums_rules (sums_starts ranks m) ranks (sums_table ranks m)
   pub permute : (ranks : ℕ) (m : Sparse) (p q : List ℕ) → 1 ≤ ranks → IsSparse m → Permutes m.rows p → Permutes m.cols q
-      → Follows permute_rules (permute_starts ranks m p q) ranks (permute_table ranks m p q)
+      → FollowsTable permute_rules (permute_starts ranks m p q) ranks (permute_table ranks m p q)
   pub transpose : (ranks : ℕ) (m : Sparse)
-      → Follows transpose_rules (transpose_starts ranks m) ranks (transpose_table ranks m)
+      → FollowsTable transpose_rules (transpose_starts ranks m) ranks (transpose_table ranks m)
   pub topo : (ranks : ℕ) (m : Sparse) → 1 ≤ ranks → m.rows ≡ m.cols → IsSparse m
       → HasTable topo_rules (topo_starts ranks m) ranks (IsTopoTable ranks m)
   pub sssp : (ranks : ℕ) (m : Sparse) (source : ℕ) → 1 ≤ ranks → IsGraph m → source < m.rows
@@ -43,4 +43,4 @@ pub record TableLaws : Type 0 where
       → width ≤ 1_000_000_000_000 → IsGraph m → source < m.rows
       → HasTable delta_rules (delta_starts ranks m source width) ranks (IsDeltaTable ranks m source width)
   pub tally : (ranks : ℕ) (lines : List (List ℕ))
-      → Follows (mail_rules tally_rules) (tally_starts ranks lines) ranks (tally_table ranks lines)
+      → FollowsTable (mail_rules tally_rules) (tally_starts ranks lines) ranks (tally_table ranks lines)

@@ -70,8 +70,8 @@ columns_claimed ranks m t r =
 
 -- Round 0: the entries are told; round 2t + 1: the rows of level t claim; round 2t + 2: the columns
 -- that they claimed fall.
-abbrev pub topo_line : ℕ → Sparse → ℕ → ℕ → List (ℕ × Item)
-topo_line ranks m n =
+abbrev pub topo_sends : ℕ → Sparse → ℕ → ℕ → List (ℕ × Item)
+topo_sends ranks m n =
     if n == 0 then entries_told ranks m
     else if n % 2 == 1 then rows_claim ranks m (n / 2) else columns_fall ranks m (n / 2 - 1)
 
@@ -86,7 +86,7 @@ pub record IsTopoTable (ranks : ℕ) (m : Sparse) (t : Table) : Type 0 where
   pub levels : ℕ
   pub some : (k : ℕ) → k < levels → level_at m k ≢ []
   pub none : level_at m levels ≡ []
-  pub is : t ≡ record { rounds = 2 * levels + 2; line = topo_line ranks m; vote = topo_vote ranks m }
+  pub is : t ≡ record { rounds = 2 * levels + 2; line = topo_sends ranks m; vote = topo_vote ranks m }
 
 -- ---- sssp by rounds
 

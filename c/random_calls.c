@@ -112,7 +112,39 @@ static void one_call(void) {
     if (state != BALE_GONE && (state < BALE_STATE_DORMANT || state > BALE_STATE_COMPLETE))
         fail("bale_phase", state);
     bale_item item = {5, 6, 7};
-    switch (below(40)) {
+    switch (below(44)) {
+    case 40:
+    case 41:
+    case 42:
+    case 43: {
+        const bale_entry *entries;
+        size_t count;
+        int32_t answer = bale_view(rank, &entries, &count, &from);
+        ONLY("bale_view", answer, BALE_OK, BALE_NONE, BALE_NOT_BEGUN, BALE_GONE);
+        if ((answer == BALE_OK || answer == BALE_NONE) != (state > BALE_STATE_DORMANT))
+            fail("bale_view in another state", answer);
+        if ((answer == BALE_OK) != (count > 0))
+            fail("bale_view of no entry", answer);
+        /* What is pushed now leaves the entries as they are. */
+        item = item_of(g, me, to, to < MOST_RANKS ? g->pushed[me][to] : 0);
+        if (below(2) == 0 && bale_push(rank, &item, to) == BALE_OK)
+            g->pushed[me][to]++;
+        size_t taken = below(3) == 0 ? below((uint32_t)count + 1) : count;
+        for (size_t k = 0; k < taken; k++)
+            came(g, me, entries[k].item, from);
+        if (below(4) == 0)
+            ONLY("bale_pulled of too many", bale_pulled(rank, count + 1 + below(3)), BALE_NOT_LENT, BALE_NOT_BEGUN, BALE_GONE);
+        int32_t pulled = bale_pulled(rank, taken);
+        ONLY("bale_pulled", pulled, BALE_OK, BALE_NOT_BEGUN, BALE_GONE);
+        if ((pulled == BALE_OK) != (state > BALE_STATE_DORMANT))
+            fail("bale_pulled in another state", pulled);
+        if (taken > 0 && below(4) == 0) {
+            if (bale_unpull(rank) != BALE_OK)
+                fail("bale_unpull after bale_pulled", 0);
+            g->pulled[me][from]--;
+        }
+        break;
+    }
     case 0:
         if (below(20) == 0 || (!g->handle.live && below(100) == 0))
             make_group(g);
@@ -266,7 +298,7 @@ int main(int argc, char **argv) {
         bale_group_free(&groups[g].handle);
     }
     printf("random_calls: %lu calls, of these answered:\n", calls);
-    for (int32_t a = -11; a <= 5; a++)
+    for (int32_t a = -12; a <= 5; a++)
         printf("  %3d %9llu  %s\n", a, (unsigned long long)answers[a + 16], bale_text(a));
     if (answers[BALE_OK + 16] == 0 || answers[BALE_COMPLETE + 16] == 0)
         fail("no epoch was completed", 0);

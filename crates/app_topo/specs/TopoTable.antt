@@ -4,7 +4,7 @@ use Rattle.std.specs.List.{filter, flat_map}
 use Rattle.bale_items.specs.declared.Item.{Item}
 use Rattle.bale_items.specs.declared.triple.Triple.{Triple}
 use Rattle.mtx_text.specs.Sparse.{Sparse, IsSparse}
-use Rattle.mtx_text.specs.Cells.{gathered}
+use Rattle.mtx_text.specs.Cells.{gathered_cells}
 use Rattle.round_program.specs.Canonical.{HasRounds}
 use Rattle.sparse_rows.specs.Deals.{dealt}
 use Rattle.sparse_rows.specs.Owners.{own_entries}
@@ -37,20 +37,22 @@ rows_claim ranks m t r = map (λ c. (c.1 % ranks, item c.1 c.0 2)) (dealt (λ c.
 -- The entries as (column, row), by column and then row.
 -- of (0,0), (0,1), (1,1): (0,0), (1,0), (1,1)
 abbrev pub columns_first : Sparse → List Triple
-columns_first m = gathered (map (λ t. record { i = t.j; j = t.i; v = pos 0 }) m.entries)
+columns_first m = gathered_cells (map (λ t. record { i = t.j; j = t.i; v = pos 0 }) m.entries)
 
 -- Round 2t + 2: the rows of own columns that level t has claimed are told that they have one entry
 -- less.
 -- for each own column j that a row of level t claims, ascending, and each row i with an entry
--- there, ascending: to i mod ranks, (i,j,3) of (0,0), (0,1), (1,1) on 2 ranks: in round 2 rank 1
--- emits (0,1,3) to rank 0 and then (1,1,3) to rank 1
+-- there, ascending: to i mod ranks, (i,j,3)
+-- of (0,0), (0,1), (1,1) on 2 ranks: in round 2 rank 1 emits (0,1,3) to rank 0 and then (1,1,3) to
+-- rank 1
 abbrev pub columns_fall : ℕ → Sparse → ℕ → ℕ → List (ℕ × Item)
 columns_fall ranks m t r =
     map (λ u. (u.j % ranks, item u.j u.i 3))
     (dealt (λ u. u.i % ranks) r (filter (λ u. nat_lt 0 (col_claims u.i (level_at m t))) (columns_first m)))
 
--- topo has 2l + 2 rounds, where l levels have rows: the entries are told in round 0, and then rows
--- claim and columns fall in turn, until no row claims.
+-- topo has 2l + 2 rounds, where l is the number of levels that aren't empty: in round 0 the entries
+-- go to the owners of their rows and columns, and then rows claim and columns fall in turn, until
+-- no row claims.
 pub record HasTopoRounds (ranks : ℕ) (m : Sparse) : Type 0 where
   pub levels : ℕ
   pub few : levels ≤ m.rows

@@ -3,7 +3,7 @@ ghost use Rattle.std.specs.Prelude.{◌≡◌, ℕ, ◌+◌, ◌<◌, ◌≤◌,
 ghost use Rattle.std.specs.List.{All, list_all};
 ghost use Rattle.rank_crews.specs.declared.child.Child.{Child};
 ghost use Rattle.rank_crews.specs.Runs.{AllRan, AllEnded};
-ghost use Rattle.rank_crews.specs.Children.{first_of, is_there, HasEnded, IsUnturned};
+ghost use Rattle.rank_crews.specs.Children.{first_of, is_there, HasEnded, HasUnturnedRanks};
 
 use crate::assignment::Assignment;
 use crate::caller::run_caller;
@@ -177,7 +177,7 @@ fn place<
 ) -> Child<'s, A, J>
     ensures first { first_of result ≡ ranks }
     ensures limit { is_there result ≡ true → worker < threads.number }
-    ensures unturned { IsUnturned result }
+    ensures unturned { HasUnturnedRanks result }
 {
     if worker < threads.number {
         start(scope, shared, alloc, worker, ranks)

@@ -8,7 +8,7 @@ use Rattle.port_bank.specs.Machine.{Step, IsOwnStep}
 use Rattle.port_bank.specs.Machine.Step.{Push, Pull, Reset, Idle}
 use Rattle.convey.specs.Buffers.{is_complete}
 use Rattle.convey.specs.Progress.{advance_step}
-use Rattle.link_slots.specs.Seen.{Identity, Manning, posted_on, collected_from}
+use Rattle.link_slots.specs.SeatView.{Identity, Manning, posted_on, collected_from}
 use Rattle.hop_core.specs.declared.phase.Phase.{Phase}
 use Rattle.hop_core.specs.declared.phase.Phase.TheVariants.{Dormant, Working, Endgame, Cleanup, Complete}
 use Rattle.hop_core.specs.State.{State, phase_of, pulled_from, all_closed, all_read}
@@ -18,7 +18,7 @@ use Rattle.rank_handles.specs.declared.answer.Answer.TheVariants.{Good, Full, No
 use Rattle.rank_handles.specs.Seated.{Seated, Moved, part}
 use Rattle.rank_handles.specs.Answers.{while_working, once_begun, when_complete, progress_answer, push_answer, pull_result, advance_answer, reset_answer, item_or_nothing, pull_once_begun}
 use Rattle.rank_handles.specs.Calls.{Pushes, Pulls, Advances, Resets}
-use Rattle.rank_handles.specs.Kept.{seat_in, IsAtBank, IsSeated}
+use Rattle.rank_handles.specs.RankAtBank.{seat_in, IsAtBank, IsSeatedHandle}
 
 -- a rank at its seat
 abbrev pub at : Manning → State → Seated
@@ -51,8 +51,8 @@ moved_on bank bank' seat seat' old new step same was now rank dims is = record {
 }
 
 -- a call that leaves the rank where it was, as its counts see it
-pub seated_still : (bank : Identity) (seat : Option Manning) (old new : State) (count epoch : ℕ) (done : Bool) → IsSeated bank seat old count epoch done → KeepsAgreement old new
-    → new.rank ≡ old.rank → new.dims ≡ old.dims → new.phase ≡ old.phase → new.epoch ≡ old.epoch → new.done ≡ old.done → IsSeated bank seat new count epoch done
+pub seated_still : (bank : Identity) (seat : Option Manning) (old new : State) (count epoch : ℕ) (done : Bool) → IsSeatedHandle bank seat old count epoch done → KeepsAgreement old new
+    → new.rank ≡ old.rank → new.dims ≡ old.dims → new.phase ≡ old.phase → new.epoch ≡ old.epoch → new.done ≡ old.done → IsSeatedHandle bank seat new count epoch done
 seated_still bank seat old new count epoch done was kept rank dims phase same_epoch same_done = record {
   there = was.there;
   at_bank = record {

@@ -6,11 +6,11 @@ use Rattle.item_buffer.specs.Contents.{Contents}
 use Rattle.link_slots.specs.Logs.{Lists, sent_of, got_of}
 use Rattle.link_slots.specs.View.{no_logs}
 use Rattle.link_slots.specs.Shape.{Shape, shipped_all}
-use Rattle.link_slots.specs.Seen.{Identity, Manning, posted_on, collected_from}
+use Rattle.link_slots.specs.SeatView.{Identity, Manning, posted_on, collected_from}
 use Rattle.link_slots.proofs.Opening.{no_sent, no_got}
 use Rattle.hop_core.specs.State.{State}
 use Rattle.convey.specs.Conveyors.{AgreesWith}
-use Rattle.rank_handles.specs.Kept.{IsAtBank}
+use Rattle.rank_handles.specs.RankAtBank.{IsAtBank}
 use Rattle.rank_handles.specs.Grouped.{new_state, NewRank}
 use Rattle.rank_handles.proofs.Moves.{at}
 

@@ -12,6 +12,7 @@ use crate::exchange::Exchange;
 use crate::group::Group;
 use crate::item::BaleItem;
 use crate::rank::Rank;
+use crate::view::BaleView;
 use bale_items::{Item, NoMemory};
 use hop_core::Phase;
 use item_buffer::is_capacity;
@@ -137,6 +138,14 @@ impl<const CAP: usize> Exchange for HopsCase<CAP> {
         by_hops!(self, rank, rank.advance(done))
     }
 
+    fn view(&self) -> Result<BaleView<'_>, Answer> {
+        by_hops!(self, rank, rank.view())
+    }
+
+    fn pulled(&mut self, count: usize) -> Answer {
+        by_hops!(self, rank, rank.pulled(count))
+    }
+
     fn reset(&mut self) -> Answer {
         by_hops!(self, rank, rank.reset())
     }
@@ -179,6 +188,14 @@ impl Exchange for AnyRank {
 
     fn advance(&mut self, done: bool) -> Answer {
         by_capacity!(CapacityCase, &mut self.case, rank, rank.advance(done))
+    }
+
+    fn view(&self) -> Result<BaleView<'_>, Answer> {
+        by_capacity!(CapacityCase, &self.case, rank, rank.view())
+    }
+
+    fn pulled(&mut self, count: usize) -> Answer {
+        by_capacity!(CapacityCase, &mut self.case, rank, rank.pulled(count))
     }
 
     fn reset(&mut self) -> Answer {

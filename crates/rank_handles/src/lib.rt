@@ -19,9 +19,9 @@
 //!
 //! The definitions, in the order in which to read them: `Codes` (the numbers that C knows),
 //! `Seated` (a rank, and a call that makes a step), `Answers` (when each answer comes), `Calls`
-//! (what a call leaves), `Grouped` (a group, and a rank that was just made), `Handles` and `Shown`
-//! (what a handle has), `Many` (calls of many items), `Items`. `Kept`, `Cases`, `Holds`, `Lends`
-//! and `LendsRank` are the code's own.
+//! (what a call leaves), `Grouped` (a group, and a rank that was just made), `Handles` and
+//! `HandleView` (what a handle has), `Many` (calls of many items), `Items`. `RankAtBank`, `Cases`,
+//! `Ownership`, `Lends` and `LendsRank` are the code's own.
 #![tactic(auto)]
 
 mod answer;
@@ -37,6 +37,7 @@ mod many;
 mod numbers;
 mod part;
 mod rank;
+mod view;
 
 pub use answer::Answer;
 pub use cases::{AnyGroup, AnyRank};
@@ -47,3 +48,4 @@ pub use item::{BaleItem, bale_item_from, item_from};
 pub use making::{make_group, make_rank};
 pub use numbers::{pull_number, push_number};
 pub use part::Part;
+pub use view::BaleView;

@@ -3,19 +3,20 @@ ghost use Rattle.std.specs.Prelude.{◌≡◌, ◌≢◌, ◌<◌, true, false, 
 ghost use Rattle.std.specs.Arc.{arc_value};
 ghost use Rattle.item_buffer.specs.Capacity.{IsCap};
 ghost use Rattle.route_tensor.specs.Grid.{ranks};
-ghost use Rattle.link_slots.specs.Seen.{posted_on, collected_from};
+ghost use Rattle.link_slots.specs.SeatView.{posted_on, collected_from};
 ghost use Rattle.port_bank.specs.Machine.{IsOwnStep};
 ghost use Rattle.convey.specs.Buffers.{buffers_of, is_complete};
 ghost use Rattle.convey.specs.Parts.{part_of};
 ghost use Rattle.convey.specs.Progress.{progress_of, advance_step};
 ghost use Rattle.rank_handles.specs.Answers.{item_or_nothing};
-ghost use Rattle.rank_handles.specs.Kept.{IsAtBank, HasSeatFor, GaveSeat};
+ghost use Rattle.rank_handles.specs.RankAtBank.{IsAtBank, HasSeatFor, GaveSeat};
 ghost use Rattle.rank_handles.specs.Grouped.{NewRank};
 
 use crate::answer::Answer;
 use crate::exchange::Exchange;
 use crate::item::BaleItem;
 use crate::many::{are_ranks, pull_while_some, push_while_room};
+use crate::view::{BaleView, lent_count, lent_view, pull_lent};
 use bale_items::{Item, NoMemory};
 use convey::{Conveyor, Phase, Progress, Pushed};
 use link_slots::{GatherSeat, SlotBank, SlotSeat};
@@ -43,11 +44,11 @@ impl<const CAP: usize, const HOPS: usize> Model for Rank<CAP, HOPS> {
 
     ghost Value = { Seated };
 
-    ghost use Rattle.rank_handles.specs.Kept.{seat_in, IsSeated};
+    ghost use Rattle.rank_handles.specs.RankAtBank.{seat_in, IsSeatedHandle};
 
     ghost view = { λ r. record { seat = seat_in r.seat; state = r.conveyor } };
 
-    ghost invariant = { λ r. IsSeated (arc_value r.bank) r.seat r.conveyor r.ranks r.epoch r.done };
+    ghost invariant = { λ r. IsSeatedHandle (arc_value r.bank) r.seat r.conveyor r.ranks r.epoch r.done };
 }
 
 impl<const CAP: usize, const HOPS: usize> Rank<CAP, HOPS> {
@@ -159,6 +160,29 @@ impl<const CAP: usize, const HOPS: usize> Exchange for Rank<CAP, HOPS> {
             Progress::Near => Answer::Near,
             Progress::Complete => Answer::Complete,
         }
+    }
+
+    #[tactic(auto, unfolding(crate::specs::Views::LentBy))]
+    fn view(&self) -> Result<BaleView<'_>, Answer> {
+        if self.conveyor.phase() == Phase::Dormant {
+            return Err(Answer::NotBegun);
+        }
+        match lent_view(&self.conveyor) {
+            Some(view) => Ok(view),
+            None => Err(Answer::Nothing),
+        }
+    }
+
+    #[tactic(auto, unfolding(crate::specs::Views::PullsLent))]
+    fn pulled(&mut self, count: usize) -> Answer {
+        if self.conveyor.phase() == Phase::Dormant {
+            return Answer::NotBegun;
+        }
+        if count > lent_count(&self.conveyor) {
+            return Answer::NotLent;
+        }
+        pull_lent(&mut self.conveyor, count);
+        Answer::Good
     }
 
     #[tactic(auto, unfolding(crate::specs::Calls::Resets))]

@@ -5,3 +5,7 @@ mod DeltaWeights
 mod Sssp
 mod SsspFound
 mod SsspLists
+pub mod TableLaws
+mod Tables
+mod TopoVotes
+mod Votes

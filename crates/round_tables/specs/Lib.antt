@@ -1,2 +1,5 @@
 pub mod Delta
+pub mod Follows
+pub mod Laws
 pub mod Sssp
+pub mod Tables

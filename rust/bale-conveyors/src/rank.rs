@@ -1,6 +1,6 @@
 //! The rank: one side of the exchange.
-use crate::{error::checked, ffi, ffi::Handle, Error, Item};
-use std::{fmt, iter::FusedIterator, marker::PhantomData};
+use crate::{error::checked, ffi, ffi::Handle, Entry, Error, Item};
+use std::{fmt, iter::FusedIterator, marker::PhantomData, ptr::NonNull, slice};
 
 /// Whether a push found room. What found none comes back.
 ///
@@ -186,6 +186,23 @@ impl<T: Into<Item> + From<Item>> Rank<T> {
         checked(answer).map(|pulled| pulled as usize)
     }
 
+    /// Lends what the next pulls give, where it came, without a copy: at least one item, all of one
+    /// sender, or `None` if nothing is there now. [`View::take`] pulls the first ones; the others
+    /// stay to be pulled.
+    ///
+    /// # Errors
+    ///
+    /// [`Error::NotBegun`].
+    pub fn view(&mut self) -> Result<Option<View<'_, T>>, Error> {
+        let entries: NonNull<Entry> = NonNull::dangling();
+        let mut lent = ffi::Lent { entries: entries.as_ptr(), count: 0, from: 0 };
+        // SAFETY: as said above; no entry is read at the dangling address.
+        match checked(unsafe { ffi::bale_lend(&mut *self.handle, &mut lent) }.into())? {
+            0 => Ok(Some(View { rank: self, lent })),
+            _ => Ok(None),
+        }
+    }
+
     /// Puts back the item that the latest call pulled, so that the next pull gives it again.
     /// Returns false if the latest call wasn't a [`pull`](Rank::pull) that gave an item.
     pub fn unpull(&mut self) -> bool {
@@ -271,6 +288,57 @@ impl<T> Drop for Rank<T> {
     fn drop(&mut self) {
         // SAFETY: the handle is valid and not shared.
         unsafe { ffi::bale_rank_free(&mut *self.handle) };
+    }
+}
+
+/// Items that a rank got and has not pulled, where they came: see [`Rank::view`].
+#[must_use = "nothing is pulled until `take` is called"]
+pub struct View<'a, T> {
+    rank: &'a mut Rank<T>,
+    lent: ffi::Lent,
+}
+
+impl<T: Into<Item> + From<Item>> View<'_, T> {
+    /// The rank that pushed them.
+    #[must_use]
+    pub fn from(&self) -> u32 {
+        self.lent.from
+    }
+
+    /// The entries, in the order in which they were pushed; at least one.
+    #[must_use]
+    pub fn entries(&self) -> &[Entry] {
+        // SAFETY: the rank lent them, and while it is borrowed here no call takes them back: a push
+        // goes to other buffers, and `take` ends the view.
+        unsafe { slice::from_raw_parts(self.lent.entries, self.lent.count) }
+    }
+
+    /// Pushes an item while the view lasts, as [`Rank::push`] does.
+    ///
+    /// # Errors
+    ///
+    /// As of [`Rank::push`].
+    pub fn push(&mut self, item: T, to: u32) -> Result<Pushed<T>, Error> {
+        self.rank.push(item, to)
+    }
+
+    /// Pulls the first `count` of them, and ends the view.
+    ///
+    /// # Errors
+    ///
+    /// [`Error::NotLent`] if there are not so many; nothing is pulled.
+    pub fn take(self, count: usize) -> Result<(), Error> {
+        // SAFETY: the handle is valid and live, and `&mut` keeps other calls away.
+        checked(unsafe { ffi::bale_pulled(&mut *self.rank.handle, count) }.into()).map(drop)
+    }
+}
+
+impl<T> fmt::Debug for View<'_, T> {
+    fn fmt(&self, f: &mut fmt::Formatter<'_>) -> fmt::Result {
+        f.debug_struct("View")
+            .field("from", &self.lent.from)
+            .field("count", &self.lent.count)
+            .finish_non_exhaustive()
     }
 }
 

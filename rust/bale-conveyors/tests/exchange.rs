@@ -207,3 +207,43 @@ fn items_have_a_type() -> Result<(), Error> {
     }
     panic!("nothing was pulled");
 }
+
+#[test]
+fn a_view_lends_what_came_and_takes_a_part() -> Result<(), Error> {
+    let mut rank = alone(4);
+    for k in 0..4 {
+        assert!(rank.push([k, 0, 0], 0)?.is_accepted());
+    }
+    assert!(rank.view()?.is_none());
+    // The first sends the buffer, and the second collects it.
+    rank.advance(true)?;
+    rank.advance(true)?;
+    let view = rank.view()?.expect("four items came");
+    assert_eq!(view.from(), 0);
+    assert_eq!(view.entries().iter().map(|entry| entry.item().a).collect::<Vec<_>>(), [0, 1, 2, 3]);
+    view.take(3)?;
+    let view = rank.view()?.expect("one is left");
+    assert_eq!(view.entries().len(), 1);
+    assert_eq!(view.take(2), Err(Error::NotLent));
+    assert_eq!(rank.pull()?, Some((0, [3, 0, 0])));
+    Ok(())
+}
+
+#[test]
+fn items_may_be_pushed_while_a_view_lasts() -> Result<(), Error> {
+    let mut rank = alone(4);
+    for k in 0..4 {
+        assert!(rank.push([k, 0, 0], 0)?.is_accepted());
+    }
+    rank.advance(false)?;
+    rank.advance(false)?;
+    let mut view = rank.view()?.expect("four items came");
+    for k in 0..view.entries().len() {
+        let answer = [view.entries()[k].item().a + 10, 0, 0];
+        assert!(view.push(answer, 0)?.is_accepted());
+    }
+    view.take(4)?;
+    let pulled = finish(std::slice::from_mut(&mut rank));
+    assert_eq!(pulled[0].iter().map(|(_, words)| words[0]).collect::<Vec<_>>(), [10, 11, 12, 13]);
+    Ok(())
+}

@@ -1,5 +1,5 @@
 use Rattle.std.proofs.Common.{◌≡◌, sym, ap, ◌∙◌, subst}
-use Rattle.link_slots.specs.Seen.{Manning, posted_on, collected_from, named}
+use Rattle.link_slots.specs.SeatView.{Manning, posted_on, collected_from, table_name}
 use Rattle.port_bank.specs.Machine.{IsOwnStep}
 use Rattle.port_bank.specs.Port.{Others}
 use Rattle.convey.specs.Buffers.{buffers_of, is_complete}
@@ -13,7 +13,7 @@ pub returns-clause-at_bank : goal.returns-clause-at_bank
 returns-clause-at_bank g c =
     let told = c.in-Ok.ensures in let new = c.advance.new.self in let is : c.into_seat.result ≡ c.advance.new.port.seat = c.into_seat.ensures.seat in
     let here : c.port-port.result.seat ≡ c.args.seat = c.port-port.ensures.seat in let was = c.requires.at_bank in
-    let name : named c.advance.new.port.seat.id ≡ named c.args.bank.now.id = ap (λ (r : Others). r.bank) told.stays.same_port.others ∙ (ap (λ (m : Manning). named m.id) here ∙ ap named was.id) in
+    let name : table_name c.advance.new.port.seat.id ≡ table_name c.args.bank.now.id = ap (λ (r : Others). r.bank) told.stays.same_port.others ∙ (ap (λ (m : Manning). table_name m.id) here ∙ ap table_name was.id) in
     let shape : c.advance.new.port.seat.shape ≡ c.port-port.result.seat.shape = λ k. record { dims = told.stays.same_port.dims k; slots = told.stays.same_port.slots k } in
     record {
       id = ap (λ (m : Manning). m.id) is ∙ c.into_seat.ensures.one_bank c.args.bank.now.id name;

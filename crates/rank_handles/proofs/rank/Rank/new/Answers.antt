@@ -1,7 +1,7 @@
 use Rattle.std.proofs.Common.{◌≡◌, refl, sym, ap, ◌∙◌, subst}
 use Rattle.std.specs.Arc.{arc_value}
 use Rattle.route_tensor.specs.Grid.{ranks}
-use Rattle.link_slots.specs.Seen.{Identity, Manning}
+use Rattle.link_slots.specs.SeatView.{Identity, Manning}
 use Rattle.hop_core.specs.State.{State}
 use Rattle.rank_handles.specs.Grouped.{NewRank}
 use Rattle.rank_handles.proofs.Moves.{at}
@@ -14,7 +14,7 @@ invariant_of-result g c =
     let given : arc_value c.args.bank.now ≡ c.deref.result.now = sym (there ∙ c.in-Ok.ensures) in
     record {
       there = refl;
-      at_bank = subst (λ (b : Identity). Rattle.rank_handles.specs.Kept.IsAtBank b c.seat-seat.result c.in_ok-conveyor.conveyor) there
+      at_bank = subst (λ (b : Identity). Rattle.rank_handles.specs.RankAtBank.IsAtBank b c.seat-seat.result c.in_ok-conveyor.conveyor) there
           (seated_at c.deref.result.now c.args.grid.now c.args.rank g.row.CAP c.args.steady c.seat-seat.result c.in_ok-conveyor.conveyor
           (c.requires.seat.at_gather.grid_is ∙ ap (λ (b : Identity). b.shape.dims) given) (ap (λ (m : Manning). m.id) seat) (ap (λ (m : Manning). m.shape) seat) (ap (λ (m : Manning). m.rank) seat)
           (ap (λ (m : Manning). m.lists) seat) is c.in_ok-conveyor.ensures.agrees);

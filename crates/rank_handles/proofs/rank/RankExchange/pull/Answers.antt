@@ -7,7 +7,7 @@ use Rattle.rank_handles.specs.declared.answer.Answer.{Answer}
 use Rattle.rank_handles.specs.declared.answer.Answer.TheVariants.{Nothing}
 use Rattle.rank_handles.specs.Seated.{Seated, Moved}
 use Rattle.rank_handles.specs.Answers.{item_or_nothing, pull_result}
-use Rattle.rank_handles.specs.Kept.{seat_in}
+use Rattle.rank_handles.specs.RankAtBank.{seat_in}
 use Rattle.rank_handles.proofs.Moves.{at, begun_pull, never_not_begun, pull_moved, pulls_begun, seated_still, pulled_phase, pulled_rank, pulled_dims, pulled_epoch, pulled_done}
 use Rattle.std.specs.Arc.{arc_value}
 use Rattle.rank_handles.proofs.rank.RankExchange.pull.Goals as goal

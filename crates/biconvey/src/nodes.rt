@@ -24,7 +24,9 @@ pub(crate) fn nodes_of<const CAP: usize, const HOPS: usize, A: Asker>(
     ensures { IfOk result (λ all. AreFreshBiRanks A.talk grid.now steady askers all.items) }
 {
     let mut askers = askers;
-    let mut all = Vec::with_capacity(alloc, askers.len())?;
+    let Ok(mut all) = Vec::with_capacity(alloc, askers.len()) else {
+        return Err(NoMemory);
+    };
     while let Some(asker) = askers.take_first() {
         let node = BiNode::new(alloc, grid, asker, steady)?;
         all.push_reserved(node);
@@ -40,7 +42,10 @@ pub(crate) fn take_askers<const CAP: usize, const HOPS: usize, A: Asker>(
     ensures { IfOk result (λ askers. askers ≡ askers_of all.items) }
 {
     let mut askers = Progs::new(alloc);
-    for node in one_by_one(alloc, all)? {
+    let Ok(all) = one_by_one(alloc, all) else {
+        return Err(NoMemory);
+    };
+    for node in all {
         askers.add(node.into_asker())?;
     }
     Ok(askers)

@@ -41,9 +41,14 @@ pub(crate) fn seat_all<'a, const CAP: usize, const HOPS: usize, A: Asker>(
         all.items
         → IfOk result (λ xs. AreSeatedBiRanks A.talk CAP steady queries.now replies.now xs.items) }
 {
-    let mut seated = Vec::with_capacity(alloc, all.len())?;
+    let Ok(mut seated) = Vec::with_capacity(alloc, all.len()) else {
+        return Err(NoMemory);
+    };
     let mut number = 0;
-    for node in one_by_one(alloc, all)? {
+    let Ok(all) = one_by_one(alloc, all) else {
+        return Err(NoMemory);
+    };
+    for node in all {
         let asking = queries.seat(of_queries, number);
         let replying = replies.seat(of_replies, number);
         let asking = NotingPort::new(queries.port(asking));
@@ -85,8 +90,13 @@ pub(crate) fn gather_all<'a, const CAP: usize, const HOPS: usize, A: Asker>(
     ensures replies_there { OnOk result
         (EachAt (λ r y. slice_index_or of_replies.new.lists r None ≡ Some y.replies.lists) ended.entry.items) }
 {
-    let mut nodes = Vec::with_capacity(alloc, ended.len())?;
-    for seated in one_by_one(alloc, ended)? {
+    let Ok(mut nodes) = Vec::with_capacity(alloc, ended.len()) else {
+        return Err(NoMemory);
+    };
+    let Ok(ended) = one_by_one(alloc, ended) else {
+        return Err(NoMemory);
+    };
+    for seated in ended {
         let AtPorts {
             _before: _,
             node,

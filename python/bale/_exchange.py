@@ -5,11 +5,12 @@ from __future__ import annotations
 import ctypes
 import math
 import threading
+import weakref
 from typing import TYPE_CHECKING, Any, ClassVar, TypeVar
 
 from ._answers import Answer, Misuse, Phase, Progress, checked
 from ._arguments import Block, items_block, ranks_block, truth, u32, whole, words
-from ._library import Handle, Item, calls
+from ._library import Entry, Handle, Item, Lent, calls
 
 if TYPE_CHECKING:
     from collections.abc import Iterator, Sequence
@@ -71,6 +72,10 @@ class Owner:
             self.close()
 
 
+class _Arrays:
+    """Lives as long as any array over a rank's memory."""
+
+
 class Group(Owner):
     """The memory that ranks share, and the ranks that are still to be made.
 
@@ -129,12 +134,24 @@ class Rank(Owner):
     def __init__(self, group: Group, number: SupportsIndex) -> None:
         super().__init__()
         self._stop: threading.Event | None = None
+        self._arrays: weakref.ref[_Arrays] | None = None
         self._number = u32(number, "a rank", Answer.NO_RANK)
         group._call(calls.rank_new, self._number, self._handle)
         self._ranks: int = calls.ranks(self._handle)
 
     def __repr__(self) -> str:
         return f"<bale.Rank {self._number} of {self._ranks}>"
+
+    def close(self) -> None:
+        """Frees the memory; if arrays of views are still there, once the last one is gone. Other
+        ranks, and the group, can still be used. A second close does nothing."""
+        arrays = None if self._arrays is None else self._arrays()
+        if arrays is None:
+            super().close()
+            return
+        with self._in_call:
+            handle, self._handle, self._arrays = self._handle, Handle(), None
+        weakref.finalize(arrays, calls.rank_free, handle)
 
     @property
     def number(self) -> int:
@@ -232,6 +249,50 @@ class Rank(Owner):
         addresses = items.ctypes.data, senders.ctypes.data
         pulled = self._call(calls.pull_many, addresses[0], places, addresses[1], places)
         return senders[:pulled], items[:pulled]
+
+    def views(self) -> Iterator[tuple[int, NDArray[numpy.uint64]]]:
+        """Lends the items that are there now, where they came, without a copy: in each turn of the
+        loop the sender of some, and these as an array of numpy that can't be written, of the shape
+        (n, 3) and the dtype uint64. The end of a turn pulls them.
+
+            for sender, items in rank.views():
+                numpy.add.at(counts, items[:, 0], 1)
+
+        The array shows these items in its turn alone, and until a call on this rank other than push
+        and push_many; later it shows other numbers. Copy what is to stay. If the loop is left
+        early, the items of that turn stay to be pulled.
+
+        Misuse: NOT_BEGUN, or NOT_LENT if the turn pulled items itself. ImportError without
+        numpy."""
+        import numpy
+
+        # A view begins with an address that can be read.
+        none = Entry()
+        while True:
+            lent = Lent(ctypes.addressof(none), 0, 0)
+            if self._call(calls.lend, lent) != Answer.OK:
+                return
+            items: NDArray[numpy.uint64] = numpy.ndarray(
+                (lent.count, 3),
+                dtype=numpy.uint64,
+                buffer=self._memory(lent),
+                offset=Entry.item.offset,
+                strides=(ctypes.sizeof(Entry), 8),
+            )
+            items.flags.writeable = False
+            yield lent.sender, items
+            del items
+            self._call(calls.pulled, lent.count)
+
+    def _memory(self, lent: Lent) -> Any:
+        """The entries that are lent, which are not freed as long as this is there."""
+        arrays = None if self._arrays is None else self._arrays()
+        if arrays is None:
+            arrays = _Arrays()
+            self._arrays = weakref.ref(arrays)
+        memory: Any = (Entry * lent.count).from_address(lent.entries)
+        memory.arrays = arrays
+        return memory
 
     def advance(self, done: bool = False) -> Progress:
         """Sends and collects what can be sent and collected now, and reports how far the rank is.

@@ -149,8 +149,8 @@ class States(unittest.TestCase):
         self.assertEqual(checked(7), 7)
         with self.assertRaisesRegex(MemoryError, "no memory"):
             checked(-1)
-        with self.assertRaisesRegex(RuntimeError, "another version: it answered -12"):
-            checked(-12)
+        with self.assertRaisesRegex(RuntimeError, "another version: it answered -13"):
+            checked(-13)
 
 
 class Closing(unittest.TestCase):

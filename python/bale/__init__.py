@@ -30,7 +30,7 @@ within their calls, and only there.
 """
 
 from ._answers import Answer, Misuse, Phase, Progress
-from ._exchange import Group, Rank, Stopped
+from ._exchange import Group, Rank, Statistics, Stopped
 from ._library import Item, version
 from ._run import run
 
@@ -42,6 +42,7 @@ __all__ = [
     "Phase",
     "Progress",
     "Rank",
+    "Statistics",
     "Stopped",
     "run",
     "version",

@@ -6,11 +6,11 @@ import ctypes
 import math
 import threading
 import weakref
-from typing import TYPE_CHECKING, Any, ClassVar, TypeVar
+from typing import TYPE_CHECKING, Any, ClassVar, NamedTuple, TypeVar
 
 from ._answers import Answer, Misuse, Phase, Progress, checked
 from ._arguments import Block, items_block, ranks_block, truth, u32, whole, words
-from ._library import Entry, Handle, Item, Lent, calls
+from ._library import Counts, Entry, Handle, Item, Lent, calls
 
 if TYPE_CHECKING:
     from collections.abc import Iterator, Sequence
@@ -27,6 +27,19 @@ OwnerT = TypeVar("OwnerT", bound="Owner")
 
 class Stopped(Exception):
     """Raised by advance in a rank of bale.run, since another rank raised an exception."""
+
+
+class Statistics(NamedTuple):
+    """What a rank sent and received since it was made, in all its epochs, also to itself.
+
+    A buffer is counted when advance sends or collects it, with all items in it, also those that
+    only pass through the rank. Each epoch ends with one last buffer on each link, which may be
+    empty."""
+
+    buffers_sent: int
+    items_sent: int
+    buffers_received: int
+    items_received: int
 
 
 class Owner:
@@ -293,6 +306,13 @@ class Rank(Owner):
         memory: Any = (Entry * lent.count).from_address(lent.entries)
         memory.arrays = arrays
         return memory
+
+    def statistics(self) -> Statistics:
+        """What the rank sent and received so far. Misuse: GONE after close."""
+        counts = Counts()
+        self._call(calls.statistics, counts)
+        numbers = counts.buffers_sent, counts.items_sent
+        return Statistics(*numbers, counts.buffers_received, counts.items_received)
 
     def advance(self, done: bool = False) -> Progress:
         """Sends and collects what can be sent and collected now, and reports how far the rank is.

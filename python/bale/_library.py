@@ -31,6 +31,17 @@ class Lent(ctypes.Structure):
     ]
 
 
+class Counts(ctypes.Structure):
+    """What a rank sent and received."""
+
+    _fields_ = [
+        ("buffers_sent", ctypes.c_uint64),
+        ("items_sent", ctypes.c_uint64),
+        ("buffers_received", ctypes.c_uint64),
+        ("items_received", ctypes.c_uint64),
+    ]
+
+
 class Handle(ctypes.Structure):
     """A group's or a rank's handle. It begins as zeros, and is never moved. What it doesn't use keeps
     the handles of two threads on cache lines of their own."""
@@ -60,6 +71,7 @@ _SIGNATURES: dict[str, tuple[Any, ...]] = {
     "lend": (_i32, _handle, ctypes.POINTER(Lent)),
     "pulled": (_i32, _handle, _size),
     "ranks": (_u32, _handle),
+    "statistics": (_i32, _handle, ctypes.POINTER(Counts)),
     "phase": (_i32, _handle),
     "rank_free": (_i32, _handle),
     "group_free": (_i32, _handle),

@@ -78,7 +78,7 @@
 
    bale_phase reports them as BALE_STATE_DORMANT to BALE_STATE_COMPLETE.
 
-   unpull, ranks and phase are no misuse in any state. Every call tests what it needs: misuse is
+   unpull, ranks, phase and statistics are no misuse in any state. Every call tests what it needs: misuse is
    answered by a code below 0, and changes nothing.
 
    What is proved. Each call's contract (crates/bale_c/src/group_calls.rt, rank_calls.rt) says
@@ -186,6 +186,14 @@ typedef struct {
     size_t count;
     uint32_t from;
 } bale_lent;
+
+/* What a rank sent and received since it was made, in all its epochs. */
+typedef struct {
+    uint64_t buffers_sent;
+    uint64_t items_sent; /* the items in these buffers */
+    uint64_t buffers_received;
+    uint64_t items_received;
+} bale_counts;
 
 /* The handles. They begin as zeros; their members are this library's. */
 typedef struct {
@@ -301,6 +309,14 @@ uint32_t bale_ranks(bale_rank *rank);
 
 /* The state, BALE_STATE_DORMANT to BALE_STATE_COMPLETE; BALE_GONE if the handle is empty. */
 int32_t bale_phase(bale_rank *rank);
+
+/* Reports what the rank sent and received since it was made, in all its epochs, also to itself.
+   items_sent / buffers_sent says how full its buffers are. A buffer is counted when advance sends or
+   collects it, with all items in it, also those that only pass through this rank (on grids of two or
+   three numbers). Each epoch ends with one last buffer on each link, which may be empty. A number
+   that would be 2^64 or more stays at 2^64 - 1. The state stays.
+   BALE_OK; BALE_GONE, and statistics is as before. */
+int32_t bale_statistics(bale_rank *rank, bale_counts *statistics);
 
 /* Frees a rank, or a group; the handle is empty after it, and may be used for another. The other
    handles go on.

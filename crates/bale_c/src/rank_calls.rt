@@ -8,9 +8,12 @@ ghost use Rattle.rank_handles.specs.Grouped.{answer_with};
 ghost use Rattle.rank_handles.specs.Items.{item_of, item_given, sender_given};
 ghost use Rattle.rank_handles.specs.Handles.{if_there, result_if_there, phase_in, ranks_in};
 ghost use Rattle.rank_handles.specs.HandleView.{seated_rank};
+ghost use Rattle.rank_handles.specs.Statistics.{statistics_given};
 
 use hop_core::Phase;
-use rank_handles::{Answer, BaleItem, BaleRank, Exchange, bale_item_from, item_from};
+use rank_handles::{
+    Answer, BaleItem, BaleRank, BaleStatistics, Exchange, bale_item_from, item_from,
+};
 use std::alloc::Global;
 
 /// Begins an epoch.
@@ -117,6 +120,20 @@ pub extern "C" fn bale_phase(rank: &mut BaleRank) -> i32
         return Answer::Gone.code();
     };
     code_of_phase(there.phase())
+}
+
+/// What the rank sent and received since it was made.
+#[unsafe(no_mangle)]
+pub extern "C" fn bale_statistics(rank: &mut BaleRank, statistics: &mut BaleStatistics) -> i32
+    ensures answer { result ≡ code_of (if_there (seated_rank rank.old) (λ s. Answer.Good)) }
+    ensures statistics { statistics.new ≡ statistics_given (seated_rank rank.old) statistics.old }
+    ensures unchanged { seated_rank rank.new ≡ seated_rank rank.old }
+{
+    let Some(there) = rank.get_mut() else {
+        return Answer::Gone.code();
+    };
+    *statistics = there.statistics();
+    Answer::Good.code()
 }
 
 /// Frees the rank. Its group and the other ranks stay.

@@ -21,6 +21,7 @@ use Rattle.rank_handles.specs.declared.item.BaleItem.{BaleItem}
 use Rattle.rank_handles.specs.Items.{item_of, bale_item}
 use Rattle.rank_handles.specs.Seated.{Seated}
 use Rattle.rank_handles.specs.Many.{steps_of, after_all, MayAll, RanSteps, then_idle, all_ranks}
+use Rattle.rank_handles.specs.declared.statistics.BaleStatistics.{BaleStatistics}
 use Rattle.rank_handles.specs.RankAtBank.{IsSeatedHandle, RunOf}
 use Rattle.rank_handles.proofs.Moves.{at, seated_still, pulled_phase}
 
@@ -96,10 +97,10 @@ ran_of seat steps old new agrees run = record {
   dims = ap (λ (z : State). z.dims) run.same;
 }
 
-pub seated_of : (bank : Identity) (seat : Option Manning) (steps : List Step) (old new : State) (count epoch : ℕ) (done : Bool) → IsSeatedHandle bank seat old count epoch done → RunOf steps old new
-    → IsSeatedHandle bank seat new count epoch done
-seated_of bank seat steps old new count epoch done was run =
-    seated_still bank seat old new count epoch done was run.kept (ap (λ (z : State). z.rank) run.same) (ap (λ (z : State). z.dims) run.same) (ap (λ (z : State). z.phase) run.same)
+pub seated_of : (bank : Identity) (seat : Option Manning) (steps : List Step) (old new : State) (count epoch : ℕ) (done : Bool) (statistics : BaleStatistics) → IsSeatedHandle bank seat old count epoch done statistics → RunOf steps old new
+    → IsSeatedHandle bank seat new count epoch done statistics
+seated_of bank seat steps old new count epoch done statistics was run =
+    seated_still bank seat old new count epoch done statistics was run.kept (ap (λ (z : State). z.rank) run.same) (ap (λ (z : State). z.dims) run.same) (ap (λ (z : State). z.phase) run.same)
     (ap (λ (z : State). z.epoch) run.same) (ap (λ (z : State). z.done) run.same)
 
 -- the steps of one item more

@@ -10,6 +10,7 @@ pub mod Ownership
 pub mod Lends
 pub mod LendsRank
 pub mod Items
+pub mod Statistics
 pub mod Handles
 pub mod HandleView
 pub mod RankAtBank

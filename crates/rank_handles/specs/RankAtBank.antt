@@ -13,6 +13,8 @@ use Rattle.port_bank.specs.Machine.{Step}
 use Rattle.convey.specs.Buffers.{buffers_of}
 use Rattle.convey.specs.Parts.{part_of}
 use Rattle.convey.specs.Conveyors.{AgreesWith, KeepsAgreement}
+use Rattle.rank_handles.specs.declared.statistics.BaleStatistics.{BaleStatistics}
+use Rattle.rank_handles.specs.Statistics.{statistics_on}
 use Rattle.rank_handles.specs.Many.{MayAll, after_all}
 
 -- No seat: of no bank, and with no lists.
@@ -42,14 +44,16 @@ pub record IsAtBank (bank : Identity) (seat : Manning) (state : State) : Type 0 
   pub dormant : state.phase ≡ Dormant → state.done ≡ false
   pub working : state.phase ≡ Working → state.done ≡ false
 
--- The seat is there and at its bank, and the counts are those of the conveyor.
+-- The seat is there and at its bank, the counts are those of the conveyor, and the statistics those
+-- of the seat.
 pub record IsSeatedHandle (bank : Identity) (seat : Option Manning) (state : State) (count epoch : ℕ)
-    (done : Bool) : Type 0 where
+    (done : Bool) (statistics : BaleStatistics) : Type 0 where
   pub there : is_some seat ≡ true
   pub at_bank : IsAtBank bank (seat_in seat) state
   pub count_is : count ≡ ranks state.dims
   pub epoch_is : epoch ≡ state.epoch
   pub done_is : done ≡ state.done
+  pub counted : statistics ≡ statistics_on (seat_in seat)
 
 -- A gathering seat of the bank, that has given out these ranks' seats.
 pub record IsAtGather (bank : Identity) (gather : Gathering) (grid : List ℕ) : Type 0 where

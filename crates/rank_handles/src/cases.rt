@@ -12,6 +12,7 @@ use crate::exchange::Exchange;
 use crate::group::Group;
 use crate::item::BaleItem;
 use crate::rank::Rank;
+use crate::statistics::BaleStatistics;
 use crate::view::BaleView;
 use bale_items::{Item, NoMemory};
 use hop_core::Phase;
@@ -118,6 +119,10 @@ impl<const CAP: usize> Exchange for HopsCase<CAP> {
         by_hops!(self, rank, rank.phase())
     }
 
+    fn statistics(&self) -> BaleStatistics {
+        by_hops!(self, rank, rank.statistics())
+    }
+
     fn begin(&mut self) -> Answer {
         by_hops!(self, rank, rank.begin())
     }
@@ -168,6 +173,10 @@ impl Exchange for AnyRank {
 
     fn phase(&self) -> Option<Phase> {
         by_capacity!(CapacityCase, &self.case, rank, rank.phase())
+    }
+
+    fn statistics(&self) -> BaleStatistics {
+        by_capacity!(CapacityCase, &self.case, rank, rank.statistics())
     }
 
     fn begin(&mut self) -> Answer {

@@ -6,11 +6,13 @@ ghost use Rattle.rank_handles.specs.Answers.{begin_answer, push_answer, pull_res
 ghost use Rattle.rank_handles.specs.Calls.{OnRank, Begins, Pushes, Pulls, Unpulls, Advances, Resets};
 ghost use Rattle.rank_handles.specs.Handles.{if_there, result_if_there, phase_in, ranks_in};
 ghost use Rattle.rank_handles.specs.Grouped.{answer_with};
+ghost use Rattle.rank_handles.specs.Statistics.{statistics_in};
 ghost use Rattle.rank_handles.specs.Views.{LentBy, pulled_answer, PullsLent};
 ghost use Rattle.rank_handles.specs.Many.{push_many_answer, pull_many_answer, number_or, moved_by, told_of, count_in, PushesMany, PullsMany};
 
 use crate::answer::Answer;
 use crate::item::BaleItem;
+use crate::statistics::BaleStatistics;
 use crate::view::BaleView;
 use bale_items::Item;
 use hop_core::Phase;
@@ -30,6 +32,10 @@ pub trait Exchange: Drop {
     /// How far the rank is in its epoch.
     fn phase(&self) -> Option<Phase>
         ensures { result ≡ option_map (λ s. s.state.phase) (seen self.now) };
+
+    /// What the rank sent and received since it was made; nothing where there is no rank.
+    fn statistics(&self) -> BaleStatistics
+        ensures { result ≡ statistics_in (seen self.now) };
 
     /// Begins an epoch.
     fn begin(&mut self) -> Answer

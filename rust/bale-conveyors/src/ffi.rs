@@ -1,5 +1,5 @@
 //! What `c/bale.h` declares.
-use crate::{Entry, Item};
+use crate::{Entry, Item, Statistics};
 use std::ffi::{c_char, c_void};
 
 /// Aligned, so that the handles of two threads share no cache line.
@@ -58,6 +58,7 @@ extern "C" {
     pub fn bale_pulled(rank: *mut Handle, count: usize) -> i32;
     pub fn bale_ranks(rank: *mut Handle) -> u32;
     pub fn bale_phase(rank: *mut Handle) -> i32;
+    pub fn bale_statistics(rank: *mut Handle, statistics: *mut Statistics) -> i32;
     pub fn bale_rank_free(rank: *mut Handle) -> i32;
     pub fn bale_group_free(group: *mut Handle) -> i32;
     pub fn bale_version() -> *const c_char;

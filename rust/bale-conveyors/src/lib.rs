@@ -88,7 +88,7 @@ mod rank;
 
 pub use error::Error;
 pub use group::Group;
-pub use rank::{Drain, Phase, Progress, Pushed, Rank, Unpushed, View};
+pub use rank::{Drain, Phase, Progress, Pushed, Rank, Statistics, Unpushed, View};
 
 /// An item as it travels: three words, whose meaning is the program's own.
 #[repr(C)]

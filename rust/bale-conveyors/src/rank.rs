@@ -247,6 +247,14 @@ impl<T: Into<Item> + From<Item>> Rank<T> {
         checked(unsafe { ffi::bale_reset(&mut *self.handle) }.into()).map(drop)
     }
 
+    /// What the rank sent and received so far.
+    pub fn statistics(&mut self) -> Statistics {
+        let mut statistics = Statistics::default();
+        // SAFETY: as said above; the numbers are valid and not shared.
+        unsafe { ffi::bale_statistics(&mut *self.handle, &mut statistics) };
+        statistics
+    }
+
     /// The state of this rank.
     pub fn phase(&mut self) -> Phase {
         // SAFETY: as said above.
@@ -289,6 +297,26 @@ impl<T> Drop for Rank<T> {
         // SAFETY: the handle is valid and not shared.
         unsafe { ffi::bale_rank_free(&mut *self.handle) };
     }
+}
+
+/// What a rank sent and received since it was made, in all its epochs, also to itself: see
+/// [`Rank::statistics`].
+///
+/// A buffer is counted when `advance` sends or collects it, with all items in it, also those that
+/// only pass through the rank. Each epoch ends with one last buffer on each link, which may be
+/// empty.
+#[repr(C)]
+#[derive(Clone, Copy, PartialEq, Eq, Hash, Default, Debug)]
+#[non_exhaustive]
+pub struct Statistics {
+    /// Buffers sent.
+    pub buffers_sent: u64,
+    /// The items in them.
+    pub items_sent: u64,
+    /// Buffers received.
+    pub buffers_received: u64,
+    /// The items in them.
+    pub items_received: u64,
 }
 
 /// Items that a rank got and has not pulled, where they came: see [`Rank::view`].

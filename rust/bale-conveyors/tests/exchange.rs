@@ -1,5 +1,5 @@
 //! Exchanges: what was pushed is what is pulled, in the order of each sender.
-use bale_conveyors::{Error, Group, Item, Pushed, Rank};
+use bale_conveyors::{Error, Group, Item, Pushed, Rank, Statistics};
 use std::{sync::mpsc, thread};
 
 type Words = [u64; 3];
@@ -42,6 +42,26 @@ fn a_full_buffer_gives_the_item_back() {
     assert!(!rank.push([7, 8, 9], 0).unwrap().is_accepted());
     let wanted: Vec<_> = (0..4).map(|k| (0, [k, 0, 0])).collect();
     assert_eq!(finish(&mut [rank]), [wanted]);
+}
+
+#[test]
+fn statistics_count_buffers_and_their_items() {
+    let mut ranks = ranks(2, 4);
+    assert_eq!(ranks[0].statistics(), Statistics::default());
+    for rank in &mut ranks {
+        rank.begin().unwrap();
+    }
+    for k in 0..4 {
+        assert!(ranks[0].push([k, 0, 0], 1).unwrap().is_accepted());
+    }
+    finish(&mut ranks);
+    let (sender, receiver) = (ranks[0].statistics(), ranks[1].statistics());
+    assert_eq!((sender.items_sent, sender.items_received), (4, 0));
+    assert_eq!((receiver.items_sent, receiver.items_received), (0, 4));
+    // One buffer on each link: the last one of the epoch, which to rank 1 has the four items.
+    for counts in [sender, receiver] {
+        assert_eq!((counts.buffers_sent, counts.buffers_received), (2, 2));
+    }
 }
 
 #[test]

@@ -5,7 +5,8 @@ use Rattle.link_slots.specs.SeatView.{Identity, Manning}
 use Rattle.hop_core.specs.State.{State}
 use Rattle.rank_handles.specs.Grouped.{NewRank}
 use Rattle.rank_handles.proofs.Moves.{at}
-use Rattle.rank_handles.proofs.Starts.{seated_at, new_at}
+use Rattle.rank_handles.proofs.Starts.{seated_at, new_at, none_sent, none_got}
+use Rattle.rank_handles.proofs.Counting.{statistics_none}
 use Rattle.rank_handles.proofs.rank.Rank.new.Goals as goal
 
 pub invariant_of-result : goal.invariant_of-result
@@ -21,6 +22,11 @@ invariant_of-result g c =
       count_is = c.ranks.ensures.value ∙ ap ranks (sym (ap (λ (z : State). z.dims) is));
       epoch_is = sym (ap (λ (z : State). z.epoch) is);
       done_is = sym (ap (λ (z : State). z.done) is);
+      counted = c.none.ensures ∙ statistics_none c.seat-seat.result (none_sent c.deref.result.now c.args.grid.now c.args.rank g.row.CAP c.args.steady c.seat-seat.result c.in_ok-conveyor.conveyor
+          (c.requires.seat.at_gather.grid_is ∙ ap (λ (b : Identity). b.shape.dims) given) (ap (λ (m : Manning). m.id) seat) (ap (λ (m : Manning). m.shape) seat) (ap (λ (m : Manning). m.rank) seat)
+          (ap (λ (m : Manning). m.lists) seat) is c.in_ok-conveyor.ensures.agrees) (none_got c.deref.result.now c.args.grid.now c.args.rank g.row.CAP c.args.steady c.seat-seat.result c.in_ok-conveyor.conveyor
+          (c.requires.seat.at_gather.grid_is ∙ ap (λ (b : Identity). b.shape.dims) given) (ap (λ (m : Manning). m.id) seat) (ap (λ (m : Manning). m.shape) seat) (ap (λ (m : Manning). m.rank) seat)
+          (ap (λ (m : Manning). m.lists) seat) is c.in_ok-conveyor.ensures.agrees);
     }
 
 pub returns-clause-made : goal.returns-clause-made

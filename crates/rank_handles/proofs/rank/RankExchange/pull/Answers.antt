@@ -29,6 +29,6 @@ returns-in_default g c =
 pub invariant_of-self : goal.invariant_of-self
 invariant_of-self g c =
     let old = c.self.inside.conveyor in let l = lowest_unread old in let is = c.pull.ensures.state in
-    seated_still (arc_value c.self.inside.bank) c.self.inside.seat old c.pull.new.self c.self.inside.ranks c.self.inside.epoch c.self.inside.done c.self.invariant c.pull.ensures.kept
+    seated_still (arc_value c.self.inside.bank) c.self.inside.seat old c.pull.new.self c.self.inside.ranks c.self.inside.epoch c.self.inside.done c.self.inside.statistics c.self.invariant c.pull.ensures.kept
     (ap (λ (z : State). z.rank) is ∙ pulled_rank old l) (ap (λ (z : State). z.dims) is ∙ pulled_dims old l) (ap (λ (z : State). z.phase) is ∙ pulled_phase old l)
     (ap (λ (z : State). z.epoch) is ∙ pulled_epoch old l) (ap (λ (z : State). z.done) is ∙ pulled_done old l)

@@ -31,4 +31,4 @@ loop-asker-preserved g c = record {
 }
 
 pub returns : goal.returns
-returns g c = making_all g.A.Asker.talk c.args.grid.now c.args.steady c.args.askers c.loop-asker.askers c.loop-asker.all.items c.loop-asker.invariant.making (sym c.take_first.ensures.first ∙ c.in_default.is)
+returns g c = making_all g.A.Asker.talk c.args.grid.now c.args.steady c.args.askers c.loop-asker.askers c.loop-asker.all.items c.loop-asker.invariant.making (sym c.take_first.ensures.first ∙ c.in_default-take_first.is)

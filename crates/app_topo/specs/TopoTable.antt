@@ -13,9 +13,10 @@ use Rattle.app_topo.specs.Topos.{topo_rules}
 use Rattle.app_topo.specs.TopoRuns.{topo_starts}
 use Rattle.sparse_rows.specs.Emits.{item, Emit}
 
--- Round 0: each own entry, to the owner of its row and then to the owner of its column.
--- for each own entry (i,j,v) in order: to i mod ranks, (i,j,0), then to j mod ranks, (j,i,1) of
--- (0,0), (0,1), (1,1) on 2 ranks: rank 1, whose entry is (0,1), emits (0,1,0) to rank 0 and then
+-- Round 0: each own entry, to the owner of its row and then to the owner of its column. An entry is
+-- owned by its number in the text, and a row and a column by their index, each modulo `ranks`.
+-- for each own entry (i,j,v) in order: to i mod ranks, (i,j,0), then to j mod ranks, (j,i,1)
+-- of (0,0), (0,1), (1,1) on 2 ranks: rank 1, whose entry is (0,1), emits (0,1,0) to rank 0 and then
 -- (1,0,1) to rank 1
 abbrev pub entries_told : ℕ → Sparse → ℕ → List (ℕ × Item)
 entries_told ranks m r =
@@ -34,7 +35,7 @@ level_at m t = level m.rows m.entries (claims_after m.rows m.entries t)
 abbrev pub rows_claim : ℕ → Sparse → ℕ → ℕ → List (ℕ × Item)
 rows_claim ranks m t r = map (λ c. (c.1 % ranks, item c.1 c.0 2)) (dealt (λ c. c.0 % ranks) r (level_at m t))
 
--- The entries as (column, row), by column and then row.
+-- The entries as (column, row), by column and then row: `i` is the column here, and `j` the row.
 -- of (0,0), (0,1), (1,1): (0,0), (1,0), (1,1)
 abbrev pub columns_first : Sparse → List Triple
 columns_first m = gathered_cells (map (λ t. record { i = t.j; j = t.i; v = pos 0 }) m.entries)

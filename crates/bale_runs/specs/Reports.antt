@@ -43,15 +43,15 @@ unfoldable pub IsTable : Task → ℕ → Subject → Table → Type 0
 IsTable t p (subject.Matrix m) table = IsMatrixTable t p m table
 IsTable t p (subject.Lines lines) table = table ≡ tally_table p lines
 
--- What rank s sends to rank d in an epoch of a table: the items of round m in epoch 2m, and in
--- epoch 2m + 1 its vote on that round.
+-- What rank s sends to rank d in an epoch of a table: the items of round n in epoch 2n, and in
+-- epoch 2n + 1 its vote on that round, also where it is 0.
 -- of histo's table on 2 ranks: in epoch 0 the ones for d's columns, in epoch 1 the item (0,0,0)
 abbrev pub in_epoch : Table → ℕ → ℕ → ℕ → List Item
 in_epoch t e s d = if e % 2 == 0 then items_of d (t.line (e / 2) s) else carrying (t.vote (e / 2) s) ∷ []
 
 -- A transcript (`ClosedRound`) reports `epochs` epochs: what each rank sent to each in each.
 -- What holds of every transcript is not said again: ClosedRound's ranks and epochs tell it
--- (IsRound).
+-- (IsRound of port_bank), for instance that no parcel has more than `cap` entries.
 -- bank: it was made as asked.
 -- ended, by_last: each link ended so many epochs, and nothing came after them. collected: all
 -- parcels were.
@@ -74,37 +74,37 @@ pub record Reports (made : Made) (manner : Manner) (epochs : ℕ) (sent : ℕ �
 
 -- A run leaves one transcript, which reports a table: two epochs for each of its rounds.
 pub record ReportsTable (Is : Table → Type 0) (made : Made) (manner : Manner)
-    (rounds : List ClosedRound) : Type 0 where
+    (transcripts : List ClosedRound) : Type 0 where
   pub closed : ClosedRound
-  pub only : rounds ≡ closed ∷ []
+  pub only : transcripts ≡ closed ∷ []
   pub table : Table
   pub is : Is table
   pub reports : Reports made manner (2 * table.rounds) (in_epoch table) (round_inside closed)
 
 -- The rounds of ig by queries and replies are three, over banks of one make: the round in which the
 -- columns are summed, the queries of each entry's rank for its column, and the replies.
-pub record ReportsAsking (m : Sparse) (made : Made) (steady : Bool) (rounds : List ClosedRound) : Type 0 where
+pub record ReportsAsking (m : Sparse) (made : Made) (steady : Bool) (transcripts : List ClosedRound) : Type 0 where
   pub sums : ClosedRound
   pub queries : ClosedRound
   pub replies : ClosedRound
-  pub three : rounds ≡ sums ∷ queries ∷ replies ∷ []
+  pub three : transcripts ≡ sums ∷ queries ∷ replies ∷ []
   pub summed : Reports made (ByConveyor steady) 2 (in_epoch (sums_table (ranks made.dims) m)) (round_inside sums)
   pub asked : Reports made (ByConveyor steady) 1 (λ e. queries_for m (ranks made.dims)) (round_inside queries)
   pub replied : Reports made (ByConveyor steady) 1 (λ e. replies_for m (ranks made.dims)) (round_inside replies)
 
 -- By queries and replies or not. Lines have no columns to ask for.
 unfoldable pub ReportsBy : Bool → Command → Subject → Made → List ClosedRound → Type 0
-ReportsBy true c (subject.Matrix m) made rounds = ReportsAsking m made c.travel.steady rounds
-ReportsBy true c (subject.Lines lines) made rounds = ⊥
-ReportsBy false c s made rounds = ReportsTable (IsTable c.task (ranks made.dims) s) made (manner_for c) rounds
+ReportsBy true c (subject.Matrix m) made transcripts = ReportsAsking m made c.travel.steady transcripts
+ReportsBy true c (subject.Lines lines) made transcripts = ⊥
+ReportsBy false c s made transcripts = ReportsTable (IsTable c.task (ranks made.dims) s) made (manner_for c) transcripts
 
--- The rounds report what a command exchanged for its subject, on one thread or by threads.
+-- The transcripts report what a command exchanged for its subject, on one thread or by threads.
 -- For histo on 4 ranks: the one round of histo_table 4 m, and the votes on it, which are 0.
 unfoldable pub ReportsCommand : Bool → Command → Subject → List ClosedRound → Type 0
-ReportsCommand serial c s rounds = ReportsBy (by_asking c) c s (made_for serial c) rounds
+ReportsCommand serial c s transcripts = ReportsBy (by_asking c) c s (made_for serial c) transcripts
 
 -- `told` holds of the turns of each rank, by the rank's number and its own, counted from 0: of at
--- least as many as a link of the first closed round ended epochs.
+-- least as many as a link of the first transcript ended epochs.
 -- For histo on 4 ranks, which has one round and so two epochs: of two turns of each rank.
 unfoldable pub ToldOfEpochs : List ℕ → (ℕ → ℕ → Bool) → List ClosedRound → Type 0
 ToldOfEpochs dims told [] = Unit {0}

@@ -70,20 +70,22 @@ columns_claimed ranks m t r =
 
 -- Round 0: entries go to the owners of their rows and columns; round 2t + 1: each row of level t
 -- claims its column; round 2t + 2: the owners of rows learn that a column with an entry there is
--- claimed. The third number of an item is its kind, from 0 to 3.
+-- claimed. The third number of an item is its kind: 0 for (row, column) to the row's owner, 1 and 2
+-- for (column, row) to the column's owner, 3 for (row, column) to the row's owner.
 abbrev pub topo_sends : ℕ → Sparse → ℕ → ℕ → List (ℕ × Item)
 topo_sends ranks m n =
     if n == 0 then entries_told ranks m
     else if n % 2 == 1 then rows_claim ranks m (n / 2) else columns_fall ranks m (n / 2 - 1)
 
 -- In round 2t + 1 a rank votes how many of its columns were claimed. Votes of even rounds are 0 and
--- end nothing: the run ends after the first odd round whose votes sum to 0.
+-- end nothing: the run ends after the first odd round whose votes sum to 0, which is that of the
+-- first empty level.
 abbrev pub topo_vote : ℕ → Sparse → ℕ → ℕ → ℕ
 topo_vote ranks m n r = if n % 2 == 1 then length (columns_claimed ranks m (n / 2) r) else 0
 
 -- topo has 2l + 2 rounds, where l is the number of levels that aren't empty.
--- of (0,0), (0,1), (1,1), with levels 0 and 1: six rounds, with votes in rounds 1 and 3, and none
--- in round 5, which is the last
+-- of (0,0), (0,1), (1,1), with levels 0 and 1: six rounds, with votes above 0 in rounds 1 and 3;
+-- round 5, whose votes are all 0, is the last
 pub record IsTopoTable (ranks : ℕ) (m : Sparse) (t : Table) : Type 0 where
   pub levels : ℕ
   pub some : (k : ℕ) → k < levels → level_at m k ≢ []

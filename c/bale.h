@@ -65,20 +65,20 @@
 
        state      what it means                                 calls, and the state after them
        DORMANT    the epoch has not begun                       begin -> WORKING
-       WORKING    items may be pushed                           push, pull;
+       WORKING    items may be pushed                           push, pull, view, pulled;
                                                                 advance(false) -> WORKING;
                                                                 advance(true) -> ENDGAME or CLEANUP
-       ENDGAME    it said done; buffers are still to be sent    pull; advance(true) -> ENDGAME,
-                                                                CLEANUP or COMPLETE
-       CLEANUP    all it had is sent; items come or wait        pull; advance(true) -> CLEANUP
-                                                                or COMPLETE
+       ENDGAME    it said done; buffers are still to be sent    pull, view, pulled; advance(true)
+                                                                -> ENDGAME, CLEANUP or COMPLETE
+       CLEANUP    all it had is sent; items come or wait        pull, view, pulled; advance(true)
+                                                                -> CLEANUP or COMPLETE
        COMPLETE   every rank said done, and all that was        reset -> DORMANT, an epoch later;
-                  pushed toward this rank was pulled            pull finds nothing, and
+                  pushed toward this rank was pulled            pull and view find nothing, and
                                                                 advance(true) stays
 
    bale_phase reports them as BALE_STATE_DORMANT to BALE_STATE_COMPLETE.
 
-   unpull, ranks and phase are no misuse in any state. Every call tests what it needs: misuse is
+   unpull, ranks, phase and statistics are no misuse in any state. Every call tests what it needs: misuse is
    answered by a code below 0, and changes nothing.
 
    What is proved. Each call's contract (crates/bale_c/src/group_calls.rt, rank_calls.rt) says
@@ -154,7 +154,8 @@ enum {
     BALE_BAD_NUMBERS = -8,  /* group_new: no grid, no capacity, or no number of slots */
     BALE_IN_USE = -9,       /* new: the handle that is to be made is live */
     BALE_TAKEN = -10,       /* rank_new: this rank of the group was made before */
-    BALE_LAST_EPOCH = -11   /* reset: 2^63 epochs are over, and no number is left for another */
+    BALE_LAST_EPOCH = -11,  /* reset: 2^63 epochs are over, and no number is left for another */
+    BALE_NOT_LENT = -12     /* pulled: a view lends fewer items now */
 };
 
 /* The states of a rank, as bale_phase reports them. No state has the number of an answer. */
@@ -172,6 +173,27 @@ typedef struct {
     uint64_t b;
     uint64_t c;
 } bale_item;
+
+/* An item in the buffer in which it came. way is the library's own. */
+typedef struct {
+    uint8_t way[3];
+    bale_item item;
+} bale_entry;
+
+/* Entries that a rank lends, and the rank that pushed their items. */
+typedef struct {
+    const bale_entry *entries;
+    size_t count;
+    uint32_t from;
+} bale_lent;
+
+/* What a rank sent and received since it was made, in all its epochs. */
+typedef struct {
+    uint64_t buffers_sent;
+    uint64_t items_sent; /* the items in these buffers */
+    uint64_t buffers_received;
+    uint64_t items_received;
+} bale_counts;
 
 /* The handles. They begin as zeros; their members are this library's. */
 typedef struct {
@@ -250,11 +272,51 @@ int64_t bale_push_many(bale_rank *rank, const bale_item *items, size_t nitems, c
 int64_t bale_pull_many(bale_rank *rank, bale_item *items, size_t nitems, uint32_t *from,
                        size_t nfrom);
 
+/* Lends what the next pulls give, where it came, without a copy: entries[0].item is what the next
+   bale_pull would give, entries[1].item what the one after it would, and so on. There are count of
+   them, all in one buffer, and rank from pushed them all. Nothing is pulled; the rank is as before.
+
+       const bale_entry *entries;
+       size_t count;
+       uint32_t from;
+       while (bale_view(rank, &entries, &count, &from) == BALE_OK) {
+           for (size_t k = 0; k < count; k++)
+               use(entries[k].item, from);
+           bale_pulled(rank, count);
+       }
+
+   The entries may be read, and not written, until the next call on this rank other than a push:
+   bale_push and bale_push_many leave them where they are, so that answers may be pushed at once.
+   (Proved is what the entries are until the next call of any kind. That a push leaves them is
+   tested, and so is that the rank is as before.)
+   BALE_OK, of at least one entry; BALE_NONE, BALE_GONE or BALE_NOT_BEGUN as bale_pull, and count
+   is 0. */
+static inline int32_t bale_view(bale_rank *rank, const bale_entry **entries, size_t *count,
+                                uint32_t *from);
+
+/* Pulls the first count items that a view lends now, as so many calls of bale_pull. It may be fewer
+   than a view lent. The state stays.
+   BALE_OK; BALE_NOT_LENT where a view lends fewer now, as after another call that pulled, and
+   nothing is pulled; BALE_GONE; BALE_NOT_BEGUN. */
+int32_t bale_pulled(bale_rank *rank, size_t count);
+
+/* What bale_view calls. lent begins as an address that can be read, with count 0, and is as before
+   unless the answer is BALE_OK. */
+int32_t bale_lend(bale_rank *rank, bale_lent *lent);
+
 /* How many ranks there are; 0 where the handle is empty. */
 uint32_t bale_ranks(bale_rank *rank);
 
 /* The state, BALE_STATE_DORMANT to BALE_STATE_COMPLETE; BALE_GONE if the handle is empty. */
 int32_t bale_phase(bale_rank *rank);
+
+/* Reports what the rank sent and received since it was made, in all its epochs, also to itself.
+   items_sent / buffers_sent says how full its buffers are. A buffer is counted when advance sends or
+   collects it, with all items in it, also those that only pass through this rank (on grids of two or
+   three numbers). Each epoch ends with one last buffer on each link, which may be empty. A number
+   that would be 2^64 or more stays at 2^64 - 1. The state stays.
+   BALE_OK; BALE_GONE, and statistics is as before. */
+int32_t bale_statistics(bale_rank *rank, bale_counts *statistics);
 
 /* Frees a rank, or a group; the handle is empty after it, and may be used for another. The other
    handles go on.
@@ -265,6 +327,17 @@ int32_t bale_group_free(bale_group *group);
 /* The version of the library, as BALE_VERSION has it; " (unproved)" follows if c/build --unproved
    made the library. */
 const char *bale_version(void);
+
+static inline int32_t bale_view(bale_rank *rank, const bale_entry **entries, size_t *count,
+                                uint32_t *from) {
+    static const bale_entry none = {{0, 0, 0}, {0, 0, 0}};
+    bale_lent lent = {&none, 0, 0};
+    int32_t answer = bale_lend(rank, &lent);
+    *entries = lent.entries;
+    *count = lent.count;
+    *from = lent.from;
+    return answer;
+}
 
 /* An answer's name. */
 static inline const char *bale_text(int32_t answer) {
@@ -287,6 +360,7 @@ static inline const char *bale_text(int32_t answer) {
     case BALE_IN_USE: return "the handle is in use";
     case BALE_TAKEN: return "the rank was made before";
     case BALE_LAST_EPOCH: return "no number is left for another epoch";
+    case BALE_NOT_LENT: return "a view lends fewer items";
     /* end of answers */
     default: return "no answer";
     }

@@ -225,11 +225,179 @@ static inline uint64_t bale_max(bale_rank *rank, uint64_t mine) {
     return bale_reduce_(rank, mine, 0, bale_take_max_);
 }
 
-/* A rank of bale_run, with what its thread does. */
+/* Queries and replies, as libconvey's biconvey has them: each rank asks any other rank, and answers
+   what it is asked. Queries go over one group and replies over another, and both epochs begin and
+   end together. The reads of a table that is dealt out over all ranks:
+
+       static void answer(void *context, void *item, uint32_t from) { // a: the place, b: which read
+           bale_item *it = (bale_item *)item;
+           (void)from;
+           it->a = ((reader *)context)->table[it->a]; // b stays for the reader
+       }
+
+       static void heard(void *context, const void *item, uint32_t from) {
+           const bale_item *it = (const bale_item *)item;
+           (void)from;
+           ((reader *)context)->values[it->b] = it->a;
+       }
+
+       static void work(bale_asker *asker, uint32_t me, void *context) {
+           reader *my = (reader *)context + me;
+           bale_ask_begin(asker, answer, heard, my);
+           for (uint64_t k = 0; k < my->reads; k++) {
+               bale_item query = {my->index[k] / 4, k, 0};
+               bale_ask(asker, &query, my->index[k] % 4);
+           }
+           bale_ask_finish(asker); // all of my->values are there
+       }
+
+   with bale_run_asking(4, work, readers). Each query is answered once, and its reply is heard once.
+
+   Order: the k-th reply that is heard from a rank belongs to the k-th query to that rank in this
+   epoch. Replies of different ranks come in any order. A rank may tell the replies' group that it
+   is done only when the queries' epoch is COMPLETE for it and its last reply is pushed, since only
+   then no query can come any more; bale_ask_finish keeps to this. */
+
+/* Makes a query its reply: item has the 24 bytes of the query, and is overwritten with the reply.
+   from is the rank that asked. It is called once for each query, and makes no call on the asker. */
+typedef void bale_answer(void *context, void *item, uint32_t from);
+
+/* A rank that asks and answers: its rank in each of the two groups. The members are the helpers'
+   own. */
+typedef struct {
+    bale_rank *queries;
+    bale_rank *replies;
+    bale_answer *answer;
+    bale_take *heard;
+    void *context;
+    bale_item reply; /* the latest reply */
+    uint32_t to;     /* the rank that it is for */
+    bool waits;      /* whether it has found no room so far */
+} bale_asker;
+
+/* What each thread of bale_run_asking does: as a bale_work. */
+typedef void bale_ask_work(bale_asker *asker, uint32_t me, void *context);
+
+/* Begins an epoch of queries and replies. answer is called with each query that comes, and heard
+   with each reply, and both with the context. heard makes no call on the asker.
+   BALE_OK, or what is wrong: as bale_begin. */
+static inline int32_t bale_ask_begin(bale_asker *asker, bale_answer *answer, bale_take *heard,
+                                     void *context) {
+    int32_t begun = bale_begin(asker->queries);
+    if (begun == BALE_OK)
+        begun = bale_begin(asker->replies);
+    if (begun < 0) {
+        BALE_FAILED("bale_ask_begin", begun);
+        return begun;
+    }
+    asker->answer = answer;
+    asker->heard = heard;
+    asker->context = context;
+    asker->waits = false;
+    return begun;
+}
+
+/* Pushes the latest reply: below 0 what is wrong. */
+static inline int32_t bale_reply_(bale_asker *asker) {
+    int32_t answer = bale_push(asker->replies, &asker->reply, asker->to);
+    asker->waits = answer == BALE_FULL;
+    return answer;
+}
+
+/* Answers the queries that have come, until a reply finds no room: how many, or below 0 what is
+   wrong. */
+static inline int64_t bale_answer_all_(bale_asker *asker) {
+    const bale_entry *entries;
+    size_t count, done;
+    int64_t all = 0;
+    int32_t answer = asker->waits ? bale_reply_(asker) : BALE_OK;
+    while (!asker->waits && answer >= 0) {
+        answer = bale_view(asker->queries, &entries, &count, &asker->to);
+        if (answer != BALE_OK)
+            return answer < 0 ? answer : all;
+        for (done = 0; done < count && !asker->waits && answer >= 0; done++) {
+            asker->reply = entries[done].item;
+            asker->answer(asker->context, &asker->reply, asker->to);
+            answer = bale_reply_(asker);
+        }
+        bale_pulled(asker->queries, done);
+        all += (int64_t)done;
+    }
+    return answer < 0 ? answer : all;
+}
+
+/* Advances both groups once, answers and hears, and gives the processor away if nothing had come.
+   done says that this rank asks nothing more in this epoch. As bale_advance of the replies. */
+static inline int32_t bale_ask_advance_(bale_asker *asker, bool done) {
+    int32_t answer = bale_advance(asker->queries, done);
+    bool last = answer == BALE_COMPLETE;
+    int64_t answered = 0, heard;
+    if (answer >= 0 && (answered = bale_answer_all_(asker)) < 0)
+        answer = (int32_t)answered;
+    if (answer >= 0)
+        answer = bale_advance(asker->replies, last && !asker->waits);
+    if (answer < 0) {
+        BALE_FAILED("bale_ask_advance", answer);
+        return answer;
+    }
+    heard = bale_drain(asker->replies, asker->heard, asker->context);
+    if (answered + heard == 0)
+        sched_yield();
+    return heard < 0 ? (int32_t)heard : answer;
+}
+
+/* bale_ask with the query's size, up to 24 bytes. */
+static inline int32_t bale_ask_(bale_asker *asker, const void *bytes, size_t size, uint32_t to) {
+    bale_item item = {0, 0, 0};
+    int32_t answer;
+    memcpy(&item, bytes, size);
+    while ((answer = bale_push(asker->queries, &item, to)) == BALE_FULL)
+        if ((answer = bale_ask_advance_(asker, false)) < 0)
+            return answer;
+    if (answer < 0)
+        BALE_FAILED("bale_ask", answer);
+    return answer;
+}
+
+/* bale_ask(asker, pointer, to) asks a rank *pointer, of a type as bale_send takes it. While there
+   is no room for it, it answers and hears.
+   BALE_OK, or what is wrong: as bale_push. */
+#ifdef __cplusplus
+template <typename Type>
+inline int32_t bale_ask(bale_asker *asker, const Type *pointer, uint32_t to) {
+    static_assert(std::is_trivially_copyable<Type>::value, "the bytes of an item are its value");
+    static_assert(sizeof(Type) <= sizeof(bale_item), "an item has at most 24 bytes");
+    return bale_ask_(asker, pointer, sizeof(Type), to);
+}
+#else
+#define bale_ask(asker, pointer, to) \
+    bale_ask_(asker, pointer,        \
+              sizeof(*(pointer)) * BALE_FITS_(*(pointer)) * BALE_NO_VOID_(pointer), to)
+#endif
+
+/* Ends the epoch of queries and replies: says that this rank asks nothing more, answers and hears
+   until every rank has said so and every reply was heard, and resets. After it the asker may begin
+   again.
+   BALE_OK, or what is wrong: as bale_advance and bale_reset. */
+static inline int32_t bale_ask_finish(bale_asker *asker) {
+    int32_t answer;
+    while ((answer = bale_ask_advance_(asker, true)) != BALE_COMPLETE)
+        if (answer < 0)
+            return answer;
+    if ((answer = bale_reset(asker->queries)) == BALE_OK)
+        answer = bale_reset(asker->replies);
+    if (answer < 0)
+        BALE_FAILED("bale_ask_finish", answer);
+    return answer;
+}
+
+/* A rank of bale_run or bale_run_asking, with what its thread does. */
 typedef struct {
     bale_rank rank;
+    bale_rank replies; /* of bale_run_asking */
     uint32_t me;
     bale_work *work;
+    bale_ask_work *ask_work; /* in place of work, if it is not NULL */
     void *context;
     pthread_mutex_t *gate; /* held until all threads are there */
     const bool *all_there; /* whether they are; if not, no thread works */
@@ -237,10 +405,16 @@ typedef struct {
 
 static inline void *bale_thread_main_(void *arg) {
     bale_thread_ *my = (bale_thread_ *)arg;
+    bale_asker asker;
+    memset(&asker, 0, sizeof asker);
+    asker.queries = &my->rank;
+    asker.replies = &my->replies;
     pthread_mutex_lock(my->gate);
     bool works = *my->all_there;
     pthread_mutex_unlock(my->gate);
-    if (works)
+    if (works && my->ask_work != NULL)
+        my->ask_work(&asker, my->me, my->context);
+    else if (works)
         my->work(&my->rank, my->me, my->context);
     return NULL;
 }
@@ -267,31 +441,65 @@ static inline bool bale_threads_(bale_thread_ *threads, uint32_t count) {
     return all_there;
 }
 
-/* As bale_run, with the grid, buffer, slots and steady of bale_group_new. */
-static inline int32_t bale_run_on(const uint32_t *dims, size_t ndims, uint32_t buffer,
-                                  uint32_t slots, bool steady, bale_work *work, void *context) {
+/* As bale_run_on and bale_run_asking_on: calls that one of both that is not NULL. */
+static inline int32_t bale_run_either_(const uint32_t *dims, size_t ndims, uint32_t buffer,
+                                       uint32_t slots, bool steady, bale_work *work,
+                                       bale_ask_work *ask_work, void *context) {
     bale_thread_ threads[64];
-    bale_group group;
+    bale_group group, replies;
     memset(threads, 0, sizeof threads);
     memset(&group, 0, sizeof group);
+    memset(&replies, 0, sizeof replies);
     int32_t answer = bale_group_new(dims, ndims, buffer, slots, steady, &group);
-    uint32_t made = 0, ranks = 1;
+    uint32_t ranks = 1;
+    if (answer == BALE_OK && ask_work != NULL)
+        answer = bale_group_new(dims, ndims, buffer, slots, steady, &replies);
     for (size_t k = 0; k < ndims && answer == BALE_OK; k++)
         ranks *= dims[k];
-    for (; answer == BALE_OK && made < ranks; made++) {
-        threads[made].me = made;
-        threads[made].work = work;
-        threads[made].context = context;
-        answer = bale_rank_new(&group, made, &threads[made].rank);
+    for (uint32_t r = 0; r < ranks && answer == BALE_OK; r++) {
+        threads[r].me = r;
+        threads[r].work = work;
+        threads[r].ask_work = ask_work;
+        threads[r].context = context;
+        answer = bale_rank_new(&group, r, &threads[r].rank);
+        if (answer == BALE_OK && ask_work != NULL)
+            answer = bale_rank_new(&replies, r, &threads[r].replies);
     }
     if (answer == BALE_OK && !bale_threads_(threads, ranks))
         answer = BALE_NO_MEMORY;
-    while (made > 0)
-        bale_rank_free(&threads[--made].rank);
+    for (uint32_t r = 0; r < 64; r++) { /* An empty handle stays as it is. */
+        bale_rank_free(&threads[r].rank);
+        bale_rank_free(&threads[r].replies);
+    }
     bale_group_free(&group);
+    bale_group_free(&replies);
+    return answer;
+}
+
+/* As bale_run, with the grid, buffer, slots and steady of bale_group_new. */
+static inline int32_t bale_run_on(const uint32_t *dims, size_t ndims, uint32_t buffer,
+                                  uint32_t slots, bool steady, bale_work *work, void *context) {
+    int32_t answer =
+        bale_run_either_(dims, ndims, buffer, slots, steady, work, NULL, context);
     if (answer < 0)
         BALE_FAILED("bale_run", answer);
     return answer;
+}
+
+/* As bale_run_asking, with the grid, buffer, slots and steady of both groups. */
+static inline int32_t bale_run_asking_on(const uint32_t *dims, size_t ndims, uint32_t buffer,
+                                         uint32_t slots, bool steady, bale_ask_work *work,
+                                         void *context) {
+    int32_t answer =
+        bale_run_either_(dims, ndims, buffer, slots, steady, NULL, work, context);
+    if (answer < 0)
+        BALE_FAILED("bale_run_asking", answer);
+    return answer;
+}
+
+/* How many items travel together, if nothing else is said. */
+static inline uint32_t bale_buffer_(uint32_t ranks) {
+    return ranks <= 8 ? 1024 : ranks <= 16 ? 256 : 64;
 }
 
 /* Makes so many ranks, 1 to 64, calls work for each on a thread of its own, waits for all of them,
@@ -300,8 +508,12 @@ static inline int32_t bale_run_on(const uint32_t *dims, size_t ndims, uint32_t b
    BALE_OK; BALE_BAD_NUMBERS; BALE_NO_MEMORY, also if a thread can't be started, and then work was
    not called. */
 static inline int32_t bale_run(uint32_t ranks, bale_work *work, void *context) {
-    return bale_run_on(&ranks, 1, ranks <= 8 ? 1024 : ranks <= 16 ? 256 : 64, 2, false, work,
-                       context);
+    return bale_run_on(&ranks, 1, bale_buffer_(ranks), 2, false, work, context);
+}
+
+/* As bale_run, for ranks that ask each other. */
+static inline int32_t bale_run_asking(uint32_t ranks, bale_ask_work *work, void *context) {
+    return bale_run_asking_on(&ranks, 1, bale_buffer_(ranks), 2, false, work, context);
 }
 
 #endif

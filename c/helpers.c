@@ -133,6 +133,48 @@ static void goes(bale_rank *rank, uint32_t me, void *context) {
     WANT(bale_sum(rank, pulled) == (uint64_t)ranks * ITEMS);
 }
 
+/* Two epochs of queries and replies. The k-th query to a rank is k, and the k-th reply to a rank has to be the k-th
+   number that this rank was asked for by it, times the rank plus one. */
+typedef struct {
+    uint32_t me;
+    uint32_t answered[MOST], heard[MOST];
+} desk;
+
+static void answer_query(void *context, void *item, uint32_t from) {
+    desk *my = (desk *)context;
+    uint32_t asked = bale_value(uint32_t, item);
+    WANT(asked == my->answered[from]);
+    large reply = {my->me, my->answered[from]++, (uint64_t)asked * (my->me + 1), from};
+    memcpy(item, &reply, sizeof reply);
+}
+
+static void hear_reply(void *context, const void *item, uint32_t from) {
+    desk *my = (desk *)context;
+    large reply = bale_value(large, item);
+    WANT(reply.sender == from && reply.again == my->me && reply.number == my->heard[from]);
+    WANT(reply.square == (uint64_t)my->heard[from] * (from + 1));
+    my->heard[from]++;
+}
+
+/* Rank r asks rank t ITEMS times, except that only even ranks ask in the second epoch. */
+static void asks(bale_asker *asker, uint32_t me, void *context) {
+    uint32_t ranks = *(uint32_t *)context;
+    for (uint32_t round = 0; round < 2; round++) {
+        desk my;
+        memset(&my, 0, sizeof my);
+        my.me = me;
+        WANT(bale_ask_begin(asker, answer_query, hear_reply, &my) == BALE_OK);
+        for (uint32_t k = 0; k < ITEMS && me % (round + 1) == 0; k++)
+            for (uint32_t to = 0; to < ranks; to++)
+                WANT(bale_ask(asker, &k, to) == BALE_OK);
+        WANT(bale_ask_finish(asker) == BALE_OK);
+        for (uint32_t from = 0; from < ranks; from++) {
+            WANT(my.heard[from] == (me % (round + 1) == 0 ? ITEMS : 0));
+            WANT(my.answered[from] == (from % (round + 1) == 0 ? ITEMS : 0));
+        }
+    }
+}
+
 static void on(uint32_t a, uint32_t b, uint32_t buffer, uint32_t slots, bool steady) {
     uint32_t dims[2], ranks = a * b;
     dims[0] = a, dims[1] = b;
@@ -142,6 +184,7 @@ static void on(uint32_t a, uint32_t b, uint32_t buffer, uint32_t slots, bool ste
         WANT(started[r] == (r < ranks));
     WANT(bale_run_on(dims, b == 1 ? 1 : 2, buffer, slots, steady, reduces, &ranks) == BALE_OK);
     WANT(bale_run_on(dims, b == 1 ? 1 : 2, buffer, slots, steady, goes, &ranks) == BALE_OK);
+    WANT(bale_run_asking_on(dims, b == 1 ? 1 : 2, buffer, slots, steady, asks, &ranks) == BALE_OK);
 }
 
 /* One rank alone, in one thread's hands, at misuse. */
@@ -172,6 +215,25 @@ static void misuses(bale_rank *rank, uint32_t me, void *context) {
     WANT(bale_finish(rank, take_call, &my) == BALE_OK && my.calls == 3 * 1024 && noted_call == NULL);
 }
 
+static void ask_misuses(bale_asker *asker, uint32_t me, void *context) {
+    desk my;
+    memset(&my, 0, sizeof my);
+    (void)me;
+    (void)context;
+    WANT(bale_ask(asker, &me, 0) == BALE_NOT_BEGUN && failed("bale_ask", BALE_NOT_BEGUN));
+    WANT(bale_ask_finish(asker) == BALE_NOT_BEGUN && failed("bale_ask_advance", BALE_NOT_BEGUN));
+    WANT(bale_ask_begin(asker, answer_query, hear_reply, &my) == BALE_OK);
+    WANT(bale_ask_begin(asker, answer_query, hear_reply, &my) == BALE_BEGUN && failed("bale_ask_begin", BALE_BEGUN));
+    WANT(bale_ask(asker, &me, 1) == BALE_NO_RANK && failed("bale_ask", BALE_NO_RANK) && my.answered[0] == 0);
+    WANT(bale_ask(asker, &me, 0) == BALE_OK && bale_ask_finish(asker) == BALE_OK && my.heard[0] == 1);
+}
+
+static void never_asks(bale_asker *asker, uint32_t me, void *context) {
+    (void)asker;
+    (void)me;
+    *(bool *)context = true;
+}
+
 static void never(bale_rank *rank, uint32_t me, void *context) {
     (void)rank;
     (void)me;
@@ -188,6 +250,9 @@ int main(void) {
     on(2, 3, 1024, 8, true);
     WANT(bale_run(ranks, exchanges, &ranks) == BALE_OK && noted_call == NULL);
     WANT(bale_run(1, misuses, NULL) == BALE_OK && noted_call == NULL);
+    WANT(bale_run_asking(ranks, asks, &ranks) == BALE_OK && noted_call == NULL);
+    WANT(bale_run_asking(1, ask_misuses, NULL) == BALE_OK && noted_call == NULL);
+    WANT(bale_run_asking(65, never_asks, &called) == BALE_BAD_NUMBERS && failed("bale_run_asking", BALE_BAD_NUMBERS) && !called);
     WANT(bale_run(0, never, &called) == BALE_BAD_NUMBERS && failed("bale_run", BALE_BAD_NUMBERS) && !called);
     WANT(bale_run(65, never, &called) == BALE_BAD_NUMBERS && failed("bale_run", BALE_BAD_NUMBERS) && !called);
     WANT(bale_run_on(dims, 1, 3, 2, false, never, &called) == BALE_BAD_NUMBERS && failed("bale_run", BALE_BAD_NUMBERS) && !called);
@@ -195,6 +260,8 @@ int main(void) {
     for (creates_left = 0; creates_left < 4;) {
         int first = creates_left;
         WANT(bale_run(ranks, never, &called) == BALE_NO_MEMORY && failed("bale_run", BALE_NO_MEMORY) && !called);
+        creates_left = first;
+        WANT(bale_run_asking(ranks, never_asks, &called) == BALE_NO_MEMORY && failed("bale_run_asking", BALE_NO_MEMORY) && !called);
         creates_left = first + 1;
     }
     creates_left = -1;

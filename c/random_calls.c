@@ -28,6 +28,10 @@ typedef struct {
     uint64_t pushed[MOST_RANKS][MOST_RANKS];
     uint64_t pushed_before[MOST_RANKS][MOST_RANKS];
     uint64_t pulled[MOST_RANKS][MOST_RANKS];
+    uint32_t hops, buffer;
+    uint64_t pushed_earlier[MOST_RANKS]; /* in all epochs before this one */
+    uint64_t pulled_earlier[MOST_RANKS];
+    bale_counts statistics[MOST_RANKS]; /* as they were reported before */
 } group;
 
 static group groups[GROUPS];
@@ -69,6 +73,34 @@ static void whole(const group *g, uint32_t me) {
             fail("lost", r);
 }
 
+/* The statistics of a rank: they only grow, and fit what it pushed and pulled. */
+static void counted(group *g, uint32_t me, int32_t state) {
+    bale_counts now = {1, 2, 3, 4}, was = g->statistics[me];
+    int32_t answer = bale_statistics(&g->ranks[me], &now);
+    ONLY("bale_statistics", answer, BALE_OK, BALE_GONE);
+    if ((answer == BALE_GONE) != (state == BALE_GONE))
+        fail("bale_statistics in another state", answer);
+    if (answer == BALE_GONE) {
+        if (now.buffers_sent != 1 || now.items_sent != 2 || now.buffers_received != 3 || now.items_received != 4)
+            fail("bale_statistics wrote", answer);
+        return;
+    }
+    uint64_t pushed = g->pushed_earlier[me], pulled = g->pulled_earlier[me];
+    for (uint32_t r = 0; r < g->many; r++) {
+        pushed += g->pushed[me][r];
+        pulled += g->pulled[me][r];
+    }
+    if (now.buffers_sent < was.buffers_sent || now.items_sent < was.items_sent || now.buffers_received < was.buffers_received || now.items_received < was.items_received)
+        fail("bale_statistics fell", 0);
+    if (now.items_sent > g->buffer * now.buffers_sent || now.items_received > g->buffer * now.buffers_received)
+        fail("bale_statistics of too full buffers", 0);
+    if (now.items_received < pulled || (g->hops == 1 && now.items_sent > pushed))
+        fail("bale_statistics of fewer items", 0);
+    if (state == BALE_STATE_COMPLETE && (now.items_sent < pushed || (g->hops == 1 && (now.items_sent != pushed || now.items_received != pulled))))
+        fail("bale_statistics of a complete epoch", 0);
+    g->statistics[me] = now;
+}
+
 static void make_group(group *g) {
     static const uint32_t numbers[] = {0, 1, 2, 3, 4, 65, 7};
     uint32_t dims[4], ndims = below(5), buffer = 1u << below(11), slots = 1u << below(4);
@@ -100,6 +132,8 @@ static void make_group(group *g) {
         g->handle = handle;
         g->made = made + 1;
         g->many = (uint32_t)product;
+        g->hops = ndims;
+        g->buffer = buffer;
     }
 }
 
@@ -112,7 +146,43 @@ static void one_call(void) {
     if (state != BALE_GONE && (state < BALE_STATE_DORMANT || state > BALE_STATE_COMPLETE))
         fail("bale_phase", state);
     bale_item item = {5, 6, 7};
-    switch (below(40)) {
+    switch (below(46)) {
+    case 44:
+    case 45:
+        counted(g, me, state);
+        break;
+    case 40:
+    case 41:
+    case 42:
+    case 43: {
+        const bale_entry *entries;
+        size_t count;
+        int32_t answer = bale_view(rank, &entries, &count, &from);
+        ONLY("bale_view", answer, BALE_OK, BALE_NONE, BALE_NOT_BEGUN, BALE_GONE);
+        if ((answer == BALE_OK || answer == BALE_NONE) != (state > BALE_STATE_DORMANT))
+            fail("bale_view in another state", answer);
+        if ((answer == BALE_OK) != (count > 0))
+            fail("bale_view of no entry", answer);
+        /* What is pushed now leaves the entries as they are. */
+        item = item_of(g, me, to, to < MOST_RANKS ? g->pushed[me][to] : 0);
+        if (below(2) == 0 && bale_push(rank, &item, to) == BALE_OK)
+            g->pushed[me][to]++;
+        size_t taken = below(3) == 0 ? below((uint32_t)count + 1) : count;
+        for (size_t k = 0; k < taken; k++)
+            came(g, me, entries[k].item, from);
+        if (below(4) == 0)
+            ONLY("bale_pulled of too many", bale_pulled(rank, count + 1 + below(3)), BALE_NOT_LENT, BALE_NOT_BEGUN, BALE_GONE);
+        int32_t pulled = bale_pulled(rank, taken);
+        ONLY("bale_pulled", pulled, BALE_OK, BALE_NOT_BEGUN, BALE_GONE);
+        if ((pulled == BALE_OK) != (state > BALE_STATE_DORMANT))
+            fail("bale_pulled in another state", pulled);
+        if (taken > 0 && below(4) == 0) {
+            if (bale_unpull(rank) != BALE_OK)
+                fail("bale_unpull after bale_pulled", 0);
+            g->pulled[me][from]--;
+        }
+        break;
+    }
     case 0:
         if (below(20) == 0 || (!g->handle.live && below(100) == 0))
             make_group(g);
@@ -150,6 +220,8 @@ static void one_call(void) {
         if (answer == BALE_OK) {
             g->epoch[me]++;
             for (uint32_t r = 0; r < MOST_RANKS; r++) {
+                g->pushed_earlier[me] += g->pushed[me][r];
+                g->pulled_earlier[me] += g->pulled[me][r];
                 g->pushed_before[me][r] = g->pushed[me][r];
                 g->pushed[me][r] = g->pulled[me][r] = 0;
             }
@@ -266,7 +338,7 @@ int main(int argc, char **argv) {
         bale_group_free(&groups[g].handle);
     }
     printf("random_calls: %lu calls, of these answered:\n", calls);
-    for (int32_t a = -11; a <= 5; a++)
+    for (int32_t a = -12; a <= 5; a++)
         printf("  %3d %9llu  %s\n", a, (unsigned long long)answers[a + 16], bale_text(a));
     if (answers[BALE_OK + 16] == 0 || answers[BALE_COMPLETE + 16] == 0)
         fail("no epoch was completed", 0);

@@ -1,7 +1,7 @@
-/* How many million items a second ranks on threads exchange, through this library one item a call
-   and many a call, and through two exchanges written in C for this purpose alone. The one by hand:
-   for each pair of ranks two slots and two counters, entries with a tag, buffers handed over by
-   their pointers, and no step that is sequentially consistent. The protocol: the steps of
+/* How many million items a second ranks on threads exchange, through this library one item a call,
+   many a call and by a view, and through two exchanges written in C for this purpose alone. The one
+   by hand: for each pair of ranks two slots and two counters, entries with a tag, buffers handed
+   over by their pointers, and no step that is sequentially consistent. The protocol: the steps of
    docs/SLOT_LINKS.md, which the library makes too, with its doorbells, in plain C. If
    crates/measure_threads is built, it runs beside them, over the same conveyors without C. By each
    way each rank does the same: it sends so many items to the ranks and cells of a table, drawn by a
@@ -9,7 +9,8 @@
    what else the machine does is shared out; the first turn isn't measured. Median and best of the
    others.
    rate [items a rank, 4,000,000 [turns, 7 [ranks [buffer [way]]]]]; with ranks, buffer and way (0
-   by hand, 1 the protocol, 2 one a call, 3 many a call, 4 measure_threads) that alone. */
+   by hand, 1 the protocol, 2 one a call, 3 many a call, 4 pushes of many and views, 5
+   measure_threads) that alone. */
 #define _POSIX_C_SOURCE 200809L
 #include "bale.h"
 #include <pthread.h>
@@ -19,7 +20,7 @@
 #include <stdlib.h>
 #include <time.h>
 
-enum { MOST = 64, MOST_TURNS = 99, AT_ONCE = 1024, CELLS = 1024, WAYS = 5 };
+enum { MOST = 64, MOST_TURNS = 99, AT_ONCE = 1024, CELLS = 1024, WAYS = 6 };
 
 static uint32_t many, capacity, items_each = 4000000;
 static int turns = 7;
@@ -326,7 +327,7 @@ static void *one_a_call(void *arg) {
     return NULL;
 }
 
-static void *many_a_call(void *arg) {
+static inline void *many_pushed(void *arg, bool views) {
     uint32_t me = (uint32_t)(size_t)arg, all = items_each, at = 0;
     const target *targets = parts[me].targets;
     uint64_t *counts = parts[me].counts, check = 0;
@@ -356,8 +357,17 @@ static void *many_a_call(void *arg) {
                 break;
         }
         state = bale_advance(rank, at == all && start == ready);
+        const bale_entry *entries;
+        size_t lent;
+        uint32_t sender;
+        while (views && bale_view(rank, &entries, &lent, &sender) == BALE_OK) {
+            for (size_t k = 0; k < lent; k++)
+                count(counts, &check, sender, &entries[k].item);
+            bale_pulled(rank, lent);
+            moved = true;
+        }
         int64_t pulled;
-        while ((pulled = bale_pull_many(rank, came, AT_ONCE, from, AT_ONCE)) > 0) {
+        while (!views && (pulled = bale_pull_many(rank, came, AT_ONCE, from, AT_ONCE)) > 0) {
             for (int64_t k = 0; k < pulled; k++)
                 count(counts, &check, from[k], &came[k]);
             moved = true;
@@ -367,6 +377,14 @@ static void *many_a_call(void *arg) {
     }
     parts[me].check = check;
     return NULL;
+}
+
+static void *many_a_call(void *arg) {
+    return many_pushed(arg, false);
+}
+
+static void *by_view(void *arg) {
+    return many_pushed(arg, true);
 }
 
 static void *memory_of(size_t size) {
@@ -478,7 +496,7 @@ static int by_value(const void *a, const void *b) {
 
 /* One turn of one way; what came must be the same by each. */
 static double turn_of(int way, uint64_t *wanted) {
-    static void *(*const works[])(void *) = {by_hand, by_protocol, one_a_call, many_a_call};
+    static void *(*const works[])(void *) = {by_hand, by_protocol, one_a_call, many_a_call, by_view};
     if (way == WAYS - 1)
         return from_beside();
     for (uint32_t r = 0; r < many; r++)
@@ -545,7 +563,7 @@ int main(int argc, char **argv) {
     printf("million items a second, median / best of %d turns of %u items a rank (a sixteenth at buffer 1)\n", turns, items_each);
     if (beside == NULL)
         printf("measure_threads isn't built: (cd crates/measure_threads && rt run) builds it\n");
-    printf("ranks buffer        C by hand   the protocol      one a call     many a call%s\n", beside == NULL ? "" : "   measure_threads");
+    printf("ranks buffer        C by hand   the protocol      one a call     many a call          a view%s\n", beside == NULL ? "" : "   measure_threads");
     fflush(stdout);
     for (int p = 0; p < 2; p++)
         for (int c = 0; c < 4; c++)

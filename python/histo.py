@@ -26,6 +26,8 @@ def count(rank):
             counts[place] += 1
         time.sleep(0)
     rank.reset()
+    if rank.number == 0:
+        print(f"python histo: {rank.statistics()}")
     return counts
 
 

@@ -42,11 +42,7 @@ def exchange(rank, items, to):
         if at < len(items):
             at += rank.push_many(items[at : at + BUFFER], to[at : at + BUFFER])
         progress = rank.advance(at == len(items))
-        while True:
-            _senders, rows = rank.pull_arrays(BUFFER)
-            if len(rows) == 0:
-                break
-            came.append(rows)
+        came += (rows.copy() for _sender, rows in rank.views())
         if progress is bale.Progress.COMPLETE:
             rank.reset()
             return numpy.concatenate(came) if came else items[:0]

@@ -8,6 +8,8 @@ enum { UPDATES = 1000000, TABLE = 100000 };
 
 static uint64_t counts[RANKS][TABLE / RANKS + 1]; /* of each rank r the places r, r + RANKS, .. */
 
+static bale_counts sent[RANKS];
+
 static void count(void *places, const void *item, uint32_t from) {
     (void)from;
     ((uint64_t *)places)[bale_value(uint32_t, item)]++;
@@ -22,6 +24,7 @@ static void count_all(bale_rank *rank, uint32_t me, void *context) {
         bale_send(rank, &place, index % RANKS, count, counts[me]);
     }
     bale_finish(rank, count, counts[me]);
+    bale_statistics(rank, &sent[me]);
 }
 
 int main(void) {
@@ -42,6 +45,8 @@ int main(void) {
         wrong += found != wanted[place];
     }
     free(wanted);
+    printf("histo: rank 0 sent %llu items in %llu buffers\n", (unsigned long long)sent[0].items_sent,
+           (unsigned long long)sent[0].buffers_sent);
     printf("histo: %llu counted, %llu places wrong\n", (unsigned long long)all, (unsigned long long)wrong);
     return all != (uint64_t)RANKS * UPDATES || wrong != 0;
 }

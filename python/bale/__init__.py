@@ -21,15 +21,16 @@ came, until Progress.COMPLETE. No call waits for another thread.
     print(bale.run(4, sum_of_numbers))       # [6, 6, 6, 6]
 
 An item is three whole numbers from 0 to 2**64 - 1. Arrays of numpy go many at a time, by
-Rank.push_many and Rank.pull_arrays; numpy is needed for nothing else. Arguments are never converted
-silently: a fraction is a TypeError, a number out of range an OverflowError or a Misuse.
+Rank.push_many and Rank.pull_arrays, and without a copy by Rank.views; numpy is needed for nothing
+else. Arguments are never converted silently: a fraction is a TypeError, a number out of range an
+OverflowError or a Misuse.
 
 ctypes gives up the interpreter's lock while the library works, so ranks on threads run side by side
 within their calls, and only there.
 """
 
 from ._answers import Answer, Misuse, Phase, Progress
-from ._exchange import Group, Rank, Stopped
+from ._exchange import Group, Rank, Statistics, Stopped
 from ._library import Item, version
 from ._run import run
 
@@ -41,6 +42,7 @@ __all__ = [
     "Phase",
     "Progress",
     "Rank",
+    "Statistics",
     "Stopped",
     "run",
     "version",

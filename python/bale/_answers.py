@@ -35,6 +35,7 @@ class Answer(enum.IntEnum):
     IN_USE = -9, "the handle is in use"
     TAKEN = -10, "the rank was made before"
     LAST_EPOCH = -11, "no number is left for another epoch"
+    NOT_LENT = -12, "a view lends fewer items"
     # end of answers
 
 

@@ -5,11 +5,12 @@ from __future__ import annotations
 import ctypes
 import math
 import threading
-from typing import TYPE_CHECKING, Any, ClassVar, TypeVar
+import weakref
+from typing import TYPE_CHECKING, Any, ClassVar, NamedTuple, TypeVar
 
 from ._answers import Answer, Misuse, Phase, Progress, checked
 from ._arguments import Block, items_block, ranks_block, truth, u32, whole, words
-from ._library import Handle, Item, calls
+from ._library import Counts, Entry, Handle, Item, Lent, calls
 
 if TYPE_CHECKING:
     from collections.abc import Iterator, Sequence
@@ -26,6 +27,19 @@ OwnerT = TypeVar("OwnerT", bound="Owner")
 
 class Stopped(Exception):
     """Raised by advance in a rank of bale.run, since another rank raised an exception."""
+
+
+class Statistics(NamedTuple):
+    """What a rank sent and received since it was made, in all its epochs, also to itself.
+
+    A buffer is counted when advance sends or collects it, with all items in it, also those that
+    only pass through the rank. Each epoch ends with one last buffer on each link, which may be
+    empty."""
+
+    buffers_sent: int
+    items_sent: int
+    buffers_received: int
+    items_received: int
 
 
 class Owner:
@@ -69,6 +83,10 @@ class Owner:
     def __del__(self) -> None:
         if hasattr(self, "_in_call"):
             self.close()
+
+
+class _Arrays:
+    """Lives as long as any array over a rank's memory."""
 
 
 class Group(Owner):
@@ -129,12 +147,24 @@ class Rank(Owner):
     def __init__(self, group: Group, number: SupportsIndex) -> None:
         super().__init__()
         self._stop: threading.Event | None = None
+        self._arrays: weakref.ref[_Arrays] | None = None
         self._number = u32(number, "a rank", Answer.NO_RANK)
         group._call(calls.rank_new, self._number, self._handle)
         self._ranks: int = calls.ranks(self._handle)
 
     def __repr__(self) -> str:
         return f"<bale.Rank {self._number} of {self._ranks}>"
+
+    def close(self) -> None:
+        """Frees the memory; if arrays of views are still there, once the last one is gone. Other
+        ranks, and the group, can still be used. A second close does nothing."""
+        arrays = None if self._arrays is None else self._arrays()
+        if arrays is None:
+            super().close()
+            return
+        with self._in_call:
+            handle, self._handle, self._arrays = self._handle, Handle(), None
+        weakref.finalize(arrays, calls.rank_free, handle)
 
     @property
     def number(self) -> int:
@@ -232,6 +262,57 @@ class Rank(Owner):
         addresses = items.ctypes.data, senders.ctypes.data
         pulled = self._call(calls.pull_many, addresses[0], places, addresses[1], places)
         return senders[:pulled], items[:pulled]
+
+    def views(self) -> Iterator[tuple[int, NDArray[numpy.uint64]]]:
+        """Lends the items that are there now, where they came, without a copy: in each turn of the
+        loop the sender of some, and these as an array of numpy that can't be written, of the shape
+        (n, 3) and the dtype uint64. The end of a turn pulls them.
+
+            for sender, items in rank.views():
+                numpy.add.at(counts, items[:, 0], 1)
+
+        The array shows these items in its turn alone, and until a call on this rank other than push
+        and push_many; later it shows other numbers. Copy what is to stay. If the loop is left
+        early, the items of that turn stay to be pulled.
+
+        Misuse: NOT_BEGUN, or NOT_LENT if the turn pulled items itself. ImportError without
+        numpy."""
+        import numpy
+
+        # A view begins with an address that can be read.
+        none = Entry()
+        while True:
+            lent = Lent(ctypes.addressof(none), 0, 0)
+            if self._call(calls.lend, lent) != Answer.OK:
+                return
+            items: NDArray[numpy.uint64] = numpy.ndarray(
+                (lent.count, 3),
+                dtype=numpy.uint64,
+                buffer=self._memory(lent),
+                offset=Entry.item.offset,
+                strides=(ctypes.sizeof(Entry), 8),
+            )
+            items.flags.writeable = False
+            yield lent.sender, items
+            del items
+            self._call(calls.pulled, lent.count)
+
+    def _memory(self, lent: Lent) -> Any:
+        """The entries that are lent, which are not freed as long as this is there."""
+        arrays = None if self._arrays is None else self._arrays()
+        if arrays is None:
+            arrays = _Arrays()
+            self._arrays = weakref.ref(arrays)
+        memory: Any = (Entry * lent.count).from_address(lent.entries)
+        memory.arrays = arrays
+        return memory
+
+    def statistics(self) -> Statistics:
+        """What the rank sent and received so far. Misuse: GONE after close."""
+        counts = Counts()
+        self._call(calls.statistics, counts)
+        numbers = counts.buffers_sent, counts.items_sent
+        return Statistics(*numbers, counts.buffers_received, counts.items_received)
 
     def advance(self, done: bool = False) -> Progress:
         """Sends and collects what can be sent and collected now, and reports how far the rank is.

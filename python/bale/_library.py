@@ -15,6 +15,33 @@ class Item(ctypes.Structure):
     _fields_ = [("a", ctypes.c_uint64), ("b", ctypes.c_uint64), ("c", ctypes.c_uint64)]
 
 
+class Entry(ctypes.Structure):
+    """An item in the buffer in which it came."""
+
+    _fields_ = [("way", ctypes.c_uint8 * 3), ("item", Item)]
+
+
+class Lent(ctypes.Structure):
+    """Entries that a rank lends, and their sender."""
+
+    _fields_ = [
+        ("entries", ctypes.c_void_p),
+        ("count", ctypes.c_size_t),
+        ("sender", ctypes.c_uint32),
+    ]
+
+
+class Counts(ctypes.Structure):
+    """What a rank sent and received."""
+
+    _fields_ = [
+        ("buffers_sent", ctypes.c_uint64),
+        ("items_sent", ctypes.c_uint64),
+        ("buffers_received", ctypes.c_uint64),
+        ("items_received", ctypes.c_uint64),
+    ]
+
+
 class Handle(ctypes.Structure):
     """A group's or a rank's handle. It begins as zeros, and is never moved. What it doesn't use keeps
     the handles of two threads on cache lines of their own."""
@@ -41,7 +68,10 @@ _SIGNATURES: dict[str, tuple[Any, ...]] = {
     "reset": (_i32, _handle),
     "push_many": (_i64, _handle, _address, _size, _address, _size),
     "pull_many": (_i64, _handle, _address, _size, _address, _size),
+    "lend": (_i32, _handle, ctypes.POINTER(Lent)),
+    "pulled": (_i32, _handle, _size),
     "ranks": (_u32, _handle),
+    "statistics": (_i32, _handle, ctypes.POINTER(Counts)),
     "phase": (_i32, _handle),
     "rank_free": (_i32, _handle),
     "group_free": (_i32, _handle),

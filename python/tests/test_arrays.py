@@ -78,6 +78,83 @@ class Arrays(unittest.TestCase):
         with self.assertRaisesRegex(ValueError, "at least 0"):
             self.rank.pull_arrays(-1)
 
+    def test_views_lend_what_the_next_pulls_give(self):
+        def work(rank):
+            items, to = arrays(rank.number)
+            came, at, progress = [[] for _ in range(rank.ranks)], 0, bale.Progress.MORE
+            rank.begin()
+            while progress is not bale.Progress.COMPLETE:
+                for sender, rows in rank.views():
+                    self.assertEqual((rows.dtype, rows.shape[1:]), (numpy.uint64, (3,)))
+                    # What is pushed while they are lent leaves them as they are.
+                    before = rows.copy()
+                    if at < ITEMS:
+                        at += rank.push_many(items[at : at + 5], to[at : at + 5])
+                    self.assertEqual(rows.tolist(), before.tolist())
+                    came[sender] += before.tolist()
+                if at < ITEMS:
+                    at += rank.push_many(items[at : at + 50], to[at : at + 50])
+                progress = rank.advance(at == ITEMS)
+            rank.reset()
+            return came
+
+        for grid in ([RANKS], [1, RANKS]):
+            parts = bale.run(grid, work, buffer=16)
+            for me, part in enumerate(parts):
+                for sender, rows in enumerate(part):
+                    items, to = arrays(sender)
+                    self.assertEqual(rows, items[to == me].tolist())
+
+    def lent(self):
+        """A rank to which four items were sent, and more in the next buffer."""
+        rank = bale.Group([1], buffer=4).rank(0)
+        rank.begin()
+        for k in range(4):
+            rank.push((k, LARGEST, k * k), 0)
+        while not any(True for _ in rank.views()):
+            rank.advance(True)
+        return rank
+
+    def test_a_view_is_read_only_and_no_copy(self):
+        for sender, rows in self.lent().views():
+            self.assertEqual((sender, rows.tolist()), (0, [[k, LARGEST, k * k] for k in range(4)]))
+            self.assertFalse(rows.flags.owndata or rows.flags.writeable)
+            with self.assertRaises(ValueError):
+                rows[0, 0] = 1
+
+    def test_a_loop_over_views_that_is_left_early_pulls_nothing(self):
+        rank = self.lent()
+        for _sender, rows in rank.views():
+            break
+        self.assertEqual(rank.pull(), (0, (0, LARGEST, 0)))
+        for _sender, rows in rank.views():
+            self.assertEqual(rows[:, 0].tolist(), [1, 2, 3])
+        self.assertIsNone(rank.pull())
+        self.assertEqual(list(rank.views()), [])
+
+    def test_misuse_of_views(self):
+        rank = self.lent()
+        with self.assertRaises(bale.Misuse) as caught:
+            for _ in rank.views():
+                rank.pull()
+        self.assertIs(caught.exception.answer, bale.Answer.NOT_LENT)
+        with self.assertRaises(bale.Misuse) as caught:
+            list(bale.Group([1]).rank(0).views())
+        self.assertIs(caught.exception.answer, bale.Answer.NOT_BEGUN)
+
+    def test_memory_stays_as_long_as_arrays_over_it(self):
+        rank = self.lent()
+        for _sender, rows in rank.views():
+            part = rows[1:]
+            break
+        del rows
+        rank.close()
+        rank.close()
+        self.assertEqual(part[:, 2].tolist(), [1, 4, 9])
+        with self.assertRaises(bale.Misuse) as caught:
+            rank.begin()
+        self.assertIs(caught.exception.answer, bale.Answer.GONE)
+
     def test_items_of_other_dtypes(self):
         good = numpy.array([[1, 2, 3]])
         for dtype in (float, bool, object, complex, str, "M8[s]"):

@@ -46,6 +46,22 @@ class Exchange(unittest.TestCase):
         self.assertEqual([rank.push((k, 0, 0), 0) for k in range(6)], [True] * 4 + [False] * 2)
         self.assertEqual(poll([rank]), [[[(k, 0, 0) for k in range(4)]]])
 
+    def test_statistics(self):
+        ranks = bale.Group([2], buffer=4).ranks()
+        self.assertEqual(ranks[0].statistics(), bale.Statistics(0, 0, 0, 0))
+        for rank in ranks:
+            rank.begin()
+        for k in range(4):
+            ranks[0].push((k, 0, 0), 1)
+        poll(ranks)
+        # One buffer on each link: the last one of the epoch, which to rank 1 has the four items.
+        self.assertEqual(ranks[0].statistics(), bale.Statistics(2, 4, 2, 0))
+        self.assertEqual(ranks[1].statistics(), bale.Statistics(2, 0, 2, 4))
+        ranks[1].close()
+        with self.assertRaises(bale.Misuse) as caught:
+            ranks[1].statistics()
+        self.assertIs(caught.exception.answer, bale.Answer.GONE)
+
     def test_many_items(self):
         rank = alone(8)
         self.assertEqual(rank.push_many([(k, k, 2 * k) for k in range(9)], [0] * 9), 8)
@@ -149,8 +165,8 @@ class States(unittest.TestCase):
         self.assertEqual(checked(7), 7)
         with self.assertRaisesRegex(MemoryError, "no memory"):
             checked(-1)
-        with self.assertRaisesRegex(RuntimeError, "another version: it answered -12"):
-            checked(-12)
+        with self.assertRaisesRegex(RuntimeError, "another version: it answered -13"):
+            checked(-13)
 
 
 class Closing(unittest.TestCase):

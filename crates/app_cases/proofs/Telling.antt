@@ -9,7 +9,7 @@ use Rattle.round_program.specs.Canonical.{absorbed_round, states_at, emitted_by,
 use Rattle.round_program.specs.Epochs.{vote_item}
 use Rattle.round_program.specs.Injections.{Injects, SameRuns}
 use Rattle.rank_node.specs.Movers.{Manner}
-use Rattle.rank_group.specs.Told.{Made, TellsRun, vote_sent, turns_of, turns_within}
+use Rattle.rank_group.specs.Transcript.{Made, TellsRun, vote_sent, turns_of, turns_within}
 
 vote_over : {S T : Type 0} {R : Rules S} {Q : Rules T} {i : S → T} {w : List ℕ → List ℕ} → Injects R Q i w → (o : Option S) → vote_sent Q (option_map i o) ≡ vote_sent R o
 vote_over j None = refl

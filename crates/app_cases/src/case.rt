@@ -4,20 +4,15 @@ ghost use Rattle.std.specs.Prelude.{◌≡◌, ℕ, List};
 ghost use Rattle.round_program.specs.Injections.{Injects};
 ghost use Rattle.app_cases.specs.Any.{AnyState, any_rules};
 
+use crate::any_program::AnyProgram;
 use crate::tally_case::TallyCase;
 use app_histo_ig::{Histo, Ig, IgSums};
 use app_permute::{Permute, Transpose};
 use app_sssp::Sssp;
 use app_topo::Topo;
 use delta_step::Delta;
-use either::{Either, Left, Right};
+use either::{Left, Right};
 use round_program::Program;
-
-/// Any of the applications: ig whole or its sums alone, and tally in its mailer.
-pub type AnyProgram = Either<
-    Either<Histo, Either<Ig, IgSums>>,
-    Either<Either<Permute, Transpose>, Either<Either<Topo, TallyCase>, Either<Sssp, Delta>>>,
->;
 
 /// A program that is one of the applications.
 pub trait Case: Program {
@@ -48,11 +43,13 @@ impl Case for Histo {
     ghost is_case = { histo_way.is_case };
 
     fn put(self) -> AnyProgram {
-        Left(Left(self))
+        AnyProgram {
+            tree: Left(Left(self)),
+        }
     }
 
     fn taken(any: AnyProgram) -> Histo {
-        match any {
+        match any.tree {
             Left(Left(histo)) => histo,
             _ => unreachable!(),
         }
@@ -69,11 +66,13 @@ impl Case for Ig {
     ghost is_case = { ig_way.is_case };
 
     fn put(self) -> AnyProgram {
-        Left(Right(Left(self)))
+        AnyProgram {
+            tree: Left(Right(Left(self))),
+        }
     }
 
     fn taken(any: AnyProgram) -> Ig {
-        match any {
+        match any.tree {
             Left(Right(Left(ig))) => ig,
             _ => unreachable!(),
         }
@@ -90,11 +89,13 @@ impl Case for IgSums {
     ghost is_case = { sums_way.is_case };
 
     fn put(self) -> AnyProgram {
-        Left(Right(Right(self)))
+        AnyProgram {
+            tree: Left(Right(Right(self))),
+        }
     }
 
     fn taken(any: AnyProgram) -> IgSums {
-        match any {
+        match any.tree {
             Left(Right(Right(sums))) => sums,
             _ => unreachable!(),
         }
@@ -111,11 +112,13 @@ impl Case for Permute {
     ghost is_case = { permute_way.is_case };
 
     fn put(self) -> AnyProgram {
-        Right(Left(Left(self)))
+        AnyProgram {
+            tree: Right(Left(Left(self))),
+        }
     }
 
     fn taken(any: AnyProgram) -> Permute {
-        match any {
+        match any.tree {
             Right(Left(Left(permute))) => permute,
             _ => unreachable!(),
         }
@@ -132,11 +135,13 @@ impl Case for Transpose {
     ghost is_case = { transpose_way.is_case };
 
     fn put(self) -> AnyProgram {
-        Right(Left(Right(self)))
+        AnyProgram {
+            tree: Right(Left(Right(self))),
+        }
     }
 
     fn taken(any: AnyProgram) -> Transpose {
-        match any {
+        match any.tree {
             Right(Left(Right(transpose))) => transpose,
             _ => unreachable!(),
         }
@@ -153,11 +158,13 @@ impl Case for Topo {
     ghost is_case = { topo_way.is_case };
 
     fn put(self) -> AnyProgram {
-        Right(Right(Left(Left(self))))
+        AnyProgram {
+            tree: Right(Right(Left(Left(self)))),
+        }
     }
 
     fn taken(any: AnyProgram) -> Topo {
-        match any {
+        match any.tree {
             Right(Right(Left(Left(topo)))) => topo,
             _ => unreachable!(),
         }
@@ -174,11 +181,13 @@ impl Case for TallyCase {
     ghost is_case = { tally_way.is_case };
 
     fn put(self) -> AnyProgram {
-        Right(Right(Left(Right(self))))
+        AnyProgram {
+            tree: Right(Right(Left(Right(self)))),
+        }
     }
 
     fn taken(any: AnyProgram) -> TallyCase {
-        match any {
+        match any.tree {
             Right(Right(Left(Right(tally)))) => tally,
             _ => unreachable!(),
         }
@@ -195,11 +204,13 @@ impl Case for Sssp {
     ghost is_case = { sssp_way.is_case };
 
     fn put(self) -> AnyProgram {
-        Right(Right(Right(Left(self))))
+        AnyProgram {
+            tree: Right(Right(Right(Left(self)))),
+        }
     }
 
     fn taken(any: AnyProgram) -> Sssp {
-        match any {
+        match any.tree {
             Right(Right(Right(Left(sssp)))) => sssp,
             _ => unreachable!(),
         }
@@ -216,11 +227,13 @@ impl Case for Delta {
     ghost is_case = { delta_way.is_case };
 
     fn put(self) -> AnyProgram {
-        Right(Right(Right(Right(self))))
+        AnyProgram {
+            tree: Right(Right(Right(Right(self)))),
+        }
     }
 
     fn taken(any: AnyProgram) -> Delta {
-        match any {
+        match any.tree {
             Right(Right(Right(Right(delta)))) => delta,
             _ => unreachable!(),
         }

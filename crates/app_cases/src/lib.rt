@@ -1,8 +1,8 @@
 //! The applications as one program, so that a drive is compiled once for them all.
 //!
-//! `AnyProgram` is a tree of `Either`s with one leaf for each application, tally in its mailer, and
-//! one for the sums of ig alone. A `Case` is a program that is one of its leaves: it knows the way
-//! in and out, and that a run of the leaf is the program's own run.
+//! `AnyProgram` holds a tree of `Either`s with one leaf for each application, tally in its mailer,
+//! and one for the sums of ig alone. A `Case` is a program that is one of its leaves: it knows the
+//! way in and out, and that a run of the leaf is the program's own run.
 //!
 //! | Item | What it is |
 //! |---|---|
@@ -14,10 +14,12 @@
 //! `specs/Any` has the tree, and the way to each leaf.
 #![tactic(auto)]
 
+mod any_program;
 mod case;
 mod tally_case;
 mod ways;
 
-pub use case::{AnyProgram, Case};
+pub use any_program::AnyProgram;
+pub use case::Case;
 pub use tally_case::TallyCase;
 pub use ways::{put_all, take_all};

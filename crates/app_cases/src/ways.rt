@@ -4,7 +4,8 @@ ghost use Rattle.std.specs.Prelude.{◌≡◌, ℕ, ◌<◌, List, length, map, 
 ghost use Rattle.round_program.specs.Canonical.{InRound, EndsWithin, HaveEnded};
 ghost use Rattle.app_cases.specs.Any.{any_rules};
 
-use crate::case::{AnyProgram, Case};
+use crate::any_program::AnyProgram;
+use crate::case::Case;
 use bale_items::NoMemory;
 use round_program::Progs;
 use std::alloc::Global;

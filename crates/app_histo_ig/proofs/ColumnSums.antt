@@ -9,36 +9,36 @@ use Rattle.bale_items.specs.declared.triple.Triple.{Triple}
 use Rattle.list_laws.proofs.Lists.{all_head, all_tail}
 use Rattle.sparse_rows.specs.Deals.{dealt}
 use Rattle.sparse_rows.specs.Owners.{Numbered, column_owner}
-use Rattle.app_histo_ig.specs.Owners.{risen}
+use Rattle.app_histo_ig.specs.Owners.{with_sum_risen}
 use Rattle.app_histo_ig.specs.laws.OwnerLaws.{risen_len}
 use Rattle.sparse_rows.proofs.Places.{place_own}
 use Rattle.sparse_rows.proofs.EveryEntry.{came_to, came_keyed}
 
 -- a list of numbers after all that came
 abbrev pub risen_all : ℕ → List ℕ → List (ℕ × Item) → List ℕ
-risen_all ranks numbers came = fold (λ ns e. risen ranks ns e.1) numbers came
+risen_all ranks numbers came = fold (λ ns e. with_sum_risen ranks ns e.1) numbers came
 
 pub risen_all_len : (ranks : ℕ) (numbers : List ℕ) (came : List (ℕ × Item)) → length (risen_all ranks numbers came) ≡ length numbers
 risen_all_len ranks numbers [] = refl
-risen_all_len ranks numbers (e ∷ es) = risen_all_len ranks (risen ranks numbers e.1) es ∙ risen_len ranks numbers e.1
+risen_all_len ranks numbers (e ∷ es) = risen_all_len ranks (with_sum_risen ranks numbers e.1) es ∙ risen_len ranks numbers e.1
 
 -- what is added for column j
 abbrev pub for_column : ℕ → ℕ × Item → ℕ
 for_column j e = cond (e.1.a == j) e.1.b 0
 
 risen_here : (ranks j : ℕ) (numbers : List ℕ) (e : ℕ × Item) → e.1.a % ranks ≡ j % ranks → j / ranks < length numbers → get_or numbers (j / ranks) 0 < 2 ^ 64
-    → get_or (risen ranks numbers e.1) (j / ranks) 0 ≡ (get_or numbers (j / ranks) 0 + for_column j e) % 2 ^ 64
+    → get_or (with_sum_risen ranks numbers e.1) (j / ranks) 0 ≡ (get_or numbers (j / ranks) 0 + for_column j e) % 2 ^ 64
 risen_here ranks j numbers e own inside word =
     elim (cases_eq e.1.a j) [
       | inl same ↦
           let hit : for_column j e ≡ e.1.b = ap (λ b. cond b e.1.b 0) (eq-eqb e.1.a j same) in
-          let new : get_or (risen ranks numbers e.1) (j / ranks) 0 ≡ (get_or numbers (j / ranks) 0 + e.1.b) % 2 ^ 64 =
-          subst (λ k. get_or (risen ranks numbers e.1) k 0 ≡ (get_or numbers k 0 + e.1.b) % 2 ^ 64) (ap (λ k. k / ranks) same)
+          let new : get_or (with_sum_risen ranks numbers e.1) (j / ranks) 0 ≡ (get_or numbers (j / ranks) 0 + e.1.b) % 2 ^ 64 =
+          subst (λ k. get_or (with_sum_risen ranks numbers e.1) k 0 ≡ (get_or numbers k 0 + e.1.b) % 2 ^ 64) (ap (λ k. k / ranks) same)
           (get_or-set_same numbers (e.1.a / ranks) ((get_or numbers (e.1.a / ranks) 0 + e.1.b) % 2 ^ 64) 0 (subst (λ k. k / ranks < length numbers) (sym same) inside)) in
           new ∙ ap (λ k. (get_or numbers (j / ranks) 0 + k) % 2 ^ 64) (sym hit)
       | inr other ↦
           let missed : for_column j e ≡ 0 = ap (λ b. cond b e.1.b 0) (ne_eqb e.1.a j other) in
-          let new : get_or (risen ranks numbers e.1) (j / ranks) 0 ≡ get_or numbers (j / ranks) 0 =
+          let new : get_or (with_sum_risen ranks numbers e.1) (j / ranks) 0 ≡ get_or numbers (j / ranks) 0 =
           get_or-set_other numbers (e.1.a / ranks) (j / ranks) ((get_or numbers (e.1.a / ranks) 0 + e.1.b) % 2 ^ 64) 0 (λ place. other (place_own ranks e.1.a j own (sym place))) in
           omega (arith, missed, new, word)
     ]
@@ -48,10 +48,10 @@ pub risen_sum : (ranks j : ℕ) (numbers : List ℕ) (came : List (ℕ × Item))
     → get_or (risen_all ranks numbers came) (j / ranks) 0 ≡ (get_or numbers (j / ranks) 0 + sum_by (for_column j) came) % 2 ^ 64
 risen_sum ranks j numbers [] own inside word = omega arith
 risen_sum ranks j numbers (e ∷ es) own inside word =
-    let one : get_or (risen ranks numbers e.1) (j / ranks) 0 ≡ (get_or numbers (j / ranks) 0 + for_column j e) % 2 ^ 64 =
+    let one : get_or (with_sum_risen ranks numbers e.1) (j / ranks) 0 ≡ (get_or numbers (j / ranks) 0 + for_column j e) % 2 ^ 64 =
     risen_here ranks j numbers e (all_head (λ (w : ℕ × Item). w.1.a % ranks ≡ j % ranks) e es own) inside word in
-    let rest : get_or (risen_all ranks (risen ranks numbers e.1) es) (j / ranks) 0 ≡ (get_or (risen ranks numbers e.1) (j / ranks) 0 + sum_by (for_column j) es) % 2 ^ 64 =
-    risen_sum ranks j (risen ranks numbers e.1) es (all_tail (λ (w : ℕ × Item). w.1.a % ranks ≡ j % ranks) e es own) (subst (λ n. j / ranks < n) (sym (risen_len ranks numbers e.1)) inside) (omega (arith, one)) in
+    let rest : get_or (risen_all ranks (with_sum_risen ranks numbers e.1) es) (j / ranks) 0 ≡ (get_or (with_sum_risen ranks numbers e.1) (j / ranks) 0 + sum_by (for_column j) es) % 2 ^ 64 =
+    risen_sum ranks j (with_sum_risen ranks numbers e.1) es (all_tail (λ (w : ℕ × Item). w.1.a % ranks ≡ j % ranks) e es own) (subst (λ n. j / ranks < n) (sym (risen_len ranks numbers e.1)) inside) (omega (arith, one)) in
     let sum : sum_by (for_column j) (e ∷ es) ≡ for_column j e + sum_by (for_column j) es = sum_by-cons (for_column j) e es in
     rest ∙ omega (arith, one, sum)
 

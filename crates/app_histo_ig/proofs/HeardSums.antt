@@ -8,7 +8,7 @@ use Rattle.bale_items.specs.declared.triple.Triple.{Triple}
 use Rattle.bale_items.specs.Bits.{twos_complement}
 use Rattle.list_laws.proofs.Lists.{find, within, get_once, get_map}
 use Rattle.mtx_text.specs.Sparse.{Sparse}
-use Rattle.round_program.specs.Replies.{answered, answered_from}
+use Rattle.round_program.specs.Replies.{after_answers, answered_from}
 use Rattle.sparse_rows.specs.Owners.{Numbered, column_owner, own_entries}
 use Rattle.sparse_rows.proofs.Turns.{part_is, part_some}
 use Rattle.app_histo_ig.specs.Igs.{IgState}
@@ -111,7 +111,7 @@ entry_heard m qs h e t at =
     let query : slice_get s.0.queries (e / h.ranks) ≡ Some (d, t.j) =
     ap (λ xs. slice_get xs (e / h.ranks)) is.asks ∙ get_map {Y = ℕ × ℕ} (λ (x : Numbered). (column_owner h.ranks x, x.1.j)) (own_entries h.ranks r m.entries) (e / h.ranks) (e, t) (own_at h.ranks m.entries e t h.some at) in
     let ends : AskingState = answered_from ig_talk all r s.0 0 s.0.queries in
-    let same : answered ig_talk all r ≡ ends = ap (λ u. answered_from ig_talk all r u 0 u.queries) own in
+    let same : after_answers ig_talk all r ≡ ends = ap (λ u. answered_from ig_talk all r u 0 u.queries) own in
     let place : e / h.ranks < length s.0.queries = within s.0.queries (e / h.ranks) (d, t.j) query in
     let size : length ends.answers ≡ length s.0.queries = places_kept all r s.0 0 s.0.queries ∙ is.places in
     let plain : 0 + e / h.ranks ≡ e / h.ranks = omega arith in

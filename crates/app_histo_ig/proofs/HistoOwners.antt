@@ -16,9 +16,9 @@ use Rattle.round_program.specs.Canonical.{absorbed_round, states_at, votes_at, H
 use Rattle.round_program.specs.Orders.{absorb_each}
 use Rattle.round_program.proofs.Members.{rounds_once}
 use Rattle.sparse_rows.specs.Deals.{dealt}
-use Rattle.sparse_rows.specs.Owners.{Numbered, numbered, entry_owner, column_owner, own_entries, places_for}
-use Rattle.app_histo_ig.specs.Owners.{risen}
-use Rattle.app_histo_ig.specs.Histos.{HistoState, histo_rules, to_column}
+use Rattle.sparse_rows.specs.Owners.{Numbered, with_numbers, entry_owner, column_owner, own_entries, places_for}
+use Rattle.app_histo_ig.specs.Owners.{with_sum_risen}
+use Rattle.app_histo_ig.specs.Histos.{HistoState, histo_rules, to_own_column}
 use Rattle.app_histo_ig.specs.laws.HistoLaws.{histo_laws}
 use Rattle.app_histo_ig.specs.HistoLines.{in_column}
 use Rattle.app_histo_ig.specs.HistoRuns.{histo_begins, histo_starts, HistoEnded}
@@ -30,7 +30,7 @@ use Rattle.sparse_rows.proofs.Starts.{made_at, made_from, made_in_round, all_num
 own_inside : (ranks rank cols : ℕ) (ts : List Triple) → All (λ (t : Triple). t.j < cols) ts → All (λ j. j < cols) (map (λ (e : Numbered). e.1.j) (own_entries ranks rank ts))
 own_inside ranks rank cols ts inside =
     All-map (λ j. j < cols) (λ (e : Numbered). e.1.j) (own_entries ranks rank ts)
-    (All-filter (λ (e : Numbered). e.0 % ranks == rank) (λ (e : Numbered). e.1.j < cols) (numbered ts) (all_numbered (λ (t : Triple). t.j < cols) 0 ts inside))
+    (All-filter (λ (e : Numbered). e.0 % ranks == rank) (λ (e : Numbered). e.1.j < cols) (with_numbers ts) (all_numbered (λ (t : Triple). t.j < cols) 0 ts inside))
 
 begins_in : (ranks : ℕ) (m : Sparse) (r : ℕ) → r < ranks → IsSparse m → Member histo_rules ranks 0 (m.cols ∷ []) 1 r (histo_begins ranks m r)
 begins_in ranks m r low is =
@@ -62,16 +62,16 @@ within_one starts = record { rounds = 1; has_rounds = one_round starts; at_most 
 
 -- what comes to a rank: a one for each entry of its columns
 abbrev came : ℕ → Sparse → ℕ → List (ℕ × Item)
-came ranks m r = came_to (entry_owner ranks) (column_owner ranks) (column_item (λ e. 1)) r (numbered m.entries)
+came ranks m r = came_to (entry_owner ranks) (column_owner ranks) (column_item (λ e. 1)) r (with_numbers m.entries)
 
 each_counts : (s : HistoState) (es : List (ℕ × Item)) → absorb_each histo_rules s es ≡ record s { counts = risen_all s.ranks s.counts es }
 each_counts s [] = refl
-each_counts s (e ∷ es) = each_counts (record s { counts = risen s.ranks s.counts e.1 }) es
+each_counts s (e ∷ es) = each_counts (record s { counts = with_sum_risen s.ranks s.counts e.1 }) es
 
 sent : (ranks : ℕ) (m : Sparse) (f : ℕ) (s : HistoState) → slice_get (histo_starts ranks m) f ≡ Some s
-    → histo_rules.emissions s ≡ map (λ (e : Numbered). (column_owner ranks e, column_item (λ e. 1) e)) (dealt (entry_owner ranks) f (numbered m.entries))
+    → histo_rules.emissions s ≡ map (λ (e : Numbered). (column_owner ranks e, column_item (λ e. 1) e)) (dealt (entry_owner ranks) f (with_numbers m.entries))
 sent ranks m f s at =
-    ap histo_rules.emissions (sym (made_from (histo_begins ranks m) ranks f s at).1) ∙ map-map (to_column ranks) (λ (e : Numbered). e.1.j) (own_entries ranks f m.entries)
+    ap histo_rules.emissions (sym (made_from (histo_begins ranks m) ranks f s at).1) ∙ map-map (to_own_column ranks) (λ (e : Numbered). e.1.j) (own_entries ranks f m.entries)
 
 -- a rank after the run
 abbrev counted : ℕ → Sparse → ℕ → List ℕ
@@ -84,7 +84,7 @@ ended_at m ps h r low =
     let once : h.ended.rounds ≡ 1 = rounds_once histo_rules starts h.ended.rounds 1 h.ended.has_rounds (one_round starts) in
     let is : ps ≡ states_at histo_rules starts 1 = h.ended.states ∙ ap (states_at histo_rules starts) once in
     let absorbed : slice_get (absorbed_round histo_rules starts) r ≡ Some (absorb_each histo_rules (histo_begins h.ranks m r) (came h.ranks m r)) =
-    every_owned histo_rules histo_laws h.ranks 0 (m.cols ∷ []) 1 starts (entry_owner h.ranks) (column_owner h.ranks) (column_item (λ e. 1)) (numbered m.entries)
+    every_owned histo_rules histo_laws h.ranks 0 (m.cols ∷ []) 1 starts (entry_owner h.ranks) (column_owner h.ranks) (column_item (λ e. 1)) (with_numbers m.entries)
     (starts_in_round h.ranks m h.matrix) (all_owned h.ranks 0 m.entries h.some) (sent h.ranks m) r (histo_begins h.ranks m r) (made_at (histo_begins h.ranks m) h.ranks r low) in
     ap (λ ss. slice_get ss r) is
     ∙ get_map (λ s. histo_rules.ended s (votes_at histo_rules starts 0)) (absorbed_round histo_rules starts) r _ absorbed
@@ -121,10 +121,10 @@ owner_counted m ps h j s low at =
     let place : j / ranks < places_for ranks m.cols = place_below ranks m.cols j h.some low in
     let none : get_or zeros (j / ranks) 0 ≡ 0 = get_or-replicate (places_for ranks m.cols) (j / ranks) 0 0 place in
     let all : sum_by _ (came ranks m r) ≡ in_column j m.entries =
-    came_sum ranks j (entry_owner ranks) (λ e. 1) (numbered m.entries) ∙ numbered_sum (λ (t : Triple). cond (t.j == j) 1 0) 0 m.entries in
+    came_sum ranks j (entry_owner ranks) (λ e. 1) (with_numbers m.entries) ∙ numbered_sum (λ (t : Triple). cond (t.j == j) 1 0) 0 m.entries in
     let few : in_column j m.entries ≤ 524288 = omega (arith, count_by-le-length (λ (t : Triple). t.j == j) m.entries, h.matrix.few) in
     let sum : get_or (counted ranks m r) (j / ranks) 0 ≡ (get_or zeros (j / ranks) 0 + sum_by _ (came ranks m r)) % 2 ^ 64 =
-    risen_sum ranks j zeros (came ranks m r) (came_own ranks r (entry_owner ranks) (λ e. 1) (numbered m.entries)) (subst (λ n. j / ranks < n) (sym size) place) (omega (arith, none)) in
+    risen_sum ranks j zeros (came ranks m r) (came_own ranks r (entry_owner ranks) (λ e. 1) (with_numbers m.entries)) (subst (λ n. j / ranks < n) (sym size) place) (omega (arith, none)) in
     let is : counted ranks m r ≡ s.counts = sym (ap (λ (t : HistoState). t.counts) (get_once ps r s _ at (ended_at m ps h r (mod-lt j h.some)))) in
     record {
       size = ap length (sym is) ∙ risen_all_len ranks zeros (came ranks m r) ∙ size;

@@ -10,8 +10,8 @@ use Rattle.list_laws.proofs.Lists.{get_once, all_head, all_tail, changed_len}
 use Rattle.mtx_text.specs.Sparse.{Sparse}
 use Rattle.sparse_rows.specs.Deals.{dealt}
 use Rattle.sparse_rows.proofs.Turns.{turn_place}
-use Rattle.sparse_rows.specs.Owners.{Numbered, numbered, entry_owner, column_owner, own_entries}
-use Rattle.app_histo_ig.specs.Igs.{IgState, answered}
+use Rattle.sparse_rows.specs.Owners.{Numbered, with_numbers, entry_owner, column_owner, own_entries}
+use Rattle.app_histo_ig.specs.Igs.{IgState, answered_entry}
 use Rattle.app_histo_ig.specs.IgRuns.{IgEnded}
 use Rattle.sparse_rows.proofs.EveryEntry.{came_to, came_keyed}
 use Rattle.sparse_rows.proofs.Places.{place_own}
@@ -28,19 +28,19 @@ for_entry : ℕ → ℕ × Item → ℕ
 for_entry e w = cond (w.1.a == e) w.1.b 0
 
 answered_here : (ranks e : ℕ) (answers : List ℕ) (w : ℕ × Item) → w.1.a % ranks ≡ e % ranks → e / ranks < length answers
-    → get_or (answered ranks answers w.1) (e / ranks) 0 ≡ max (get_or answers (e / ranks) 0) (for_entry e w)
+    → get_or (answered_entry ranks answers w.1) (e / ranks) 0 ≡ max (get_or answers (e / ranks) 0) (for_entry e w)
 unfolding for_entry
 answered_here ranks e answers w own inside =
     elim (cases_eq w.1.a e) [
       | inl same ↦
           let hit : for_entry e w ≡ w.1.b = ap (λ b. cond b w.1.b 0) (eq-eqb w.1.a e same) in
-          let new : get_or (answered ranks answers w.1) (e / ranks) 0 ≡ max (get_or answers (e / ranks) 0) w.1.b =
-          subst (λ k. get_or (answered ranks answers w.1) k 0 ≡ max (get_or answers k 0) w.1.b) (ap (λ k. k / ranks) same)
+          let new : get_or (answered_entry ranks answers w.1) (e / ranks) 0 ≡ max (get_or answers (e / ranks) 0) w.1.b =
+          subst (λ k. get_or (answered_entry ranks answers w.1) k 0 ≡ max (get_or answers k 0) w.1.b) (ap (λ k. k / ranks) same)
           (get_or-set_same answers (w.1.a / ranks) (max (get_or answers (w.1.a / ranks) 0) w.1.b) 0 (subst (λ k. k / ranks < length answers) (sym same) inside)) in
           new ∙ ap (max (get_or answers (e / ranks) 0)) (sym hit)
       | inr other ↦
           let missed : for_entry e w ≡ 0 = ap (λ b. cond b w.1.b 0) (ne_eqb w.1.a e other) in
-          let new : get_or (answered ranks answers w.1) (e / ranks) 0 ≡ get_or answers (e / ranks) 0 =
+          let new : get_or (answered_entry ranks answers w.1) (e / ranks) 0 ≡ get_or answers (e / ranks) 0 =
           get_or-set_other answers (w.1.a / ranks) (e / ranks) (max (get_or answers (w.1.a / ranks) 0) w.1.b) 0 (λ place. other (place_own ranks w.1.a e own (sym place))) in
           omega (arith, missed, new)
     ]
@@ -50,11 +50,11 @@ answered_most : (ranks e : ℕ) (answers : List ℕ) (came : List (ℕ × Item))
 unfolding most_by
 answered_most ranks e answers [] own inside = omega arith
 answered_most ranks e answers (w ∷ ws) own inside =
-    let size : length (answered ranks answers w.1) ≡ length answers = changed_len answers (w.1.a / ranks) 0 (λ v. max v w.1.b) in
-    let one : get_or (answered ranks answers w.1) (e / ranks) 0 ≡ max (get_or answers (e / ranks) 0) (for_entry e w) =
+    let size : length (answered_entry ranks answers w.1) ≡ length answers = changed_len answers (w.1.a / ranks) 0 (λ v. max v w.1.b) in
+    let one : get_or (answered_entry ranks answers w.1) (e / ranks) 0 ≡ max (get_or answers (e / ranks) 0) (for_entry e w) =
     answered_here ranks e answers w (all_head (λ (x : ℕ × Item). x.1.a % ranks ≡ e % ranks) w ws own) inside in
-    let rest : get_or (answered_all ranks (answered ranks answers w.1) ws) (e / ranks) 0 ≡ max (get_or (answered ranks answers w.1) (e / ranks) 0) (most_by (for_entry e) ws) =
-    answered_most ranks e (answered ranks answers w.1) ws (all_tail (λ (x : ℕ × Item). x.1.a % ranks ≡ e % ranks) w ws own) (subst (λ n. e / ranks < n) (sym size) inside) in
+    let rest : get_or (answered_all ranks (answered_entry ranks answers w.1) ws) (e / ranks) 0 ≡ max (get_or (answered_entry ranks answers w.1) (e / ranks) 0) (most_by (for_entry e) ws) =
+    answered_most ranks e (answered_entry ranks answers w.1) ws (all_tail (λ (x : ℕ × Item). x.1.a % ranks ≡ e % ranks) w ws own) (subst (λ n. e / ranks < n) (sym size) inside) in
     omega (arith, one, rest)
 
 -- the greatest answer to entry number e, among all entries
@@ -105,7 +105,7 @@ pub record HasSum (m : Sparse) (ranks e : ℕ) (t : Triple) (answers : List ℕ)
 
 answers_len : (ranks : ℕ) (answers : List ℕ) (came : List (ℕ × Item)) → length (answered_all ranks answers came) ≡ length answers
 answers_len ranks answers [] = refl
-answers_len ranks answers (w ∷ ws) = answers_len ranks (answered ranks answers w.1) ws ∙ changed_len answers (w.1.a / ranks) 0 (λ v. max v w.1.b)
+answers_len ranks answers (w ∷ ws) = answers_len ranks (answered_entry ranks answers w.1) ws ∙ changed_len answers (w.1.a / ranks) 0 (λ v. max v w.1.b)
 
 answer_is : (ranks : ℕ) (m : Sparse) (e : ℕ) (t : Triple) → 0 < ranks → e < length m.entries → slice_get m.entries e ≡ Some t → HasSum m ranks e t (answers_of ranks m (e % ranks))
 answer_is ranks m e t some low at =
@@ -116,10 +116,10 @@ answer_is ranks m e t some low at =
     let inside : e / ranks < length zeros = omega (arith, size, place) in
     let none : get_or zeros (e / ranks) 0 ≡ 0 = get_or-replicate count (e / ranks) 0 0 place in
     let most : most_by (for_entry e) (replies ranks m (e % ranks)) ≡ column_bits m.entries t.j =
-    came_most ranks e m.entries (numbered m.entries) ∙ most_is (λ u. column_bits m.entries u.j) e 0 e m.entries t (omega arith) at in
+    came_most ranks e m.entries (with_numbers m.entries) ∙ most_is (λ u. column_bits m.entries u.j) e 0 e m.entries t (omega arith) at in
     let all : get_or (answered_all ranks zeros (replies ranks m (e % ranks))) (e / ranks) 0 ≡ max (get_or zeros (e / ranks) 0) (most_by (for_entry e) (replies ranks m (e % ranks))) =
     answered_most ranks e zeros (replies ranks m (e % ranks))
-    (came_keyed (λ w. w.1.a % ranks ≡ e % ranks) (column_owner ranks) (entry_owner ranks) (answer_item m.entries) (e % ranks) (numbered m.entries) (λ x same. same)) inside in
+    (came_keyed (λ w. w.1.a % ranks ≡ e % ranks) (column_owner ranks) (entry_owner ranks) (answer_item m.entries) (e % ranks) (with_numbers m.entries) (λ x same. same)) inside in
     record {
       place = subst (λ n. e / ranks < n) (sym (answers_len ranks zeros (replies ranks m (e % ranks)))) inside;
       word = omega (arith, all, none, most);

@@ -6,26 +6,26 @@ use Rattle.bale_items.specs.declared.item.Item.{Item}
 use Rattle.round_program.specs.Emissions.{HandsOver}
 use Rattle.round_program.proofs.Emissions.{Reaches, reaches_more, from_place, past_end, first_left, rest_left, all_after}
 use Rattle.list_laws.proofs.Lists.{find, get_map}
-use Rattle.app_histo_ig.specs.Igs.{reply_to, replies_from}
+use Rattle.app_histo_ig.specs.Igs.{ig_reply_to, ig_replies_from}
 
 -- the replies from one list of queries on
 abbrev pub from_list : ℕ → List ℕ → List (List Item) → ℕ → List (ℕ × Item)
-from_list ranks sums queries k = replies_from ranks sums k (drop k queries)
+from_list ranks sums queries k = ig_replies_from ranks sums k (drop k queries)
 
 -- are those to this list, and then those from the next one on
 pub list_first : (ranks : ℕ) (sums : List ℕ) (queries : List (List Item)) (k : ℕ) (q : List Item) → slice_get queries k ≡ Some q
-    → from_list ranks sums queries k ≡ map (reply_to ranks sums k) q ++ from_list ranks sums queries (k + 1)
+    → from_list ranks sums queries k ≡ map (ig_reply_to ranks sums k) q ++ from_list ranks sums queries (k + 1)
 list_first ranks sums queries k q is =
-    ap (replies_from ranks sums k) (from_place queries k q is) ∙ ap (λ n. map (reply_to ranks sums k) q ++ replies_from ranks sums n (drop (k + 1) queries)) (sym (add-one k))
+    ap (ig_replies_from ranks sums k) (from_place queries k q is) ∙ ap (λ n. map (ig_reply_to ranks sums k) q ++ ig_replies_from ranks sums n (drop (k + 1) queries)) (sym (add-one k))
 
 pub no_list : (ranks : ℕ) (sums : List ℕ) (queries : List (List Item)) (k : ℕ) → length queries ≤ k → from_list ranks sums queries k ≡ []
-no_list ranks sums queries k past = ap (replies_from ranks sums k) (past_end queries k past)
+no_list ranks sums queries k past = ap (ig_replies_from ranks sums k) (past_end queries k past)
 
 pub count_first : (ranks : ℕ) (sums : List ℕ) (queries : List (List Item)) (k : ℕ) (q : List Item) → slice_get queries k ≡ Some q
     → length (from_list ranks sums queries k) ≡ length q + length (from_list ranks sums queries (k + 1))
 count_first ranks sums queries k q is =
-    ap length (list_first ranks sums queries k q is) ∙ length-append (map (reply_to ranks sums k) q) (from_list ranks sums queries (k + 1))
-    ∙ ap (λ n. n + length (from_list ranks sums queries (k + 1))) (length-map q (reply_to ranks sums k))
+    ap length (list_first ranks sums queries k q is) ∙ length-append (map (ig_reply_to ranks sums k) q) (from_list ranks sums queries (k + 1))
+    ∙ ap (λ n. n + length (from_list ranks sums queries (k + 1))) (length-map q (ig_reply_to ranks sums k))
 
 pub get_behind : {X : Type 0} (xs ys : List X) (i : ℕ) → length xs ≤ i → slice_get (xs ++ ys) i ≡ slice_get ys (i - length xs)
 get_behind [] ys i h = ap (slice_get ys) (let e : i ≡ i - 0 = omega arith in e)
@@ -97,19 +97,19 @@ handed_part hands es xs rest from first next at m start now then forward is low 
     (subst (λ ys. HandsOver hands ys (m - at) now then) (sym here) (stops_within hands (drop at xs) rest (m - at) now then (omega (arith, length-drop at xs, up, some)) h)))
 
 -- it goes to the rank that asked
-pub may_here : (P : ℕ → Type 0) (ranks : ℕ) (sums : List ℕ) (to : ℕ) (q : List Item) (es rest : List (ℕ × Item)) (from first next at : ℕ) → from ≤ next → drop first es ≡ map (reply_to ranks sums to) q ++ rest → first ≤ next
+pub may_here : (P : ℕ → Type 0) (ranks : ℕ) (sums : List ℕ) (to : ℕ) (q : List Item) (es rest : List (ℕ × Item)) (from first next at : ℕ) → from ≤ next → drop first es ≡ map (ig_reply_to ranks sums to) q ++ rest → first ≤ next
     → at ≡ min next (first + length q) - first → at < length q → All (λ e. P e.0) (drop from es) → P to
 may_here P ranks sums to q es rest from first next at forward is low a some all =
-    let xs : List (ℕ × Item) = map (reply_to ranks sums to) q in
-    let size : length xs ≡ length q = length-map q (reply_to ranks sums to) in
+    let xs : List (ℕ × Item) = map (ig_reply_to ranks sums to) q in
+    let size : length xs ≡ length q = length-map q (ig_reply_to ranks sums to) in
     let place : at ≡ next - first = omega (arith, a, some) in
     let x = find q at some in
-    let here : slice_get xs at ≡ Some (reply_to ranks sums to x.0) = get_map (reply_to ranks sums to) q at x.0 x.1 in
+    let here : slice_get xs at ≡ Some (ig_reply_to ranks sums to x.0) = get_map (ig_reply_to ranks sums to) q at x.0 x.1 in
     let left : drop next es ≡ drop at xs ++ rest = left_here es xs rest first next at is low place (omega (arith, size, some)) in
-    let first_is : drop next es ≡ reply_to ranks sums to x.0 ∷ (drop (at + 1) xs ++ rest) = left ∙ ap (λ ys. ys ++ rest) (from_place xs at (reply_to ranks sums to x.0) here) in
-    all_after (λ e. P e.0) es from next (reply_to ranks sums to x.0) forward (first_left es next (reply_to ranks sums to x.0) (drop (at + 1) xs ++ rest) first_is) all
+    let first_is : drop next es ≡ ig_reply_to ranks sums to x.0 ∷ (drop (at + 1) xs ++ rest) = left ∙ ap (λ ys. ys ++ rest) (from_place xs at (ig_reply_to ranks sums to x.0) here) in
+    all_after (λ e. P e.0) es from next (ig_reply_to ranks sums to x.0) forward (first_left es next (ig_reply_to ranks sums to x.0) (drop (at + 1) xs ++ rest) first_is) all
 
 -- a list ends within all replies
-pub ends_within : (ranks : ℕ) (sums : List ℕ) (to : ℕ) (q : List Item) (es rest : List (ℕ × Item)) (first : ℕ) → drop first es ≡ map (reply_to ranks sums to) q ++ rest → first ≤ length es → first + length q ≤ length es
+pub ends_within : (ranks : ℕ) (sums : List ℕ) (to : ℕ) (q : List Item) (es rest : List (ℕ × Item)) (first : ℕ) → drop first es ≡ map (ig_reply_to ranks sums to) q ++ rest → first ≤ length es → first + length q ≤ length es
 ends_within ranks sums to q es rest first is low =
-    omega (arith, length-drop first es, ap length is, length-append (map (reply_to ranks sums to) q) rest, length-map q (reply_to ranks sums to), low)
+    omega (arith, length-drop first es, ap length is, length-append (map (ig_reply_to ranks sums to) q) rest, length-map q (ig_reply_to ranks sums to), low)

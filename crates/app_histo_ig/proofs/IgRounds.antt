@@ -12,9 +12,9 @@ use Rattle.list_laws.proofs.Lists.{all_head, all_tail}
 use Rattle.mtx_text.specs.Sparse.{Sparse, IsSparse}
 use Rattle.round_program.specs.Canonical.{items_of, HasRounds, EndsWithin, InRound}
 use Rattle.round_program.specs.Orders.{absorb_each}
-use Rattle.sparse_rows.specs.Owners.{Numbered, numbered, entry_owner, column_owner, own_entries, places_for}
-use Rattle.app_histo_ig.specs.Owners.{risen}
-use Rattle.app_histo_ig.specs.Igs.{IgState, IsIg, IsQuery, ig_rules, may_ig, value_item, query_item, to_ask, replies_from, noted, answered}
+use Rattle.sparse_rows.specs.Owners.{Numbered, with_numbers, entry_owner, column_owner, own_entries, places_for}
+use Rattle.app_histo_ig.specs.Owners.{with_sum_risen}
+use Rattle.app_histo_ig.specs.Igs.{IgState, IsIg, IsIgQuery, ig_rules, may_ig, value_item, query_item, to_ask, ig_replies_from, noted_query, answered_entry}
 use Rattle.app_histo_ig.specs.IgRuns.{ig_begins, ig_starts}
 use Rattle.sparse_rows.proofs.EveryEntry.{came_to}
 use Rattle.app_histo_ig.proofs.ColumnSums.{risen_all}
@@ -27,27 +27,27 @@ column_bits ts j = sum_by (λ (t : Triple). cond (t.j == j) (twos_complement t.v
 -- ---- What comes in each round
 
 abbrev pub values : ℕ → Sparse → ℕ → List (ℕ × Item)
-values ranks m r = came_to (entry_owner ranks) (column_owner ranks) value_item r (numbered m.entries)
+values ranks m r = came_to (entry_owner ranks) (column_owner ranks) value_item r (with_numbers m.entries)
 
 abbrev pub ask_item : Numbered → Item
 ask_item e = query_item e.0 e.1.j
 
 abbrev pub queries : ℕ → Sparse → ℕ → List (ℕ × Item)
-queries ranks m r = came_to (entry_owner ranks) (column_owner ranks) ask_item r (numbered m.entries)
+queries ranks m r = came_to (entry_owner ranks) (column_owner ranks) ask_item r (with_numbers m.entries)
 
 abbrev pub answer_item : List Triple → Numbered → Item
 answer_item ts e = record { a = e.0; b = column_bits ts e.1.j; c = 0 }
 
 abbrev pub replies : ℕ → Sparse → ℕ → List (ℕ × Item)
-replies ranks m r = came_to (column_owner ranks) (entry_owner ranks) (answer_item m.entries) r (numbered m.entries)
+replies ranks m r = came_to (column_owner ranks) (entry_owner ranks) (answer_item m.entries) r (with_numbers m.entries)
 
 -- ---- The states between the rounds
 
 abbrev pub noted_all : List (List Item) → List (ℕ × Item) → List (List Item)
-noted_all qs came = fold (λ q e. noted q e.0 e.1) qs came
+noted_all qs came = fold (λ q e. noted_query q e.0 e.1) qs came
 
 abbrev pub answered_all : ℕ → List ℕ → List (ℕ × Item) → List ℕ
-answered_all ranks ns came = fold (λ a e. answered ranks a e.1) ns came
+answered_all ranks ns came = fold (λ a e. answered_entry ranks a e.1) ns came
 
 abbrev pub sums_of : ℕ → Sparse → ℕ → List ℕ
 sums_of ranks m r = risen_all ranks (replicate (places_for ranks m.cols) 0) (values ranks m r)
@@ -65,7 +65,7 @@ replying ranks m r =
       round = 2;
       sums = sums_of ranks m r;
       queries = by_sender ranks (queries ranks m r);
-      outgoing = replies_from ranks (sums_of ranks m r) 0 (by_sender ranks (queries ranks m r));
+      outgoing = ig_replies_from ranks (sums_of ranks m r) 0 (by_sender ranks (queries ranks m r));
     }
 
 abbrev pub answers_of : ℕ → Sparse → ℕ → List ℕ
@@ -85,22 +85,22 @@ over ranks m r =
 
 pub each_risen : (s : IgState) (es : List (ℕ × Item)) → absorb_each ig_rules (record s { round = 0 }) es ≡ record s { round = 0; sums = risen_all s.ranks s.sums es }
 each_risen s [] = refl
-each_risen s (e ∷ es) = each_risen (record s { sums = risen s.ranks s.sums e.1 }) es
+each_risen s (e ∷ es) = each_risen (record s { sums = with_sum_risen s.ranks s.sums e.1 }) es
 
 pub each_noted : (s : IgState) (es : List (ℕ × Item)) → absorb_each ig_rules (record s { round = 1 }) es ≡ record s { round = 1; queries = noted_all s.queries es }
 each_noted s [] = refl
-each_noted s (e ∷ es) = each_noted (record s { queries = noted s.queries e.0 e.1 }) es
+each_noted s (e ∷ es) = each_noted (record s { queries = noted_query s.queries e.0 e.1 }) es
 
 pub each_answered : (s : IgState) (es : List (ℕ × Item)) → absorb_each ig_rules (record s { round = 2 }) es ≡ record s { round = 2; answers = answered_all s.ranks s.answers es }
 each_answered s [] = refl
-each_answered s (e ∷ es) = each_answered (record s { answers = answered s.ranks s.answers e.1 }) es
+each_answered s (e ∷ es) = each_answered (record s { answers = answered_entry s.ranks s.answers e.1 }) es
 
 -- ---- The start
 
 begins_own : (ranks : ℕ) (m : Sparse) (r : ℕ) → IsSparse m → All (λ e. (e.0 < 2 ^ 64) × (e.1 < m.cols)) (ig_begins ranks m r).own
 begins_own ranks m r is =
     All-map (λ e. (e.0 < 2 ^ 64) × (e.1 < m.cols)) (λ (e : Numbered). (e.0, e.1.j)) (own_entries ranks r m.entries)
-    (All-filter (λ (e : Numbered). e.0 % ranks == r) (λ (e : Numbered). (e.0 < 2 ^ 64) × (e.1.j < m.cols)) (numbered m.entries)
+    (All-filter (λ (e : Numbered). e.0 % ranks == r) (λ (e : Numbered). (e.0 < 2 ^ 64) × (e.1.j < m.cols)) (with_numbers m.entries)
     (numbered_inside m.cols 0 m.entries (let few : length m.entries ≤ 524288 = is.few in omega arith) (λ k d l. (is.inside k d l).col)))
   where
     numbered_inside : (cols n : ℕ) (ts : List Triple) → n + length ts < 2 ^ 64 → All (λ (t : Triple). t.j < cols) ts → All (λ (e : Numbered). (e.0 < 2 ^ 64) × (e.1.j < cols)) (enumerate_from n ts)
@@ -118,7 +118,7 @@ word_of (negsuc n) h = omega arith
 begins_fit : (ranks : ℕ) (m : Sparse) (r : ℕ) → r < ranks → IsSparse m → All (λ e. may_ig (m.cols ∷ []) ranks 0 e.0 r e.1 ≡ true) (ig_begins ranks m r).outgoing
 begins_fit ranks m r low is =
     All-map (λ e. may_ig (m.cols ∷ []) ranks 0 e.0 r e.1 ≡ true) (λ (e : Numbered). (column_owner ranks e, value_item e)) (own_entries ranks r m.entries)
-    (All-filter (λ (e : Numbered). e.0 % ranks == r) (λ (e : Numbered). may_ig (m.cols ∷ []) ranks 0 (column_owner ranks e) r (value_item e) ≡ true) (numbered m.entries)
+    (All-filter (λ (e : Numbered). e.0 % ranks == r) (λ (e : Numbered). may_ig (m.cols ∷ []) ranks 0 (column_owner ranks e) r (value_item e) ≡ true) (with_numbers m.entries)
     (all_numbered (λ (t : Triple). may_ig (m.cols ∷ []) ranks 0 (t.j % ranks) r (record { a = t.j; b = twos_complement t.v; c = 0 }) ≡ true) 0 m.entries
     (λ k d l. fits_here m.cols ranks r (get_or m.entries k d) low is.wide (is.inside k d l).col (word_of (get_or m.entries k d).v (is.inside k d l).limit))))
   where
@@ -136,7 +136,7 @@ begins_valid ranks m r low is =
       words = All-replicate (λ v. v < 2 ^ 64) (places_for ranks m.cols) 0 (lit< tt);
       places = length-replicate (places_for ranks m.cols) 0;
       senders = length-replicate ranks [];
-      asked = All-replicate (All (IsQuery m.cols)) ranks [] (All-nil (IsQuery m.cols));
+      asked = All-replicate (All (IsIgQuery m.cols)) ranks [] (All-nil (IsIgQuery m.cols));
       fit = begins_fit ranks m r low is;
     }
 

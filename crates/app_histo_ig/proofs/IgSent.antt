@@ -7,14 +7,14 @@ use Rattle.list_laws.proofs.Lists.{get_map}
 use Rattle.sparse_rows.specs.Owners.{Numbered, column_owner}
 use Rattle.app_histo_ig.specs.declared.ig_sent.Own.{Own}
 use Rattle.app_histo_ig.specs.Igs.{to_ask, value_item}
-use Rattle.app_histo_ig.specs.code.IgSent.{own_entry, number_and_column, question_of, to_add, sent_of, sent_of_own}
+use Rattle.app_histo_ig.specs.code.IgSent.{own_entry, number_and_column, question_of, to_add, ig_items_sent, sent_of_own}
 
 -- in rounds 0 and 1 what is sent is of the entries, as many items as there are entries
-pub sent_early : (round ranks : ℕ) (own : List Own) (replies : List (ℕ × Item)) → round < 2 → sent_of round ranks own replies ≡ sent_of_own round ranks own
+pub sent_early : (round ranks : ℕ) (own : List Own) (replies : List (ℕ × Item)) → round < 2 → ig_items_sent round ranks own replies ≡ sent_of_own round ranks own
 sent_early round ranks own replies low = ap (λ b. cond b (sent_of_own round ranks own) (cond (round == 2) replies [])) (lt-ltb round 2 low)
 
 -- whatever the replies
-pub same_early : (round ranks : ℕ) (own : List Own) (replies others : List (ℕ × Item)) → round < 2 → sent_of round ranks own replies ≡ sent_of round ranks own others
+pub same_early : (round ranks : ℕ) (own : List Own) (replies others : List (ℕ × Item)) → round < 2 → ig_items_sent round ranks own replies ≡ ig_items_sent round ranks own others
 same_early round ranks own replies others low = sent_early round ranks own replies low ∙ sym (sent_early round ranks own others low)
 
 pub count_own : (round ranks : ℕ) (own : List Own) → length (sent_of_own round ranks own) ≡ length own
@@ -27,10 +27,10 @@ count_own round ranks own =
     ]
 
 -- in round 2 it is the replies, and then nothing
-pub sent_replies : (round ranks : ℕ) (own : List Own) (replies : List (ℕ × Item)) → round ≡ 2 → sent_of round ranks own replies ≡ replies
-sent_replies round ranks own replies e = ap (λ r. sent_of r ranks own replies) e
+pub sent_replies : (round ranks : ℕ) (own : List Own) (replies : List (ℕ × Item)) → round ≡ 2 → ig_items_sent round ranks own replies ≡ replies
+sent_replies round ranks own replies e = ap (λ r. ig_items_sent r ranks own replies) e
 
-pub sent_late : (round ranks : ℕ) (own : List Own) (replies : List (ℕ × Item)) → 2 < round → sent_of round ranks own replies ≡ []
+pub sent_late : (round ranks : ℕ) (own : List Own) (replies : List (ℕ × Item)) → 2 < round → ig_items_sent round ranks own replies ≡ []
 sent_late round ranks own replies high =
     ap (λ b. cond b (sent_of_own round ranks own) (cond (round == 2) replies [])) (le-ltb round 2 (omega (arith, high)))
     ∙ ap (λ b. cond b replies []) (ne_eqb round 2 (λ e. absurd (omega (arith, e, high))))
@@ -47,9 +47,9 @@ query_at ranks i own o e = get_map (to_ask ranks) (map number_and_column own) i 
 
 -- what is sent after a round
 pub sent_next : (round next ranks : ℕ) (own : List Own) (replies : List (ℕ × Item)) → next ≡ min (round + 1) (2 ^ 64 - 1)
-    → sent_of next ranks own replies ≡ cond (round == 0) (map (to_ask ranks) (map number_and_column own)) (cond (round == 1) replies [])
-sent_next zero next ranks own replies e = ap (λ r. sent_of r ranks own replies) e
-sent_next (suc zero) next ranks own replies e = ap (λ r. sent_of r ranks own replies) e
+    → ig_items_sent next ranks own replies ≡ cond (round == 0) (map (to_ask ranks) (map number_and_column own)) (cond (round == 1) replies [])
+sent_next zero next ranks own replies e = ap (λ r. ig_items_sent r ranks own replies) e
+sent_next (suc zero) next ranks own replies e = ap (λ r. ig_items_sent r ranks own replies) e
 sent_next (suc (suc n)) next ranks own replies e =
     sent_late next ranks own replies (omega (arith, e)) ∙ sym (past_first (suc (suc n)) _ _ (omega arith) ∙ past_second (suc (suc n)) _ _ (omega arith))
 

@@ -13,10 +13,10 @@ use Rattle.mtx_text.specs.Sparse.{Sparse, IsSparse}
 use Rattle.round_program.specs.Canonical.{absorbed_round, states_at, HasRounds, EndsWithin, InRound}
 use Rattle.round_program.specs.Orders.{absorb_each}
 use Rattle.round_program.proofs.Members.{rounds_once}
-use Rattle.sparse_rows.specs.Owners.{Numbered, numbered, entry_owner, column_owner, own_entries, places_for}
+use Rattle.sparse_rows.specs.Owners.{Numbered, with_numbers, entry_owner, column_owner, own_entries, places_for}
 use Rattle.sparse_rows.proofs.EveryEntry.{every_owned}
 use Rattle.sparse_rows.proofs.Starts.{made_at, made_from, made_in_round, all_numbered, all_owned, round_made}
-use Rattle.app_histo_ig.specs.Owners.{risen}
+use Rattle.app_histo_ig.specs.Owners.{with_sum_risen}
 use Rattle.app_histo_ig.specs.Histos.{may_count}
 use Rattle.app_histo_ig.specs.Igs.{value_item}
 use Rattle.app_histo_ig.specs.Sums.{SumsState, IsSums, sums_rules}
@@ -34,7 +34,7 @@ word_of (negsuc n) h = omega arith
 begins_fit : (ranks : ℕ) (m : Sparse) (r : ℕ) → r < ranks → IsSparse m → All (λ e. may_count (m.cols ∷ []) ranks 0 e.0 r e.1 ≡ true) (sums_begins ranks m r).values
 begins_fit ranks m r low is =
     All-map (λ e. may_count (m.cols ∷ []) ranks 0 e.0 r e.1 ≡ true) (λ (e : Numbered). (column_owner ranks e, value_item e)) (own_entries ranks r m.entries)
-    (All-filter (λ (e : Numbered). e.0 % ranks == r) (λ (e : Numbered). may_count (m.cols ∷ []) ranks 0 (column_owner ranks e) r (value_item e) ≡ true) (numbered m.entries)
+    (All-filter (λ (e : Numbered). e.0 % ranks == r) (λ (e : Numbered). may_count (m.cols ∷ []) ranks 0 (column_owner ranks e) r (value_item e) ≡ true) (with_numbers m.entries)
     (all_numbered (λ (t : Triple). may_count (m.cols ∷ []) ranks 0 (t.j % ranks) r (record { a = t.j; b = twos_complement t.v; c = 0 }) ≡ true) 0 m.entries
     (λ k d l. fits_here m.cols ranks r (get_or m.entries k d) low is.wide (is.inside k d l).col (word_of (get_or m.entries k d).v (is.inside k d l).limit))))
   where
@@ -79,13 +79,13 @@ added ranks m r = record (sums_begins ranks m r) { round = 1; sums = sums_of ran
 
 each_risen : (s : SumsState) (es : List (ℕ × Item)) → absorb_each sums_rules s es ≡ record s { sums = risen_all s.ranks s.sums es }
 each_risen s [] = refl
-each_risen s (e ∷ es) = each_risen (record s { sums = risen s.ranks s.sums e.1 }) es
+each_risen s (e ∷ es) = each_risen (record s { sums = with_sum_risen s.ranks s.sums e.1 }) es
 
 the_round : (ranks : ℕ) (m : Sparse) → 0 < ranks → IsSparse m → states_at sums_rules (sums_starts ranks m) 1 ≡ map (added ranks m) (range_with_len 0 ranks)
 the_round ranks m some is =
     round_made sums_rules ranks (sums_begins ranks m) (added ranks m) (λ r votes low t at.
     let absorbed : slice_get (absorbed_round sums_rules (sums_starts ranks m)) r ≡ Some (absorb_each sums_rules (sums_begins ranks m r) (values ranks m r)) =
-    every_owned sums_rules sums_laws ranks 0 (m.cols ∷ []) 1 (sums_starts ranks m) (entry_owner ranks) (column_owner ranks) value_item (numbered m.entries)
+    every_owned sums_rules sums_laws ranks 0 (m.cols ∷ []) 1 (sums_starts ranks m) (entry_owner ranks) (column_owner ranks) value_item (with_numbers m.entries)
     (starts_in_round ranks m is) (all_owned ranks 0 m.entries some)
     (λ f s here. ap sums_rules.emissions (sym (made_from (sums_begins ranks m) ranks f s here).1))
     r (sums_begins ranks m r) (made_at (sums_begins ranks m) ranks r low) in

@@ -10,10 +10,10 @@ use Rattle.round_program.specs.Rules.{Rules}
 use Rattle.round_program.specs.Laws.{is_item}
 use Rattle.round_program.specs.Batches.{taken_in, all_taken_in}
 use Rattle.app_histo_ig.specs.declared.seat.Seat.{Seat}
-use Rattle.app_histo_ig.specs.Owners.{risen}
+use Rattle.app_histo_ig.specs.Owners.{with_sum_risen}
 use Rattle.app_histo_ig.specs.Histos.{HistoState, IsHisto, histo_rules, may_count}
 use Rattle.app_histo_ig.specs.Sums.{SumsState, IsSums, sums_rules}
-use Rattle.app_histo_ig.specs.Igs.{IgState, IsIg, ig_rules, may_ig, noted, answered}
+use Rattle.app_histo_ig.specs.Igs.{IgState, IsIg, ig_rules, may_ig, noted_query, answered_entry}
 use Rattle.app_histo_ig.specs.laws.IgLaws.{sums_len, sums_words}
 use Rattle.app_histo_ig.specs.code.Batches.{own_risen, all_risen, own_noted, all_noted, own_answered, all_answered}
 
@@ -53,15 +53,15 @@ counts_taken s seat came z at = in_field histo_rules (λ l. record s { counts = 
   where
     one : (l : List ℕ) (from : ℕ) (x : Item) → taken_in histo_rules (record s { counts = l }) from x ≡ record s { counts = own_risen seat l from x }
     one l from x =
-        inside (λ (m : List ℕ). record s { counts = m }) (may_count (s.cols ∷ []) s.ranks s.round s.rank from x) (may_count (seat.cols ∷ []) seat.ranks 0 seat.rank from x) (risen s.ranks l x) l
+        inside (λ (m : List ℕ). record s { counts = m }) (may_count (s.cols ∷ []) s.ranks s.round s.rank from x) (may_count (seat.cols ∷ []) seat.ranks 0 seat.rank from x) (with_sum_risen s.ranks l x) l
         (ap (λ n. may_count (s.cols ∷ []) s.ranks n s.rank from x) z ∙ may_same seat s.rank s.ranks s.cols from x at)
-        ∙ ap (λ k. record s { counts = cond (may_count (seat.cols ∷ []) seat.ranks 0 seat.rank from x) (risen k l x) l }) (sym at.all)
+        ∙ ap (λ k. record s { counts = cond (may_count (seat.cols ∷ []) seat.ranks 0 seat.rank from x) (with_sum_risen k l x) l }) (sym at.all)
 
 pub no_counts : (s : HistoState) (came : List (ℕ × Item)) → s.round ≢ 0 → all_taken_in histo_rules s came ≡ s
 no_counts s came n = none_taken histo_rules s (λ from x. late (s.round == 0) from x (ne_eqb s.round 0 n)) came
   where
     late : (b : Bool) (from : ℕ) (x : Item) → b ≡ false
-        → cond (b && nat_lt from s.ranks && nat_lt x.a s.cols && x.a % s.ranks == s.rank && is_item x) (record s { counts = risen s.ranks s.counts x }) s ≡ s
+        → cond (b && nat_lt from s.ranks && nat_lt x.a s.cols && x.a % s.ranks == s.rank && is_item x) (record s { counts = with_sum_risen s.ranks s.counts x }) s ≡ s
     late false from x e = refl
     late true from x e = absurd (cc)
 
@@ -71,15 +71,15 @@ sums_taken s seat came z at = in_field sums_rules (λ l. record s { sums = l }) 
   where
     one : (l : List ℕ) (from : ℕ) (x : Item) → taken_in sums_rules (record s { sums = l }) from x ≡ record s { sums = own_risen seat l from x }
     one l from x =
-        inside (λ (m : List ℕ). record s { sums = m }) (may_count (s.cols ∷ []) s.ranks s.round s.rank from x) (may_count (seat.cols ∷ []) seat.ranks 0 seat.rank from x) (risen s.ranks l x) l
+        inside (λ (m : List ℕ). record s { sums = m }) (may_count (s.cols ∷ []) s.ranks s.round s.rank from x) (may_count (seat.cols ∷ []) seat.ranks 0 seat.rank from x) (with_sum_risen s.ranks l x) l
         (ap (λ n. may_count (s.cols ∷ []) s.ranks n s.rank from x) z ∙ may_same seat s.rank s.ranks s.cols from x at)
-        ∙ ap (λ k. record s { sums = cond (may_count (seat.cols ∷ []) seat.ranks 0 seat.rank from x) (risen k l x) l }) (sym at.all)
+        ∙ ap (λ k. record s { sums = cond (may_count (seat.cols ∷ []) seat.ranks 0 seat.rank from x) (with_sum_risen k l x) l }) (sym at.all)
 
 pub no_sums : (s : SumsState) (came : List (ℕ × Item)) → s.round ≢ 0 → all_taken_in sums_rules s came ≡ s
 no_sums s came n = none_taken sums_rules s (λ from x. late (s.round == 0) from x (ne_eqb s.round 0 n)) came
   where
     late : (b : Bool) (from : ℕ) (x : Item) → b ≡ false
-        → cond (b && nat_lt from s.ranks && nat_lt x.a s.cols && x.a % s.ranks == s.rank && is_item x) (record s { sums = risen s.ranks s.sums x }) s ≡ s
+        → cond (b && nat_lt from s.ranks && nat_lt x.a s.cols && x.a % s.ranks == s.rank && is_item x) (record s { sums = with_sum_risen s.ranks s.sums x }) s ≡ s
     late false from x e = refl
     late true from x e = absurd (cc)
 
@@ -102,27 +102,27 @@ may_early seat s n from x v early at =
 pub values_taken : (s : IgState) (seat : Seat) (came : List (ℕ × Item)) → IsIg s → s.round ≡ 0 → Sits seat s.rank s.ranks s.cols → all_taken_in ig_rules s came ≡ record s { sums = all_risen seat s.sums came }
 values_taken s seat came v z at = in_field ig_rules (λ l. record s { sums = l }) (own_risen seat) one s.sums came
   where
-    step : (l : List ℕ) (from : ℕ) (x : Item) (n : ℕ) → n ≡ 0 → ig_rules.absorbed (record s { round = n; sums = l }) from x ≡ record s { round = n; sums = risen s.ranks l x }
-    step l from x n e = subst (λ k. ig_rules.absorbed (record s { round = k; sums = l }) from x ≡ record s { round = k; sums = risen s.ranks l x }) (sym e) refl
+    step : (l : List ℕ) (from : ℕ) (x : Item) (n : ℕ) → n ≡ 0 → ig_rules.absorbed (record s { round = n; sums = l }) from x ≡ record s { round = n; sums = with_sum_risen s.ranks l x }
+    step l from x n e = subst (λ k. ig_rules.absorbed (record s { round = k; sums = l }) from x ≡ record s { round = k; sums = with_sum_risen s.ranks l x }) (sym e) refl
 
     one : (l : List ℕ) (from : ℕ) (x : Item) → taken_in ig_rules (record s { sums = l }) from x ≡ record s { sums = own_risen seat l from x }
     one l from x =
         ap (λ t. cond (may_ig (s.cols ∷ []) s.ranks s.round s.rank from x) t (record s { sums = l })) (step l from x s.round z)
-        ∙ inside (λ (m : List ℕ). record s { sums = m }) (may_ig (s.cols ∷ []) s.ranks s.round s.rank from x) (may_count (seat.cols ∷ []) seat.ranks 0 seat.rank from x) (risen s.ranks l x) l
+        ∙ inside (λ (m : List ℕ). record s { sums = m }) (may_ig (s.cols ∷ []) s.ranks s.round s.rank from x) (may_count (seat.cols ∷ []) seat.ranks 0 seat.rank from x) (with_sum_risen s.ranks l x) l
         (may_early seat s s.round from x v (ap (nat_lt 1) z) at)
-        ∙ ap (λ k. record s { sums = cond (may_count (seat.cols ∷ []) seat.ranks 0 seat.rank from x) (risen k l x) l }) (sym at.all)
+        ∙ ap (λ k. record s { sums = cond (may_count (seat.cols ∷ []) seat.ranks 0 seat.rank from x) (with_sum_risen k l x) l }) (sym at.all)
 
 -- round 1: queries
 pub queries_taken : (s : IgState) (seat : Seat) (came : List (ℕ × Item)) → IsIg s → s.round ≡ 1 → Sits seat s.rank s.ranks s.cols → all_taken_in ig_rules s came ≡ record s { queries = all_noted seat s.queries came }
 queries_taken s seat came v z at = in_field ig_rules (λ l. record s { queries = l }) (own_noted seat) one s.queries came
   where
-    step : (l : List (List Item)) (from : ℕ) (x : Item) (n : ℕ) → n ≡ 1 → ig_rules.absorbed (record s { round = n; queries = l }) from x ≡ record s { round = n; queries = noted l from x }
-    step l from x n e = subst (λ k. ig_rules.absorbed (record s { round = k; queries = l }) from x ≡ record s { round = k; queries = noted l from x }) (sym e) refl
+    step : (l : List (List Item)) (from : ℕ) (x : Item) (n : ℕ) → n ≡ 1 → ig_rules.absorbed (record s { round = n; queries = l }) from x ≡ record s { round = n; queries = noted_query l from x }
+    step l from x n e = subst (λ k. ig_rules.absorbed (record s { round = k; queries = l }) from x ≡ record s { round = k; queries = noted_query l from x }) (sym e) refl
 
     one : (l : List (List Item)) (from : ℕ) (x : Item) → taken_in ig_rules (record s { queries = l }) from x ≡ record s { queries = own_noted seat l from x }
     one l from x =
         ap (λ t. cond (may_ig (s.cols ∷ []) s.ranks s.round s.rank from x) t (record s { queries = l })) (step l from x s.round z)
-        ∙ inside (λ (m : List (List Item)). record s { queries = m }) (may_ig (s.cols ∷ []) s.ranks s.round s.rank from x) (may_count (seat.cols ∷ []) seat.ranks 0 seat.rank from x) (noted l from x) l
+        ∙ inside (λ (m : List (List Item)). record s { queries = m }) (may_ig (s.cols ∷ []) s.ranks s.round s.rank from x) (may_count (seat.cols ∷ []) seat.ranks 0 seat.rank from x) (noted_query l from x) l
         (may_early seat s s.round from x v (ap (nat_lt 1) z) at)
 
 -- later rounds: replies
@@ -138,7 +138,7 @@ replies_taken s ranks came v late p = in_field ig_rules (λ l. record s { answer
     third = grind (arith, nat_tests, late)
 
     step : (l : List ℕ) (from : ℕ) (x : Item) (b c d : Bool) → b ≡ false → c ≡ false → d ≡ true
-        → record s { sums = cond b (risen s.ranks s.sums x) s.sums; queries = cond c (noted s.queries from x) s.queries; answers = cond d (answered s.ranks l x) l } ≡ record s { answers = answered s.ranks l x }
+        → record s { sums = cond b (with_sum_risen s.ranks s.sums x) s.sums; queries = cond c (noted_query s.queries from x) s.queries; answers = cond d (answered_entry s.ranks l x) l } ≡ record s { answers = answered_entry s.ranks l x }
     step l from x false false true e f g = refl
     step l from x true c d e f g = absurd (cc)
     step l from x false true d e f g = absurd (cc)
@@ -153,8 +153,8 @@ replies_taken s ranks came v late p = in_field ig_rules (λ l. record s { answer
     one l from x =
         ap (λ t. cond (may_ig (s.cols ∷ []) s.ranks s.round s.rank from x) t (record s { answers = l }))
         (step l from x (s.round == 0) (s.round == 1) (nat_lt 1 s.round) (ne_eqb s.round 0 (λ e. omega arith)) (ne_eqb s.round 1 (λ e. omega arith)) third)
-        ∙ inside (λ (m : List ℕ). record s { answers = m }) (may_ig (s.cols ∷ []) s.ranks s.round s.rank from x) (nat_lt from s.ranks && is_item x) (answered s.ranks l x) l (may from x)
-        ∙ ap (λ k. record s { answers = cond (nat_lt from k && is_item x) (answered k l x) l }) (sym p)
+        ∙ inside (λ (m : List ℕ). record s { answers = m }) (may_ig (s.cols ∷ []) s.ranks s.round s.rank from x) (nat_lt from s.ranks && is_item x) (answered_entry s.ranks l x) l (may from x)
+        ∙ ap (λ k. record s { answers = cond (nat_lt from k && is_item x) (answered_entry k l x) l }) (sym p)
 
 -- sums stay as many words
 pub all_risen_len : (seat : Seat) (sums : List ℕ) (came : List (ℕ × Item)) → length (all_risen seat sums came) ≡ length sums
@@ -193,7 +193,7 @@ values_valid s seat came sums v is =
     }
 
 -- answers stay as many
-answered_len : (b : Bool) (ranks : ℕ) (answers : List ℕ) (x : Item) → length (cond b (answered ranks answers x) answers) ≡ length answers
+answered_len : (b : Bool) (ranks : ℕ) (answers : List ℕ) (x : Item) → length (cond b (answered_entry ranks answers x) answers) ≡ length answers
 answered_len true ranks answers x = changed_len answers (x.a / ranks) 0 (λ v. max v x.b)
 answered_len false ranks answers x = refl
 

@@ -7,7 +7,7 @@ use Rattle.bale_items.specs.declared.Item.{Item}
 use Rattle.round_program.specs.Rules.{Rules}
 use Rattle.round_program.specs.Laws.{is_item}
 use Rattle.sparse_rows.specs.Owners.{places_for}
-use Rattle.app_histo_ig.specs.Owners.{risen}
+use Rattle.app_histo_ig.specs.Owners.{with_sum_risen}
 
 -- one rank's part: the columns of its entries, and the counts of the columns that it owns
 pub record HistoState : Type 0 where
@@ -32,8 +32,8 @@ pub record IsHisto (s : HistoState) : Type 0 where
 abbrev pub counted_item : ℕ → Item
 counted_item j = record { a = j; b = 1; c = 0 }
 
-abbrev pub to_column : ℕ → ℕ → ℕ × Item
-to_column ranks j = (j % ranks, counted_item j)
+abbrev pub to_own_column : ℕ → ℕ → ℕ × Item
+to_own_column ranks j = (j % ranks, counted_item j)
 
 -- in round 0 an owner may be sent its columns
 abbrev pub may_count : List ℕ → ℕ → ℕ → ℕ → ℕ → Item → Bool
@@ -50,9 +50,9 @@ histo_rules =
       round = λ s. s.round;
       shape = λ s. s.cols ∷ [];
       most = λ s. 1;
-      emissions = λ s. if s.round == 0 then map (to_column s.ranks) s.columns else [];
+      emissions = λ s. if s.round == 0 then map (to_own_column s.ranks) s.columns else [];
       may_be_sent = may_count;
-      absorbed = λ s from x. record s { counts = risen s.ranks s.counts x };
+      absorbed = λ s from x. record s { counts = with_sum_risen s.ranks s.counts x };
       vote = λ s. 0;
       goes_on = λ shape round votes. false;
       ended = λ s votes. record s { round = min (s.round + 1) (2 ^ 64 - 1) };

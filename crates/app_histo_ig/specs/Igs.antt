@@ -9,7 +9,7 @@ use Rattle.list_laws.specs.Lists.{changed_at}
 use Rattle.round_program.specs.Rules.{Rules}
 use Rattle.round_program.specs.Laws.{is_item}
 use Rattle.sparse_rows.specs.Owners.{Numbered, places_for}
-use Rattle.app_histo_ig.specs.Owners.{risen}
+use Rattle.app_histo_ig.specs.Owners.{with_sum_risen}
 
 -- one rank's part
 pub record IgState : Type 0 where
@@ -41,25 +41,25 @@ abbrev pub to_ask : ℕ → ℕ × ℕ → ℕ × Item
 to_ask ranks e = (e.1 % ranks, query_item e.0 e.1)
 
 -- round 2: the reply to a query of rank f: the number of its entry and the sum of its column
-abbrev pub reply_to : ℕ → List ℕ → ℕ → Item → ℕ × Item
-reply_to ranks sums f x = (f, record { a = x.b; b = slice_index_or sums (x.a / ranks) 0; c = 0 })
+abbrev pub ig_reply_to : ℕ → List ℕ → ℕ → Item → ℕ × Item
+ig_reply_to ranks sums f x = (f, record { a = x.b; b = slice_index_or sums (x.a / ranks) 0; c = 0 })
 
 -- the replies to lists of queries, whose senders begin at f
-abbrev pub replies_from : ℕ → List ℕ → ℕ → List (List Item) → List (ℕ × Item)
-replies_from ranks sums f [] = []
-replies_from ranks sums f (q ∷ qs) = map (reply_to ranks sums f) q ++ replies_from ranks sums (suc f) qs
+abbrev pub ig_replies_from : ℕ → List ℕ → ℕ → List (List Item) → List (ℕ × Item)
+ig_replies_from ranks sums f [] = []
+ig_replies_from ranks sums f (q ∷ qs) = map (ig_reply_to ranks sums f) q ++ ig_replies_from ranks sums (suc f) qs
 
 -- a query that came: of a column, for an entry whose number is a word
-abbrev pub IsQuery : ℕ → Item → Type 0
-IsQuery cols x = (x.a < cols) × (x.b < 2 ^ 64)
+abbrev pub IsIgQuery : ℕ → Item → Type 0
+IsIgQuery cols x = (x.a < cols) × (x.b < 2 ^ 64)
 
 -- the query is appended to its sender's list
-abbrev pub noted : List (List Item) → ℕ → Item → List (List Item)
-noted queries f x = changed_at queries f [] (λ q. q ++ x ∷ [])
+abbrev pub noted_query : List (List Item) → ℕ → Item → List (List Item)
+noted_query queries f x = changed_at queries f [] (λ q. q ++ x ∷ [])
 
 -- the answer of entry number a is b, or stays where it is greater
-abbrev pub answered : ℕ → List ℕ → Item → List ℕ
-answered ranks answers x = changed_at answers (x.a / ranks) 0 (λ v. max v x.b)
+abbrev pub answered_entry : ℕ → List ℕ → Item → List ℕ
+answered_entry ranks answers x = changed_at answers (x.a / ranks) 0 (λ v. max v x.b)
 
 -- in rounds 0 and 1 an owner may be sent its columns, and later any rank any reply
 abbrev pub may_ig : List ℕ → ℕ → ℕ → ℕ → ℕ → Item → Bool
@@ -75,13 +75,13 @@ pub record IsIg (s : IgState) : Type 0 where
   pub words : All (λ v. v < 2 ^ 64) s.sums
   pub places : length s.sums ≡ places_for s.ranks s.cols
   pub senders : length s.queries ≡ s.ranks
-  pub asked : All (All (IsQuery s.cols)) s.queries
+  pub asked : All (All (IsIgQuery s.cols)) s.queries
   pub fit : All (λ e. may_ig (s.cols ∷ []) s.ranks s.round e.0 s.rank e.1 ≡ true) s.outgoing
 
 -- what is sent after this round: queries after round 0, replies after round 1, and then nothing
-abbrev pub next_outgoing : IgState → List (ℕ × Item)
-next_outgoing s =
-    if s.round == 0 then map (to_ask s.ranks) s.own else if s.round == 1 then replies_from s.ranks s.sums 0 s.queries
+abbrev pub ig_next_outgoing : IgState → List (ℕ × Item)
+ig_next_outgoing s =
+    if s.round == 0 then map (to_ask s.ranks) s.own else if s.round == 1 then ig_replies_from s.ranks s.sums 0 s.queries
     else []
 
 abbrev pub ig_rules : Rules IgState
@@ -96,11 +96,11 @@ ig_rules =
       emissions = λ s. s.outgoing;
       may_be_sent = may_ig;
       absorbed = λ s from x. record s {
-        sums = if s.round == 0 then risen s.ranks s.sums x else s.sums;
-        queries = if s.round == 1 then noted s.queries from x else s.queries;
-        answers = if nat_lt 1 s.round then answered s.ranks s.answers x else s.answers;
+        sums = if s.round == 0 then with_sum_risen s.ranks s.sums x else s.sums;
+        queries = if s.round == 1 then noted_query s.queries from x else s.queries;
+        answers = if nat_lt 1 s.round then answered_entry s.ranks s.answers x else s.answers;
       };
       vote = λ s. 0;
       goes_on = λ shape round votes. nat_lt round 2;
-      ended = λ s votes. record s { round = min (s.round + 1) (2 ^ 64 - 1); outgoing = next_outgoing s };
+      ended = λ s votes. record s { round = min (s.round + 1) (2 ^ 64 - 1); outgoing = ig_next_outgoing s };
     }

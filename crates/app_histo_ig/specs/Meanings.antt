@@ -10,8 +10,8 @@ use Rattle.app_histo_ig.specs.IgLines.{ig_line}
 -- How many rows of a matrix have an entry in a column.
 -- entries_in m j = the number of rows i with a value A(i,j)
 -- of (0,0), (0,2), (1,2), (2,2): 3 in column 2
-abbrev pub entries_in : Sparse → ℕ → ℕ
-entries_in m j = total m.rows (λ i. if is_some (at m i j) then 1 else 0)
+abbrev pub entries_in_column : Sparse → ℕ → ℕ
+entries_in_column m j = total m.rows (λ i. if is_some (at m i j) then 1 else 0)
 
 -- A value, and 0 where there is none.
 abbrev pub or_zero : Option ℤ → ℤ
@@ -33,7 +33,7 @@ sum_in m j = sum_upto m.rows (λ i. or_zero (at m i j))
 -- The bytes are a line for each column, with its number of entries.
 -- of (0,0), (0,2), (1,2), (2,2) and 3 columns: "1 1/2 0/3 3/", with / for LF
 abbrev pub HistoMeans : Sparse → List ℕ → Type 0
-HistoMeans m bytes = bytes ≡ flat_map (λ j. histo_line j (entries_in m j)) (range_with_len 0 m.cols)
+HistoMeans m bytes = bytes ≡ flat_map (λ j. histo_line j (entries_in_column m j)) (range_with_len 0 m.cols)
 
 -- The bytes are a line for each entry, in the order of the matrix, with the sum of its column.
 -- of (0,2,-7), (1,0,4): "1 3 -7/2 1 4/", with / for LF

@@ -4,7 +4,7 @@ use Rattle.std.specs.List.{All}
 use Rattle.bale_items.specs.declared.Item.{Item}
 use Rattle.round_program.specs.Rules.{Rules}
 use Rattle.sparse_rows.specs.Owners.{places_for}
-use Rattle.app_histo_ig.specs.Owners.{risen}
+use Rattle.app_histo_ig.specs.Owners.{with_sum_risen}
 use Rattle.app_histo_ig.specs.Histos.{may_count}
 
 -- one rank's part: the values of its entries, and the sums of the columns that it owns
@@ -38,7 +38,7 @@ sums_rules =
       most = λ s. 1;
       emissions = λ s. if s.round == 0 then s.values else [];
       may_be_sent = may_count;
-      absorbed = λ s from x. record s { sums = risen s.ranks s.sums x };
+      absorbed = λ s from x. record s { sums = with_sum_risen s.ranks s.sums x };
       vote = λ s. 0;
       goes_on = λ shape round votes. false;
       ended = λ s votes. record s { round = min (s.round + 1) (2 ^ 64 - 1) };

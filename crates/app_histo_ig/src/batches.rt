@@ -4,7 +4,7 @@
 ghost use Rattle.std.specs.Prelude.{◌≡◌, ◌<◌, OnOk, length, map};
 ghost use Rattle.std.specs.List.{All};
 ghost use Rattle.sparse_rows.specs.Owners.{places_for};
-ghost use Rattle.app_histo_ig.specs.Igs.{IsQuery};
+ghost use Rattle.app_histo_ig.specs.Igs.{IsIgQuery};
 ghost use Rattle.app_histo_ig.specs.code.Batches.{own_risen, all_risen, own_noted, all_noted, own_answered, all_answered};
 
 use crate::ig_lists::{note, raise, rise};
@@ -44,11 +44,11 @@ pub(crate) fn note_each<I: Arrivals>(
     came: I,
 ) -> Result<(), NoMemory>
     requires senders { length queries.old.items ≡ seat.ranks }
-    requires asked { All (All (IsQuery seat.cols)) (map (λ l. l.items) queries.old.items) }
+    requires asked { All (All (IsIgQuery seat.cols)) (map (λ l. l.items) queries.old.items) }
     ensures ok { OnOk result
         (map (λ l. l.items) queries.new.items ≡ all_noted seat (map (λ l. l.items) queries.old.items) (I.items came)) }
     ensures senders { length queries.new.items ≡ seat.ranks }
-    ensures asked { All (All (IsQuery seat.cols)) (map (λ l. l.items) queries.new.items) }
+    ensures asked { All (All (IsIgQuery seat.cols)) (map (λ l. l.items) queries.new.items) }
 {
     let mut came = came;
     while let Some((from, item)) = came.next() {
@@ -61,11 +61,11 @@ pub(crate) fn note_each<I: Arrivals>(
 #[inline(always)]
 fn note_own(queries: &mut Vec<Vec<Item>>, seat: Seat, from: u32, item: Item) -> Result<(), NoMemory>
     requires senders { length queries.old.items ≡ seat.ranks }
-    requires asked { All (All (IsQuery seat.cols)) (map (λ l. l.items) queries.old.items) }
+    requires asked { All (All (IsIgQuery seat.cols)) (map (λ l. l.items) queries.old.items) }
     ensures ok { OnOk result
         (map (λ l. l.items) queries.new.items ≡ own_noted seat (map (λ l. l.items) queries.old.items) from item) }
     ensures senders { length queries.new.items ≡ seat.ranks }
-    ensures asked { All (All (IsQuery seat.cols)) (map (λ l. l.items) queries.new.items) }
+    ensures asked { All (All (IsIgQuery seat.cols)) (map (λ l. l.items) queries.new.items) }
 {
     if seat.owns(from, item) {
         return note(queries, from as usize, item);

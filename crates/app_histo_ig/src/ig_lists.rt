@@ -1,8 +1,8 @@
 //! The lists of a rank of ig: sums, queries and answers.
 
 ghost use Rattle.std.specs.Prelude.{◌≡◌, ◌<◌, ◌^◌, ◌/◌, is_ok, if◌then◌else◌, length, map};
-ghost use Rattle.app_histo_ig.specs.Owners.{risen};
-ghost use Rattle.app_histo_ig.specs.Igs.{noted, answered};
+ghost use Rattle.app_histo_ig.specs.Owners.{with_sum_risen};
+ghost use Rattle.app_histo_ig.specs.Igs.{noted_query, answered_entry};
 
 use bale_items::{Item, NoMemory};
 
@@ -12,7 +12,7 @@ pub(crate) fn rise(sums: &mut [u64], ranks: u32, item: Item)
     requires some { 0 < ranks }
     requires column { item.a < 2 ^ 32 }
     requires place { item.a / ranks < length sums.old }
-    ensures { sums.new ≡ risen ranks sums.old item }
+    ensures { sums.new ≡ with_sum_risen ranks sums.old item }
 {
     let place = (item.a as u32 / ranks) as usize;
     sums[place] = sums[place].wrapping_add(item.b);
@@ -23,7 +23,7 @@ pub(crate) fn rise(sums: &mut [u64], ranks: u32, item: Item)
 pub(crate) fn note(queries: &mut Vec<Vec<Item>>, from: usize, item: Item) -> Result<(), NoMemory>
     requires { from < length queries.old.items }
     ensures { map (λ l. l.items) queries.new.items
-        ≡ (if is_ok result then noted (map (λ l. l.items) queries.old.items) from item else map
+        ≡ (if is_ok result then noted_query (map (λ l. l.items) queries.old.items) from item else map
         (λ l. l.items) queries.old.items) }
 {
     queries[from].push(item).map_err(|_| NoMemory)
@@ -34,7 +34,7 @@ pub(crate) fn note(queries: &mut Vec<Vec<Item>>, from: usize, item: Item) -> Res
 #[inline(always)]
 pub(crate) fn raise(answers: &mut [u64], ranks: u32, item: Item)
     requires { 0 < ranks }
-    ensures { answers.new ≡ answered ranks answers.old item }
+    ensures { answers.new ≡ answered_entry ranks answers.old item }
 {
     let at = place_of(item.a, ranks);
     if at < answers.len() as u64 {

@@ -5,7 +5,7 @@ ghost use Rattle.std.specs.Prelude.{◌≡◌, ◌<◌, ◌≤◌, ◌-◌, ◌/
 ghost use Rattle.std.specs.List.{All};
 ghost use Rattle.round_program.specs.Emissions.{HandsOver};
 ghost use Rattle.round_program.specs.Handing.{MayHandOver, HandsUpTo};
-ghost use Rattle.app_histo_ig.specs.Igs.{reply_to, replies_from};
+ghost use Rattle.app_histo_ig.specs.Igs.{ig_reply_to, ig_replies_from};
 ghost use Rattle.app_histo_ig.specs.code.Queries.{CanReply};
 
 use bale_items::{Item, NoMemory};
@@ -14,7 +14,7 @@ use round_program::Departures;
 /// How many replies are sent after a round: after round 1 one to each query, and else none.
 pub(crate) fn count_after(round: u64, queries: &[Vec<Item>]) -> Result<u64, NoMemory>
     ensures { IfOk result (λ n. round ≡ 1 → (ranks : ℕ) (sums : List ℕ)
-        → n ≡ length (replies_from ranks sums 0 (map (λ l. l.items) queries.now))) }
+        → n ≡ length (ig_replies_from ranks sums 0 (map (λ l. l.items) queries.now))) }
 {
     if round == 1 {
         return how_many(queries);
@@ -25,7 +25,7 @@ pub(crate) fn count_after(round: u64, queries: &[Vec<Item>]) -> Result<u64, NoMe
 /// How many queries there are.
 fn how_many(queries: &[Vec<Item>]) -> Result<u64, NoMemory>
     ensures { IfOk result (λ n. (ranks : ℕ) (sums : List ℕ)
-        → n ≡ length (replies_from ranks sums 0 (map (λ l. l.items) queries.now))) }
+        → n ≡ length (ig_replies_from ranks sums 0 (map (λ l. l.items) queries.now))) }
 {
     let mut count = 0u64;
     for list in queries {
@@ -41,8 +41,8 @@ fn how_many(queries: &[Vec<Item>]) -> Result<u64, NoMemory>
 /// Reply number `i`, with the rank that asked.
 pub(crate) fn reply_at(ranks: u32, sums: &[u64], queries: &[Vec<Item>], i: u64) -> (u32, Item)
     requires can { CanReply ranks sums.now (length queries.now) (map (λ l. l.items) queries.now) }
-    requires within { i < length (replies_from ranks sums.now 0 (map (λ l. l.items) queries.now)) }
-    ensures { slice_get (replies_from ranks sums.now 0 (map (λ l. l.items) queries.now)) i ≡ Some result }
+    requires within { i < length (ig_replies_from ranks sums.now 0 (map (λ l. l.items) queries.now)) }
+    ensures { slice_get (ig_replies_from ranks sums.now 0 (map (λ l. l.items) queries.now)) i ≡ Some result }
 {
     let mut left = i;
     for (from, list) in queries.iter().enumerate() {
@@ -61,7 +61,7 @@ fn reply_of(ranks: u32, sums: &[u64], queries: &[Item], i: usize) -> Item
     requires some { 0 < ranks }
     requires asked { All (λ x. (x.a < 2 ^ 32) × (x.a / ranks < length sums.now)) queries.now }
     requires within { i < length queries.now }
-    ensures { (to : ℕ) → slice_get (map (reply_to ranks sums.now to) queries.now) i ≡ Some (to, result) }
+    ensures { (to : ℕ) → slice_get (map (ig_reply_to ranks sums.now to) queries.now) i ≡ Some (to, result) }
 {
     let query = queries[i];
     Item {
@@ -83,9 +83,10 @@ pub(crate) fn emit_replies<D: Departures>(
     out: &mut D,
 ) -> u64
     requires can { CanReply ranks sums.now (length queries.now) (map (λ l. l.items) queries.now) }
-    requires count { count ≡ length (replies_from ranks sums.now 0 (map (λ l. l.items) queries.now)) }
-    requires may { MayHandOver (D.may out.old) (replies_from ranks sums.now 0 (map (λ l. l.items) queries.now)) from }
-    ensures { HandsUpTo D.hands (replies_from ranks sums.now 0 (map (λ l. l.items) queries.now)) from result
+    requires count { count ≡ length (ig_replies_from ranks sums.now 0 (map (λ l. l.items) queries.now)) }
+    requires may { MayHandOver (D.may out.old) (ig_replies_from ranks sums.now 0 (map (λ l. l.items) queries.now))
+        from }
+    ensures { HandsUpTo D.hands (ig_replies_from ranks sums.now 0 (map (λ l. l.items) queries.now)) from result
         out.old out.new }
 {
     if from == count {
@@ -122,7 +123,8 @@ fn emit_to<D: Departures>(
     requires may { from < length queries.now → D.may out.old to }
     ensures forward { from ≤ result }
     ensures low { result ≤ length queries.now }
-    ensures hands { HandsOver D.hands (drop from (map (reply_to ranks sums.now to) queries.now)) (result - from) out.old
+    ensures hands { HandsOver D.hands (drop from (map (ig_reply_to ranks sums.now to) queries.now)) (result - from)
+        out.old
         out.new }
     ensures may { (other : ℕ) → D.may out.old other → D.may out.new other }
 {

@@ -4,7 +4,7 @@
 ghost use Rattle.std.specs.Prelude.{◌≡◌, ◌<◌, ◌-◌, ℕ, List, Some, length, map, slice_get};
 ghost use Rattle.round_program.specs.Handing.{MayHandOver, HandsUpTo};
 ghost use Rattle.app_histo_ig.specs.Igs.{to_ask};
-ghost use Rattle.app_histo_ig.specs.code.IgSent.{number_and_column, question_of, to_add, sent_of, sent_of_own};
+ghost use Rattle.app_histo_ig.specs.code.IgSent.{number_and_column, question_of, to_add, ig_items_sent, sent_of_own};
 
 use bale_items::Item;
 use round_program::Departures;
@@ -21,7 +21,7 @@ pub(crate) struct Own {
 #[inline(always)]
 pub(crate) fn count_of(round: u64, own: &Vec<Own>, asked: u64) -> u64
     ensures { (ranks : ℕ) (replies : List (ℕ × Item)) → (round ≡ 2 → asked ≡ length replies)
-        → result ≡ length (sent_of round ranks own.now.items replies) }
+        → result ≡ length (ig_items_sent round ranks own.now.items replies) }
 {
     if round < 2 {
         return own.len() as u64;

@@ -5,7 +5,7 @@ use Rattle.std.proofs.lemmas.Bool.Decides.{nat_tests}
 use Rattle.bale_items.specs.declared.triple.Triple.{Triple}
 use Rattle.bale_items.specs.Bits.{twos_complement, from_twos_complement}
 use Rattle.mtx_text.proofs.Raised.{same_triple}
-use Rattle.app_permute.specs.Carried.{cell_item, cell_of}
+use Rattle.app_permute.specs.Carried.{cell_item, item_cell}
 
 pub word_back : (z : ℤ) → nat_abs z < 2 ^ 63 → from_twos_complement (twos_complement z) ≡ z
 word_back (pos n) h = grind (arith, nat_tests)
@@ -15,5 +15,5 @@ pub word_of : (v : ℤ) → nat_abs v ≤ 1_000_000_000_000 → twos_complement 
 word_of (pos n) h = omega arith
 word_of (negsuc n) h = omega arith
 
-pub cell_back : (t : Triple) → nat_abs t.v ≤ 1_000_000_000_000 → cell_of (cell_item t) ≡ t
-cell_back t h = same_triple (cell_of (cell_item t)) t refl refl (word_back t.v (omega arith))
+pub cell_back : (t : Triple) → nat_abs t.v ≤ 1_000_000_000_000 → item_cell (cell_item t) ≡ t
+cell_back t h = same_triple (item_cell (cell_item t)) t refl refl (word_back t.v (omega arith))

@@ -13,7 +13,7 @@ use Rattle.mtx_text.specs.Written.{text_of}
 use Rattle.mtx_text.proofs.Bands.{as_many}
 use Rattle.mtx_text.proofs.FiniteMaps.{listed, mapped}
 use Rattle.mtx_text.proofs.PlaceOrder.{not_same}
-use Rattle.app_permute.specs.Moved.{number_in, permuted, transposed, IsPermuted, IsTransposed}
+use Rattle.app_permute.specs.Reorderings.{number_among, reordering_of, transpose_of, IsPermuted, IsTransposed}
 use Rattle.app_permute.proofs.Answers.{permuted_is, transposed_is}
 use Rattle.app_permute.specs.Meanings.{PermuteMeans, TransposeMeans}
 
@@ -27,7 +27,7 @@ in_order m order =
     apart s t b same = not_same s.i s.j t.i t.j b same.row same.col
 
 -- a permutation reaches each number
-onto : (n : ℕ) (p : List ℕ) (k : ℕ) → Permutes n p → k < n → (i : ℕ) × (i < n) × (number_in p i ≡ k)
+onto : (n : ℕ) (p : List ℕ) (k : ℕ) → Permutes n p → k < n → (i : ℕ) × (i < n) × (number_among p i ≡ k)
 onto n p k h low =
     let there : get_or (range_with_len 0 n) k k ≡ k = get_or-range_with_len 0 n k k low ∙ omega arith in
     let c : Contains p k = Contains-permutation (range_with_len 0 n) p k h (k, omega (arith, length-range_with_len 0 n), there) in
@@ -44,8 +44,8 @@ onto n p k h low =
 pub record ComesFrom (p q : List ℕ) (m : Sparse) (k l : ℕ) (v : ℤ) : Type 0 where
   pub i : ℕ
   pub j : ℕ
-  pub row : number_in p i ≡ k
-  pub col : number_in q j ≡ l
+  pub row : number_among p i ≡ k
+  pub col : number_among q j ≡ l
   pub value : at m i j ≡ Some v
 
 comes_from : (m b : Sparse) (p q : List ℕ) → Permutes m.rows p → Permutes m.cols q → IsPermuted p q m b → (k l : ℕ) (v : ℤ) → at b k l ≡ Some v → ComesFrom p q m k l v
@@ -62,21 +62,21 @@ comes_from m b p q rows cols values k l v h =
       value = sym (values.values i.0 j.0 i.1 j.1) ∙ ap₂ (λ a c. at b a c) i.2 j.2 ∙ h;
     }
 
-pub permute_means : (m : Sparse) (p q : List ℕ) → IsSparse m → Permutes m.rows p → Permutes m.cols q → PermuteMeans p q m (text_of (permuted p q m))
+pub permute_means : (m : Sparse) (p q : List ℕ) → IsSparse m → Permutes m.rows p → Permutes m.cols q → PermuteMeans p q m (text_of (reordering_of p q m))
 permute_means m p q is rows cols =
-    let values : IsPermuted p q m (permuted p q m) = permuted_is m p q rows cols is in
+    let values : IsPermuted p q m (reordering_of p q m) = permuted_is m p q rows cols is in
     record {
-      matrix = permuted p q m;
+      matrix = reordering_of p q m;
       text = refl;
       rows = rows;
       cols = cols;
       values = values;
     }
 
-pub transpose_means : (m : Sparse) → IsSparse m → TransposeMeans m (text_of (transposed m))
+pub transpose_means : (m : Sparse) → IsSparse m → TransposeMeans m (text_of (transpose_of m))
 transpose_means m is =
-    let values : IsTransposed m (transposed m) = transposed_is m is in
-    record { matrix = transposed m; text = refl; values = values }
+    let values : IsTransposed m (transpose_of m) = transposed_is m is in
+    record { matrix = transpose_of m; text = refl; values = values }
 
 -- the matrix that permute's answer means has nothing but the values of A, each at its new place
 pub nothing_else : (p q : List ℕ) (m : Sparse) (bytes : List ℕ) (means : PermuteMeans p q m bytes) → (k l : ℕ) (v : ℤ) → at means.matrix k l ≡ Some v → ComesFrom p q m k l v

@@ -6,12 +6,12 @@ use Rattle.std.proofs.lemmas.Bool.{eq-eqb, ne_eqb}
 use Rattle.bale_items.specs.declared.Item.{Item}
 use Rattle.bale_items.specs.declared.triple.Triple.{Triple}
 use Rattle.bale_items.specs.Bits.{from_twos_complement}
-use Rattle.mtx_text.specs.Cells.{InOrder, raised}
+use Rattle.mtx_text.specs.Cells.{InOrder, with_value_raised}
 use Rattle.mtx_text.proofs.Gathered.{raised_keeps}
 use Rattle.round_program.specs.Batches.{taken_in, all_taken_in}
 use Rattle.app_permute.specs.declared.carried.RowOwner.{RowOwner}
-use Rattle.app_permute.specs.Carried.{cell_of, may_cell}
-use Rattle.app_permute.specs.Permutes.{PermuteState, IsPermuting, IsKept, permute_rules}
+use Rattle.app_permute.specs.Carried.{item_cell, may_cell}
+use Rattle.app_permute.specs.Permutes.{PermuteState, IsPermuting, IsKeptCell, permute_rules}
 use Rattle.app_permute.specs.laws.PermuteLaws.{may_by, kept_by, greater_kept}
 use Rattle.app_permute.specs.code.Batches.{own_raised, all_raised, turned_over}
 
@@ -42,20 +42,20 @@ inside s false x y = refl
 -- what a rank takes in, once it is known whether the round is that of the columns
 abbrev taken_by : PermuteState → Bool → ℕ → Item → PermuteState
 taken_by s b from x =
-    cond (may_by b s.rows s.cols s.ranks s.rank from x) (record s { cells = raised (cond b (record { i = x.b; j = x.a; v = from_twos_complement x.c }) (cell_of x)) s.cells }) s
+    cond (may_by b s.rows s.cols s.ranks s.rank from x) (record s { cells = with_value_raised (cond b (record { i = x.b; j = x.a; v = from_twos_complement x.c }) (item_cell x)) s.cells }) s
 
 one_column : (s : PermuteState) (cells : List Triple) (from : ℕ) (x : Item) → s.round ≡ 1
     → taken_in permute_rules (record s { cells = cells }) from x ≡ record s { cells = own_raised (column_owner_of s) cells from (turned_over (from, x)).1 }
 one_column s cells from x z =
     ap (λ b. taken_by (record s { cells = cells }) b from x) (eq-eqb s.round 1 z)
-    ∙ inside s (may_by true s.rows s.cols s.ranks s.rank from x) (raised (cell_of (turned_over (from, x)).1) cells) cells
-    ∙ ap (λ m. record s { cells = cond m (raised (cell_of (turned_over (from, x)).1) cells) cells }) (may_turned s.rows s.cols s.ranks s.rank from x)
+    ∙ inside s (may_by true s.rows s.cols s.ranks s.rank from x) (with_value_raised (item_cell (turned_over (from, x)).1) cells) cells
+    ∙ ap (λ m. record s { cells = cond m (with_value_raised (item_cell (turned_over (from, x)).1) cells) cells }) (may_turned s.rows s.cols s.ranks s.rank from x)
 
 one_row : (s : PermuteState) (cells : List Triple) (from : ℕ) (x : Item) → s.round ≢ 1
     → taken_in permute_rules (record s { cells = cells }) from x ≡ record s { cells = own_raised (row_owner_of s) cells from x }
 one_row s cells from x n =
     ap (λ b. taken_by (record s { cells = cells }) b from x) (ne_eqb s.round 1 n)
-    ∙ inside s (may_cell s.rows s.cols s.ranks s.rank from x) (raised (cell_of x) cells) cells
+    ∙ inside s (may_cell s.rows s.cols s.ranks s.rank from x) (with_value_raised (item_cell x) cells) cells
 
 pub columns_taken : (s : PermuteState) (cells : List Triple) (came : List (ℕ × Item)) → s.round ≡ 1
     → all_taken_in permute_rules (record s { cells = cells }) came ≡ record s { cells = all_raised (column_owner_of s) cells (map turned_over came) }
@@ -71,15 +71,15 @@ rows_taken s cells (e ∷ es) n =
 
 -- an own cell more leaves all the owner's
 pub own_kept : (b : Bool) (owner : RowOwner) (from : ℕ) (x : Item) (cells : List Triple) → may_cell owner.rows owner.cols owner.ranks owner.rank from x ≡ true
-    → All (IsKept owner.rows owner.cols owner.ranks owner.rank) cells → All (IsKept owner.rows owner.cols owner.ranks owner.rank) (cond b (raised (cell_of x) cells) cells)
+    → All (IsKeptCell owner.rows owner.cols owner.ranks owner.rank) cells → All (IsKeptCell owner.rows owner.cols owner.ranks owner.rank) (cond b (with_value_raised (item_cell x) cells) cells)
 own_kept true owner from x cells may all =
-    raised_keeps (IsKept owner.rows owner.cols owner.ranks owner.rank) (greater_kept owner.rows owner.cols owner.ranks owner.rank) (cell_of x) cells
+    raised_keeps (IsKeptCell owner.rows owner.cols owner.ranks owner.rank) (greater_kept owner.rows owner.cols owner.ranks owner.rank) (item_cell x) cells
     (kept_by false owner.rows owner.cols owner.ranks owner.rank from x may) all
 own_kept false owner from x cells may all = all
 
 -- the state that a batch leaves, or a part of one
 pub batch_valid : (s : PermuteState) (b : Bool) (cells : List Triple) → IsPermuting s → (s.round == 1) ≡ b
-    → (All (IsKept (cond b s.cols s.rows) (cond b s.rows s.cols) s.ranks s.rank) s.cells → All (IsKept (cond b s.cols s.rows) (cond b s.rows s.cols) s.ranks s.rank) cells)
+    → (All (IsKeptCell (cond b s.cols s.rows) (cond b s.rows s.cols) s.ranks s.rank) s.cells → All (IsKeptCell (cond b s.cols s.rows) (cond b s.rows s.cols) s.ranks s.rank) cells)
     → InOrder cells → IsPermuting (record s { cells = cells })
 batch_valid s b cells v e own order =
     record {
@@ -88,8 +88,8 @@ batch_valid s b cells v e own order =
       wide = v.wide;
       row_numbers = v.row_numbers;
       col_numbers = v.col_numbers;
-      kept = subst (λ c. All (IsKept (cond c s.cols s.rows) (cond c s.rows s.cols) s.ranks s.rank) cells) (sym e)
-          (own (subst (λ c. All (IsKept (cond c s.cols s.rows) (cond c s.rows s.cols) s.ranks s.rank) s.cells) e v.kept));
+      kept = subst (λ c. All (IsKeptCell (cond c s.cols s.rows) (cond c s.rows s.cols) s.ranks s.rank) cells) (sym e)
+          (own (subst (λ c. All (IsKeptCell (cond c s.cols s.rows) (cond c s.rows s.cols) s.ranks s.rank) s.cells) e v.kept));
       ordered = order;
       fit = v.fit;
     }

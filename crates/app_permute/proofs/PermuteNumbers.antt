@@ -12,7 +12,7 @@ use Rattle.mtx_text.proofs.Bands.{as_many, all_below}
 use Rattle.sparse_rows.specs.Deals.{dealt}
 use Rattle.sparse_rows.proofs.Starts.{all_numbered}
 use Rattle.sparse_rows.proofs.Turns.{turn_place, turn_read, turn_count}
-use Rattle.app_permute.specs.Moved.{number_in}
+use Rattle.app_permute.specs.Reorderings.{number_among}
 use Rattle.app_permute.specs.Permutes.{HasNumbers, new_number}
 use Rattle.app_permute.specs.PermuteRuns.{own_numbers}
 
@@ -35,9 +35,9 @@ own_place ranks x p some low =
     subst (λ n. x / ranks < n) (sym (length-map (placed ranks (x % ranks) p) (λ e. e.1))) (turn_place ranks x p some low)
 
 -- the owner of x knows the new number of x
-pub number_is : (ranks x : ℕ) (p : List ℕ) → 0 < ranks → x < length p → new_number ranks (own_numbers ranks (x % ranks) p) x ≡ number_in p x
+pub number_is : (ranks x : ℕ) (p : List ℕ) → 0 < ranks → x < length p → new_number ranks (own_numbers ranks (x % ranks) p) x ≡ number_among p x
 number_is ranks x p some low =
-    (own_read ranks (x % ranks) (x / ranks) 0 p (mod-lt x some) (own_place ranks x p some low)).1 ∙ ap (number_in p) (div-add-mod' x ranks)
+    (own_read ranks (x % ranks) (x / ranks) 0 p (mod-lt x some) (own_place ranks x p some low)).1 ∙ ap (number_among p) (div-add-mod' x ranks)
 
 pub has_numbers : (ranks r n : ℕ) (p : List ℕ) → r < ranks → Permutes n p → HasNumbers ranks r n (own_numbers ranks r p)
 has_numbers ranks r n p own h =
@@ -54,8 +54,8 @@ own_count ranks r p own =
 
 -- and one more of them
 pub own_more : (ranks r k : ℕ) (p old all : List ℕ) → r < ranks → k < length (own_numbers ranks r p) → old ≡ take k (own_numbers ranks r p)
-    → all ≡ old ++ number_in p (k * ranks + r) ∷ [] → all ≡ take (k + 1) (own_numbers ranks r p)
+    → all ≡ old ++ number_among p (k * ranks + r) ∷ [] → all ≡ take (k + 1) (own_numbers ranks r p)
 own_more ranks r k p old all own low so_far one =
-    one ∙ ap (λ ns. ns ++ number_in p (k * ranks + r) ∷ []) so_far
+    one ∙ ap (λ ns. ns ++ number_among p (k * ranks + r) ∷ []) so_far
     ∙ ap (λ n. take k (own_numbers ranks r p) ++ n ∷ []) (sym (own_read ranks r k 0 p own low).1)
     ∙ sym (take_more (own_numbers ranks r p) k 0 low)

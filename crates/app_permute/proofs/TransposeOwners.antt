@@ -11,7 +11,7 @@ use Rattle.bale_items.specs.declared.triple.Triple.{Triple}
 use Rattle.bale_items.specs.Bits.{twos_complement}
 use Rattle.list_laws.proofs.Lists.{get_once}
 use Rattle.mtx_text.specs.Sparse.{Sparse, IsSparse, IsEntry}
-use Rattle.mtx_text.specs.Cells.{is_before, InOrder, raised, raised_all, gathered}
+use Rattle.mtx_text.specs.Cells.{is_before, InOrder, with_value_raised, raised_all, gathered_cells}
 use Rattle.mtx_text.proofs.PlaceOrder.{pairs_none}
 use Rattle.mtx_text.proofs.Gathered.{gathered_ordered}
 use Rattle.mtx_text.proofs.Raised.{raised_ordered}
@@ -19,12 +19,12 @@ use Rattle.round_program.specs.Canonical.{absorbed_round, states_at, HasRounds, 
 use Rattle.round_program.specs.Orders.{absorb_each}
 use Rattle.round_program.proofs.Members.{rounds_once}
 use Rattle.sparse_rows.specs.Deals.{dealt}
-use Rattle.sparse_rows.specs.Owners.{Numbered, numbered, entry_owner, column_owner, own_entries}
+use Rattle.sparse_rows.specs.Owners.{Numbered, with_numbers, entry_owner, column_owner, own_entries}
 use Rattle.sparse_rows.proofs.EveryEntry.{came_to, every_owned}
 use Rattle.sparse_rows.proofs.Gathering.{row_of, landed, gathered_dealt, parts_gathered}
 use Rattle.sparse_rows.proofs.Starts.{made_at, made_from, made_in_round, all_numbered, numbered_map, all_owned, round_made}
-use Rattle.app_permute.specs.Carried.{cell_item, cell_of}
-use Rattle.app_permute.specs.Moved.{turned}
+use Rattle.app_permute.specs.Carried.{cell_item, item_cell}
+use Rattle.app_permute.specs.Reorderings.{over_diagonal}
 use Rattle.app_permute.specs.Transposes.{TransposeState, IsTransposing, transpose_rules, may_transpose}
 use Rattle.app_permute.specs.laws.TransposeLaws.{transpose_laws}
 use Rattle.app_permute.specs.TransposeRuns.{transpose_begins, transpose_starts, TransposeEnded}
@@ -34,23 +34,23 @@ use Rattle.app_permute.proofs.Answers.{turned_differ}
 -- ---- The start
 
 fits_here : (rows cols ranks r : ℕ) (t : Triple) → r < ranks → rows ≤ 16384 → cols ≤ 16384 → t.i < rows → t.j < cols → twos_complement t.v < 2 ^ 64
-    → may_transpose (cols ∷ rows ∷ []) ranks 0 (t.j % ranks) r (cell_item (turned t)) ≡ true
+    → may_transpose (cols ∷ rows ∷ []) ranks 0 (t.j % ranks) r (cell_item (over_diagonal t)) ≡ true
 fits_here rows cols ranks r t low tall wide row col word = grind (arith, nat_tests)
 
 pub begins_valid : (ranks : ℕ) (m : Sparse) (r : ℕ) → r < ranks → IsSparse m → IsTransposing (transpose_begins ranks m r)
 begins_valid ranks m r low is =
     let tall : m.rows ≤ 16384 = is.tall in
     let wide : m.cols ≤ 16384 = is.wide in
-    let Fits : Numbered → Type 0 = λ e. may_transpose (m.cols ∷ m.rows ∷ []) ranks 0 (column_owner ranks e) r (cell_item (turned e.1)) ≡ true in
+    let Fits : Numbered → Type 0 = λ e. may_transpose (m.cols ∷ m.rows ∷ []) ranks 0 (column_owner ranks e) r (cell_item (over_diagonal e.1)) ≡ true in
     record {
       own = low;
       tall = omega arith;
       wide = omega arith;
       ordered = pairs_none (λ s t. is_before s t ≡ true);
       fit =
-          All-map (λ e. may_transpose (m.cols ∷ m.rows ∷ []) ranks 0 e.0 r e.1 ≡ true) (λ (e : Numbered). (column_owner ranks e, cell_item (turned e.1))) (own_entries ranks r m.entries)
-          (All-filter (λ (e : Numbered). e.0 % ranks == r) Fits (numbered m.entries)
-          (all_numbered (λ (t : Triple). may_transpose (m.cols ∷ m.rows ∷ []) ranks 0 (t.j % ranks) r (cell_item (turned t)) ≡ true) 0 m.entries
+          All-map (λ e. may_transpose (m.cols ∷ m.rows ∷ []) ranks 0 e.0 r e.1 ≡ true) (λ (e : Numbered). (column_owner ranks e, cell_item (over_diagonal e.1))) (own_entries ranks r m.entries)
+          (All-filter (λ (e : Numbered). e.0 % ranks == r) Fits (with_numbers m.entries)
+          (all_numbered (λ (t : Triple). may_transpose (m.cols ∷ m.rows ∷ []) ranks 0 (t.j % ranks) r (cell_item (over_diagonal t)) ≡ true) 0 m.entries
           (λ k d l. let e : IsEntry m (get_or m.entries k d) = is.inside k d l in fits_here m.rows m.cols ranks r (get_or m.entries k d) low is.tall is.wide e.row e.col (word_of (get_or m.entries k d).v e.limit))));
     }
 
@@ -74,15 +74,15 @@ pub within_one : (starts : List TransposeState) → EndsWithin transpose_rules s
 within_one starts = record { rounds = 1; has_rounds = one_round starts; at_most = omega arith }
 
 -- a rank in its round, after a cell that was raised or found no memory
-pub raise_valid : (s : TransposeState) (b : Bool) (x : Item) (cells : List Triple) → IsTransposing s → cells ≡ cond b (raised (cell_of x) s.cells) s.cells → IsTransposing (record s { cells = cells })
-raise_valid s true x cells v h = record { own = v.own; tall = v.tall; wide = v.wide; ordered = subst InOrder (sym h) (raised_ordered (cell_of x) s.cells v.ordered); fit = v.fit }
+pub raise_valid : (s : TransposeState) (b : Bool) (x : Item) (cells : List Triple) → IsTransposing s → cells ≡ cond b (with_value_raised (item_cell x) s.cells) s.cells → IsTransposing (record s { cells = cells })
+raise_valid s true x cells v h = record { own = v.own; tall = v.tall; wide = v.wide; ordered = subst InOrder (sym h) (raised_ordered (item_cell x) s.cells v.ordered); fit = v.fit }
 raise_valid s false x cells v h = record { own = v.own; tall = v.tall; wide = v.wide; ordered = subst InOrder (sym h) v.ordered; fit = v.fit }
 
 -- ---- The end
 
 -- the transposed matrix's entries
 abbrev pub turned_cells : Sparse → List Triple
-turned_cells m = gathered (map turned m.entries)
+turned_cells m = gathered_cells (map over_diagonal m.entries)
 
 -- a rank after the round
 abbrev pub over : ℕ → Sparse → ℕ → TransposeState
@@ -90,25 +90,25 @@ over ranks m r = record (transpose_begins ranks m r) { round = 1; outgoing = [];
 
 -- what came to a rank
 abbrev came : ℕ → Sparse → ℕ → List (ℕ × Item)
-came ranks m r = came_to (entry_owner ranks) (column_owner ranks) (λ e. cell_item (turned e.1)) r (numbered m.entries)
+came ranks m r = came_to (entry_owner ranks) (column_owner ranks) (λ e. cell_item (over_diagonal e.1)) r (with_numbers m.entries)
 
-each_raised : (s : TransposeState) (es : List (ℕ × Item)) → absorb_each transpose_rules s es ≡ record s { cells = raised_all s.cells (map (λ e. cell_of e.1) es) }
+each_raised : (s : TransposeState) (es : List (ℕ × Item)) → absorb_each transpose_rules s es ≡ record s { cells = raised_all s.cells (map (λ e. item_cell e.1) es) }
 each_raised s [] = refl
-each_raised s (e ∷ es) = each_raised (record s { cells = raised (cell_of e.1) s.cells }) es
+each_raised s (e ∷ es) = each_raised (record s { cells = with_value_raised (item_cell e.1) s.cells }) es
 
-came_cells : (ranks : ℕ) (m : Sparse) (r : ℕ) → IsSparse m → gathered (map (λ e. cell_of e.1) (came ranks m r)) ≡ dealt (row_of ranks) r (turned_cells m)
+came_cells : (ranks : ℕ) (m : Sparse) (r : ℕ) → IsSparse m → gathered_cells (map (λ e. item_cell e.1) (came ranks m r)) ≡ dealt (row_of ranks) r (turned_cells m)
 came_cells ranks m r is =
-    ap gathered
-    (landed (entry_owner ranks) (λ e. cell_item (turned e.1)) (λ (e : Numbered). turned e.1) cell_of ranks r (numbered m.entries)
-    (all_numbered (λ (t : Triple). cell_of (cell_item (turned t)) ≡ turned t) 0 m.entries (λ k d l. cell_back (turned (get_or m.entries k d)) (is.inside k d l).limit))
-    ∙ ap (dealt (row_of ranks) r) (numbered_map turned 0 m.entries))
-    ∙ gathered_dealt ranks r (map turned m.entries) (turned_differ m is)
+    ap gathered_cells
+    (landed (entry_owner ranks) (λ e. cell_item (over_diagonal e.1)) (λ (e : Numbered). over_diagonal e.1) item_cell ranks r (with_numbers m.entries)
+    (all_numbered (λ (t : Triple). item_cell (cell_item (over_diagonal t)) ≡ over_diagonal t) 0 m.entries (λ k d l. cell_back (over_diagonal (get_or m.entries k d)) (is.inside k d l).limit))
+    ∙ ap (dealt (row_of ranks) r) (numbered_map over_diagonal 0 m.entries))
+    ∙ gathered_dealt ranks r (map over_diagonal m.entries) (turned_differ m is)
 
 the_round : (ranks : ℕ) (m : Sparse) → 0 < ranks → IsSparse m → states_at transpose_rules (transpose_starts ranks m) 1 ≡ map (over ranks m) (range_with_len 0 ranks)
 the_round ranks m some is =
     round_made transpose_rules ranks (transpose_begins ranks m) (over ranks m) (λ r votes low t at.
     let absorbed : slice_get (absorbed_round transpose_rules (transpose_starts ranks m)) r ≡ Some (absorb_each transpose_rules (transpose_begins ranks m r) (came ranks m r)) =
-    every_owned transpose_rules transpose_laws ranks 0 (m.cols ∷ m.rows ∷ []) 1 (transpose_starts ranks m) (entry_owner ranks) (column_owner ranks) (λ e. cell_item (turned e.1)) (numbered m.entries)
+    every_owned transpose_rules transpose_laws ranks 0 (m.cols ∷ m.rows ∷ []) 1 (transpose_starts ranks m) (entry_owner ranks) (column_owner ranks) (λ e. cell_item (over_diagonal e.1)) (with_numbers m.entries)
     (starts_in_round ranks m is) (all_owned ranks 0 m.entries some)
     (λ f s here. ap transpose_rules.emissions (sym (made_from (transpose_begins ranks m) ranks f s here).1))
     r (transpose_begins ranks m r) (made_at (transpose_begins ranks m) ranks r low) in
@@ -141,7 +141,7 @@ rank_cells m ps h r s low at =
 
 -- and all ranks together have the whole matrix
 pub whole : (m : Sparse) (ps : List TransposeState) (h : TransposeEnded m ps) (all : List Triple) (n : ℕ) → n ≡ length ps
-    → all ≡ gathered (flat_map (λ r. dealt (row_of (length ps)) r (turned_cells m)) (range_with_len 0 n)) → all ≡ turned_cells m
+    → all ≡ gathered_cells (flat_map (λ r. dealt (row_of (length ps)) r (turned_cells m)) (range_with_len 0 n)) → all ≡ turned_cells m
 whole m ps h all n is so_far =
-    so_far ∙ ap (λ k. gathered (flat_map (λ r. dealt (row_of (length ps)) r (turned_cells m)) (range_with_len 0 k))) is
-    ∙ parts_gathered (length ps) (turned_cells m) (gathered_ordered (map turned m.entries)) (λ k d l. mod-lt _ (subst (λ k. 0 < k) (sym (programs_len m ps h)) h.some))
+    so_far ∙ ap (λ k. gathered_cells (flat_map (λ r. dealt (row_of (length ps)) r (turned_cells m)) (range_with_len 0 k))) is
+    ∙ parts_gathered (length ps) (turned_cells m) (gathered_ordered (map over_diagonal m.entries)) (λ k d l. mod-lt _ (subst (λ k. 0 < k) (sym (programs_len m ps h)) h.some))

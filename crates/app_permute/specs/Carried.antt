@@ -11,8 +11,8 @@ abbrev pub cell_item : Triple → Item
 cell_item t = record { a = t.i; b = t.j; c = twos_complement t.v }
 
 -- The cell that an item stands for.
-abbrev pub cell_of : Item → Triple
-cell_of x = record { i = x.a; j = x.b; v = from_twos_complement x.c }
+abbrev pub item_cell : Item → Triple
+item_cell x = record { i = x.a; j = x.b; v = from_twos_complement x.c }
 
 -- The owner of a row may be sent cells of it.
 abbrev pub may_cell : ℕ → ℕ → ℕ → ℕ → ℕ → Item → Bool

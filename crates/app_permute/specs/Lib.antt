@@ -1,6 +1,6 @@
 pub mod Carried
 pub mod Meanings
-pub mod Moved
+pub mod Reorderings
 pub mod Perms
 pub mod PermuteRuns
 pub mod Permutes

@@ -3,7 +3,7 @@ use Rattle.std.specs.Prelude.{◌≡◌, ℕ, List}
 use Rattle.mtx_text.specs.Sparse.{Sparse}
 use Rattle.mtx_text.specs.Permutations.{Permutes}
 use Rattle.mtx_text.specs.Written.{text_of}
-use Rattle.app_permute.specs.Moved.{IsPermuted, IsTransposed}
+use Rattle.app_permute.specs.Reorderings.{IsPermuted, IsTransposed}
 
 -- The bytes are the text of a matrix B with B(p(i), q(j)) = A(i,j) and nothing else, where p and q
 -- are permutations of the rows and the columns. Its entries, by row and then column, are a finite

@@ -1,6 +1,6 @@
 -- Two permutations drawn from a seed, of the rows and then of the columns.
 use Rattle.std.specs.Prelude.{ℕ, List}
-use Rattle.mtx_text.specs.Seeds.{begun, drawn}
+use Rattle.mtx_text.specs.Seeds.{seeded, permutation_of}
 
 -- The new numbers of rows and columns: the element at x is the new number of row or column x.
 pub record TwoLists : Type 0 where
@@ -12,6 +12,6 @@ pub record TwoLists : Type 0 where
 -- for seed 42 and three rows and columns: 2, 1, 0 and 0, 1, 2
 abbrev pub perms_of : ℕ → ℕ → ℕ → TwoLists
 perms_of rows cols seed = record {
-  rows = (drawn rows (begun seed)).0;
-  cols = (drawn cols (drawn rows (begun seed)).1).0;
+  rows = (permutation_of rows (seeded seed)).0;
+  cols = (permutation_of cols (permutation_of rows (seeded seed)).1).0;
 }

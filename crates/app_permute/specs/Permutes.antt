@@ -8,10 +8,10 @@ use Rattle.std.specs.List.{All}
 use Rattle.bale_items.specs.declared.Item.{Item}
 use Rattle.bale_items.specs.declared.triple.Triple.{Triple}
 use Rattle.bale_items.specs.Bits.{twos_complement, from_twos_complement}
-use Rattle.mtx_text.specs.Cells.{InOrder, raised}
+use Rattle.mtx_text.specs.Cells.{InOrder, with_value_raised}
 use Rattle.round_program.specs.Rules.{Rules}
 use Rattle.round_program.specs.Laws.{is_item}
-use Rattle.app_permute.specs.Carried.{cell_of}
+use Rattle.app_permute.specs.Carried.{item_cell}
 
 -- one rank's part
 pub record PermuteState : Type 0 where
@@ -45,7 +45,7 @@ to_row ranks news t = (t.j % ranks, record { a = t.j; b = new_number ranks news 
 
 -- the cell of an item as it is kept in a round: by column first in round 1, and else by row
 abbrev pub kept_as : ℕ → Item → Triple
-kept_as round x = if round == 1 then record { i = x.b; j = x.a; v = from_twos_complement x.c } else cell_of x
+kept_as round x = if round == 1 then record { i = x.b; j = x.a; v = from_twos_complement x.c } else item_cell x
 
 -- the owner of a column may be sent cells of it in round 1, and the owner of a row in the other
 -- rounds
@@ -56,7 +56,7 @@ may_permute (rows ∷ (cols ∷ [])) ranks round to from x =
 may_permute shape ranks round to from x = false
 
 -- a cell that a rank keeps lies inside and is its own, and its value is one of 64 bits
-pub record IsKept (height width ranks rank : ℕ) (t : Triple) : Type 0 where
+pub record IsKeptCell (height width ranks rank : ℕ) (t : Triple) : Type 0 where
   pub row : t.i < height
   pub col : t.j < width
   pub own : t.i % ranks ≡ rank
@@ -74,15 +74,15 @@ pub record IsPermuting (s : PermuteState) : Type 0 where
   pub row_numbers : HasNumbers s.ranks s.rank s.rows s.new_rows
   pub col_numbers : HasNumbers s.ranks s.rank s.cols s.new_cols
   pub kept : All
-      (IsKept (if s.round == 1 then s.cols else s.rows) (if s.round == 1 then s.rows else s.cols) s.ranks s.rank)
+      (IsKeptCell (if s.round == 1 then s.cols else s.rows) (if s.round == 1 then s.rows else s.cols) s.ranks s.rank)
       s.cells
   pub ordered : InOrder s.cells
   pub fit : All (λ e. may_permute (s.rows ∷ s.cols ∷ []) s.ranks s.round e.0 s.rank e.1 ≡ true) s.outgoing
 
 -- what is sent after this round: to columns after round 0, to new rows after round 1, and then
 -- nothing
-abbrev pub next_outgoing : PermuteState → List (ℕ × Item)
-next_outgoing s =
+abbrev pub permute_next_outgoing : PermuteState → List (ℕ × Item)
+permute_next_outgoing s =
     if s.round == 0 then map (to_column s.ranks s.new_rows) s.cells
     else if s.round == 1 then map (to_row s.ranks s.new_cols) s.cells else []
 
@@ -97,12 +97,12 @@ permute_rules =
       most = λ s. 3;
       emissions = λ s. s.outgoing;
       may_be_sent = may_permute;
-      absorbed = λ s from x. record s { cells = raised (kept_as s.round x) s.cells };
+      absorbed = λ s from x. record s { cells = with_value_raised (kept_as s.round x) s.cells };
       vote = λ s. 0;
       goes_on = λ shape round votes. nat_lt round 2;
       ended = λ s votes. record s {
         round = min (s.round + 1) (2 ^ 64 - 1);
-        outgoing = next_outgoing s;
+        outgoing = permute_next_outgoing s;
         cells = (if nat_lt s.round 2 then [] else s.cells);
       };
     }

@@ -5,7 +5,7 @@ use Rattle.mtx_text.specs.Sparse.{Sparse, IsSparse}
 use Rattle.round_program.specs.Canonical.{HaveEnded}
 use Rattle.sparse_rows.specs.Owners.{own_entries, column_owner}
 use Rattle.app_permute.specs.Carried.{cell_item}
-use Rattle.app_permute.specs.Moved.{turned}
+use Rattle.app_permute.specs.Reorderings.{over_diagonal}
 use Rattle.app_permute.specs.Transposes.{TransposeState, transpose_rules}
 
 -- A rank as transpose begins: its entries, turned, on their way to the owners of their columns.
@@ -17,7 +17,7 @@ transpose_begins ranks m rank =
       round = 0;
       rows = m.cols;
       cols = m.rows;
-      outgoing = map (λ e. (column_owner ranks e, cell_item (turned e.1))) (own_entries ranks rank m.entries);
+      outgoing = map (λ e. (column_owner ranks e, cell_item (over_diagonal e.1))) (own_entries ranks rank m.entries);
       cells = [];
     }
 

@@ -10,8 +10,9 @@ use Rattle.app_permute.specs.TransposeRuns.{transpose_starts}
 use Rattle.sparse_rows.specs.Emits.{item, Emit}
 
 -- Each own entry, turned, to the owner of its column, which is its new row.
--- for each own entry (i,j,v) in order: to j mod ranks, (j, i, bits of v) of (0,2,-7), (1,0,4) on 2
--- ranks: rank 0 emits (2, 0, 2^64 - 7) to rank 0, rank 1 emits (0,1,4) to rank 0
+-- for each own entry (i,j,v) in order: to j mod ranks, (j, i, bits of v)
+-- of (0,2,-7), (1,0,4) on 2 ranks: rank 0 emits (2, 0, 2^64 - 7) to rank 0, rank 1 emits (0,1,4) to
+-- rank 0
 abbrev pub turned_entries : ℕ → Sparse → ℕ → List (ℕ × Item)
 turned_entries ranks m r =
     map (λ e. (e.1.j % ranks, item e.1.j e.1.i (twos_complement e.1.v))) (own_entries ranks r m.entries)

@@ -3,9 +3,9 @@ use Rattle.std.specs.Prelude.{ℕ, ◌+◌, ◌-◌, ◌^◌, ◌<◌, ◌≡◌
 use Rattle.std.specs.List.{All}
 use Rattle.bale_items.specs.declared.Item.{Item}
 use Rattle.bale_items.specs.declared.triple.Triple.{Triple}
-use Rattle.mtx_text.specs.Cells.{InOrder, raised}
+use Rattle.mtx_text.specs.Cells.{InOrder, with_value_raised}
 use Rattle.round_program.specs.Rules.{Rules}
-use Rattle.app_permute.specs.Carried.{cell_of, may_cell}
+use Rattle.app_permute.specs.Carried.{item_cell, may_cell}
 
 -- one rank's part
 pub record TransposeState : Type 0 where
@@ -44,7 +44,7 @@ transpose_rules =
       most = λ s. 1;
       emissions = λ s. s.outgoing;
       may_be_sent = may_transpose;
-      absorbed = λ s from x. record s { cells = raised (cell_of x) s.cells };
+      absorbed = λ s from x. record s { cells = with_value_raised (item_cell x) s.cells };
       vote = λ s. 0;
       goes_on = λ shape round votes. false;
       ended = λ s votes. record s { round = min (s.round + 1) (2 ^ 64 - 1); outgoing = [] };

@@ -2,9 +2,9 @@
 
 ghost use Rattle.std.specs.Prelude.{◌≡◌, ◌<◌, ◌^◌, OnOk, is_ok, if◌then◌else◌};
 ghost use Rattle.std.specs.List.{All};
-ghost use Rattle.mtx_text.specs.Cells.{InOrder, raised};
-ghost use Rattle.app_permute.specs.Carried.{cell_item, cell_of, may_cell};
-ghost use Rattle.app_permute.specs.Permutes.{IsKept, kept_as};
+ghost use Rattle.mtx_text.specs.Cells.{InOrder, with_value_raised};
+ghost use Rattle.app_permute.specs.Carried.{cell_item, item_cell, may_cell};
+ghost use Rattle.app_permute.specs.Permutes.{IsKeptCell, kept_as};
 ghost use Rattle.app_permute.specs.code.Batches.{own_raised, all_raised};
 
 use bale_items::{Item, NoMemory, Triple, bits_of, value_of};
@@ -47,7 +47,7 @@ pub(crate) fn cell_fits(rows: u32, cols: u32, ranks: u32, to: u32, from: u32, it
 pub(crate) fn raise_cell(cells: &mut Cells, item: Item) -> Result<(), NoMemory>
     requires row { item.a < 2 ^ 32 }
     requires column { item.b < 2 ^ 32 }
-    ensures { cells.new ≡ (if is_ok result then raised (cell_of item) cells.old else cells.old) }
+    ensures { cells.new ≡ (if is_ok result then with_value_raised (item_cell item) cells.old else cells.old) }
 {
     cells.raise(item.a as u32, item.b as u32, value_of(item.c))
 }
@@ -57,7 +57,7 @@ pub(crate) fn raise_cell(cells: &mut Cells, item: Item) -> Result<(), NoMemory>
 pub(crate) fn raise_kept(cells: &mut Cells, round: u64, item: Item) -> Result<(), NoMemory>
     requires row { item.a < 2 ^ 32 }
     requires column { item.b < 2 ^ 32 }
-    ensures { cells.new ≡ (if is_ok result then raised (kept_as round item) cells.old else cells.old) }
+    ensures { cells.new ≡ (if is_ok result then with_value_raised (kept_as round item) cells.old else cells.old) }
 {
     if round == 1 {
         return cells.raise(item.b as u32, item.a as u32, value_of(item.c));
@@ -99,8 +99,8 @@ pub(crate) fn raise_each<I: Arrivals>(
     requires ordered { InOrder cells.old }
     ensures ok { OnOk result (cells.new ≡ all_raised owner cells.old (I.items came)) }
     ensures ordered { InOrder cells.new }
-    ensures own { All (IsKept owner.rows owner.cols owner.ranks owner.rank) cells.old
-        → All (IsKept owner.rows owner.cols owner.ranks owner.rank) cells.new }
+    ensures own { All (IsKeptCell owner.rows owner.cols owner.ranks owner.rank) cells.old
+        → All (IsKeptCell owner.rows owner.cols owner.ranks owner.rank) cells.new }
 {
     let mut came = came;
     while let Some((from, item)) = came.next() {
@@ -115,8 +115,8 @@ fn raise_own(cells: &mut Cells, owner: RowOwner, from: u32, item: Item) -> Resul
     requires ordered { InOrder cells.old }
     ensures ok { OnOk result (cells.new ≡ own_raised owner cells.old from item) }
     ensures ordered { InOrder cells.new }
-    ensures own { All (IsKept owner.rows owner.cols owner.ranks owner.rank) cells.old
-        → All (IsKept owner.rows owner.cols owner.ranks owner.rank) cells.new }
+    ensures own { All (IsKeptCell owner.rows owner.cols owner.ranks owner.rank) cells.old
+        → All (IsKeptCell owner.rows owner.cols owner.ranks owner.rank) cells.new }
 {
     if cell_fits(owner.rows, owner.cols, owner.ranks, owner.rank, from, item) {
         return raise_cell(cells, item);

@@ -12,8 +12,8 @@
 //! | [`Perms::rows`], [`Perms::cols`] | the new numbers | the element at `x` is the new number of `x` |
 //!
 //! The entries are dealt out in turn; row `i` and column `j` belong to ranks `i mod P` and `j mod
-//! P`. What the new matrices are is said of the matrix alone (`specs/Moved`): no rank, no round and
-//! no order of items occurs there.
+//! P`. What the new matrices are is said of the matrix alone (`specs/Reorderings`): no rank, no
+//! round and no order of items occurs there.
 //!
 //! | Law | Round | A rank emits, in order |
 //! |---|---|---|

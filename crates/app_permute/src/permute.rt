@@ -3,7 +3,7 @@
 
 ghost use Rattle.std.specs.Prelude.{◌≡◌, []};
 ghost use Rattle.app_permute.specs.Permutes.{IsPermuting};
-ghost use Rattle.app_permute.specs.code.Sent.{sent_of};
+ghost use Rattle.app_permute.specs.code.Sent.{permute_sent};
 
 use crate::carried::{RowOwner, Turned, raise_each, raise_kept};
 use crate::permute_lists::{renumber, take_cells};
@@ -75,7 +75,7 @@ impl Permute {
           cols = cols;
           new_rows = begins.new_rows.items;
           new_cols = begins.new_cols.items;
-          outgoing = sent_of 0 ranks begins.outgoing.items;
+          outgoing = permute_sent 0 ranks begins.outgoing.items;
           cells = [];
         }) }
         ensures { result ≡ record {
@@ -86,7 +86,7 @@ impl Permute {
           cols = cols;
           new_rows = begins.new_rows.items;
           new_cols = begins.new_cols.items;
-          outgoing = sent_of 0 ranks begins.outgoing.items;
+          outgoing = permute_sent 0 ranks begins.outgoing.items;
           cells = [];
         } }
     {

@@ -5,7 +5,7 @@ ghost use Rattle.std.specs.Prelude.{◌≡◌, ◌<◌, ℕ, List, [], ◌∷◌
 ghost use Rattle.mtx_text.specs.Permutations.{Permutes};
 ghost use Rattle.sparse_rows.specs.Parts.{HasPart};
 ghost use Rattle.round_program.specs.Canonical.{InRound, EndsWithin};
-ghost use Rattle.app_permute.specs.Moved.{permuted, IsPermuted};
+ghost use Rattle.app_permute.specs.Reorderings.{reordering_of, IsPermuted};
 ghost use Rattle.app_permute.specs.Permutes.{permute_rules};
 ghost use Rattle.app_permute.specs.PermuteRuns.{permute_begins, permute_starts, PermuteEnded};
 
@@ -92,7 +92,8 @@ fn cells_of(alloc: Global, parts: &Parts, rank: u32) -> Result<Vec<Triple>, NoMe
 /// `NoMemory` where there was none for the matrix.
 pub fn permute_end(alloc: Global, m: &Matrix, p: &Progs<Permute>) -> Result<Matrix, NoMemory>
     requires ended { (rp : List ℕ) × (cp : List ℕ) × PermuteEnded rp cp m.now p.now }
-    ensures matrix { (rp cp : List ℕ) → PermuteEnded rp cp m.now p.now → IfOk result (λ b. b ≡ permuted rp cp m.now) }
+    ensures matrix { (rp cp : List ℕ) → PermuteEnded rp cp m.now p.now
+        → IfOk result (λ b. b ≡ reordering_of rp cp m.now) }
     ensures values { (rp cp : List ℕ) → PermuteEnded rp cp m.now p.now → IfOk result (λ b. IsPermuted rp cp m.now b) }
 {
     let mut all = Cells::new(alloc);

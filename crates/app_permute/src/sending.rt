@@ -2,7 +2,7 @@
 
 ghost use Rattle.std.specs.Prelude.{◌≡◌, ◌<◌, ◌-◌, Some, length, slice_get};
 ghost use Rattle.round_program.specs.Handing.{MayHandOver, HandsUpTo};
-ghost use Rattle.app_permute.specs.code.Sent.{sent_of, to_owner};
+ghost use Rattle.app_permute.specs.code.Sent.{permute_sent, to_cell_owner};
 
 use crate::carried::cell_sent;
 use bale_items::{Item, Triple};
@@ -19,8 +19,8 @@ pub(crate) fn emit_sent<D: Departures>(
     out: &mut D,
 ) -> u64
     requires some { 0 < ranks }
-    requires may { MayHandOver (D.may out.old) (sent_of round ranks cells.now) from }
-    ensures { HandsUpTo D.hands (sent_of round ranks cells.now) from result out.old out.new }
+    requires may { MayHandOver (D.may out.old) (permute_sent round ranks cells.now) from }
+    ensures { HandsUpTo D.hands (permute_sent round ranks cells.now) from result out.old out.new }
 {
     let count = cells.len() as u64;
     let mut next = from;
@@ -38,8 +38,8 @@ pub(crate) fn emit_sent<D: Departures>(
 #[inline(always)]
 pub(crate) fn emission_of(round: u64, ranks: u32, cells: &[Triple], i: u64) -> (u32, Item)
     requires some { 0 < ranks }
-    requires within { i < length (sent_of round ranks cells.now) }
-    ensures { slice_get (sent_of round ranks cells.now) i ≡ Some result }
+    requires within { i < length (permute_sent round ranks cells.now) }
+    ensures { slice_get (permute_sent round ranks cells.now) i ≡ Some result }
 {
     to_owner(round, ranks, cells[i as usize])
 }
@@ -48,7 +48,7 @@ pub(crate) fn emission_of(round: u64, ranks: u32, cells: &[Triple], i: u64) -> (
 #[inline(always)]
 fn to_owner(round: u64, ranks: u32, cell: Triple) -> (u32, Item)
     requires some { 0 < ranks }
-    ensures { result ≡ to_owner round ranks cell }
+    ensures { result ≡ to_cell_owner round ranks cell }
 {
     let owned = if round == 1 { cell.j } else { cell.i };
     (owned % ranks, cell_sent(cell))

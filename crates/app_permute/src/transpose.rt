@@ -1,7 +1,7 @@
 //! transpose: the owner of each new row gets the row's cells.
 
 ghost use Rattle.std.specs.Prelude.{◌≡◌, ◌<◌, []};
-ghost use Rattle.app_permute.specs.code.Sent.{sent_of};
+ghost use Rattle.app_permute.specs.code.Sent.{permute_sent};
 ghost use Rattle.app_permute.specs.Transposes.{IsTransposing};
 
 use crate::carried::{RowOwner, cell_fits, raise_cell, raise_each};
@@ -57,7 +57,7 @@ impl Transpose {
           round = 0;
           rows = rows;
           cols = cols;
-          outgoing = sent_of 0 ranks outgoing.items;
+          outgoing = permute_sent 0 ranks outgoing.items;
           cells = [];
         }) }
         ensures { result ≡ record {
@@ -66,7 +66,7 @@ impl Transpose {
           round = 0;
           rows = rows;
           cols = cols;
-          outgoing = sent_of 0 ranks outgoing.items;
+          outgoing = permute_sent 0 ranks outgoing.items;
           cells = [];
         } }
     {

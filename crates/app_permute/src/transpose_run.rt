@@ -4,7 +4,7 @@ ghost use Rattle.round_program.specs.Ranks.{AreRanks};
 ghost use Rattle.std.specs.Prelude.{◌≡◌, ◌<◌, [], ◌∷◌, length, map, slice_index_or, IfOk};
 ghost use Rattle.sparse_rows.specs.Parts.{HasPart};
 ghost use Rattle.round_program.specs.Canonical.{InRound, EndsWithin};
-ghost use Rattle.app_permute.specs.Moved.{turned, transposed, IsTransposed};
+ghost use Rattle.app_permute.specs.Reorderings.{over_diagonal, transpose_of, IsTransposed};
 ghost use Rattle.app_permute.specs.Transposes.{transpose_rules};
 ghost use Rattle.app_permute.specs.TransposeRuns.{transpose_begins, transpose_starts, TransposeEnded};
 
@@ -54,7 +54,7 @@ fn part_of(
 /// The entries of a rank, turned.
 fn turned_of(alloc: Global, parts: &Parts, rank: u32) -> Result<Vec<Triple>, NoMemory>
     requires { rank < length parts.now }
-    ensures { IfOk result (λ v. v.items ≡ map (λ e. turned e.1) (slice_index_or parts.now rank [])) }
+    ensures { IfOk result (λ v. v.items ≡ map (λ e. over_diagonal e.1) (slice_index_or parts.now rank [])) }
 {
     let mut cells = Vec::with_capacity(alloc, parts.len(rank))?;
     for x in 0..parts.len(rank) {
@@ -66,7 +66,7 @@ fn turned_of(alloc: Global, parts: &Parts, rank: u32) -> Result<Vec<Triple>, NoM
 
 /// An entry turned over the diagonal.
 fn turned(entry: Triple) -> Triple
-    ensures { result ≡ turned entry }
+    ensures { result ≡ over_diagonal entry }
 {
     Triple {
         i: entry.j,
@@ -83,7 +83,7 @@ fn turned(entry: Triple) -> Triple
 /// `NoMemory` where there was none for the matrix.
 pub fn transpose_end(alloc: Global, m: &Matrix, p: &Progs<Transpose>) -> Result<Matrix, NoMemory>
     requires ended { TransposeEnded m.now p.now }
-    ensures matrix { IfOk result (λ b. b ≡ transposed m.now) }
+    ensures matrix { IfOk result (λ b. b ≡ transpose_of m.now) }
     ensures values { IfOk result (λ b. IsTransposed m.now b) }
 {
     let mut all = Cells::new(alloc);

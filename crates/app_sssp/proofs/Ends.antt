@@ -14,7 +14,7 @@ use Rattle.round_program.proofs.Members.{in_round, absorbed_in, rounds_once}
 use Rattle.sparse_rows.specs.Owners.{places_for}
 use Rattle.least_walks.specs.declared.vertices.Vertex.{Vertex}
 use Rattle.least_walks.specs.Walks.{IsLeast}
-use Rattle.least_walks.specs.Vertices.{unreached, marked, calm}
+use Rattle.least_walks.specs.Vertices.{unreached_vertex, marked_places, calm}
 use Rattle.least_walks.proofs.Offered.{none_improved, none_counted, calm_at}
 use Rattle.app_sssp.specs.Sssps.{SsspState, sssp_rules}
 use Rattle.app_sssp.specs.laws.SsspLaws.{sssp_laws}
@@ -107,8 +107,8 @@ module _ (ranks : ℕ) (m : Sparse) (source : ℕ) (some : 0 < ranks) (g : IsGra
 
   -- ---- Votes
 
-  vote_later : (s : SsspState) → s.round ≢ 0 → sssp_rules.vote s ≡ length (marked s.vertices)
-  vote_later s n = ap (λ b. cond b 0 (length (marked s.vertices))) (ne_eqb s.round 0 n)
+  vote_later : (s : SsspState) → s.round ≢ 0 → sssp_rules.vote s ≡ length (marked_places s.vertices)
+  vote_later s n = ap (λ b. cond b 0 (length (marked_places s.vertices))) (ne_eqb s.round 0 n)
 
   -- no votes: no vertex was improved
   none_voted : (n : ℕ) → 1 ≤ n → n < 2 ^ 64 → votes_at sssp_rules starts n ≡ 0 → (v : ℕ) → (stage n).fresh v ≡ false
@@ -121,7 +121,7 @@ module _ (ranks : ℕ) (m : Sparse) (source : ℕ) (some : 0 < ranks) (g : IsGra
       let is : get_or (full n) r s.0 ≡ s.0 = get_or_from_slice_get (full n) r s.0 s.0 s.1 in
       let mine : sssp_rules.vote s.0 ≤ sum_by sssp_rules.vote (full n) = subst (λ t. sssp_rules.vote t ≤ sum_by sssp_rules.vote (full n)) is one in
       let round : s.0.round ≡ n = (all.each r s.0 s.1).same_round in
-      let marks : length (marked s.0.vertices) ≡ 0 = sym (vote_later s.0 (λ z. absurd (omega arith))) ∙ (let e : sssp_rules.vote s.0 ≡ 0 = omega (arith, mine, total) in e) in
+      let marks : length (marked_places s.0.vertices) ≡ 0 = sym (vote_later s.0 (λ z. absurd (omega arith))) ∙ (let e : sssp_rules.vote s.0 ≡ 0 = omega (arith, mine, total) in e) in
       ap (λ (w : Vertex). w.improved) (at_vertex ranks (full n) r s.0 v s.1 refl) ∙ none_improved 0 s.0.vertices marks (v / ranks)
 
   -- no vertex improved: no votes
@@ -132,9 +132,9 @@ module _ (ranks : ℕ) (m : Sparse) (source : ℕ) (some : 0 < ranks) (g : IsGra
       all_from_gets (λ s. sssp_rules.vote s ≤ 0) (full n) (λ r s at.
       let low : r < ranks = subst (λ k. r < k) all.size (within (full n) r s at) in
       let round : s.round ≡ n = (all.each r s at).same_round in
-      let marks : length (marked s.vertices) ≡ 0 =
+      let marks : length (marked_places s.vertices) ≡ 0 =
       none_counted 0 s.vertices (λ p.
-      ap (λ q. (get_or s.vertices q unreached).improved) (sym (div-mul-add p ranks r low))
+      ap (λ q. (get_or s.vertices q unreached_vertex).improved) (sym (div-mul-add p ranks r low))
       ∙ ap (λ (w : Vertex). w.improved) (sym (at_vertex ranks (full n) r s (p * ranks + r) at (mod-mul-add p ranks r low)))
       ∙ calm' (p * ranks + r)) in
       let vote : sssp_rules.vote s ≡ 0 = vote_later s (λ z. absurd (omega arith)) ∙ marks in
@@ -216,7 +216,7 @@ module _ (ranks : ℕ) (m : Sparse) (source : ℕ) (some : 0 < ranks) (g : IsGra
   pub record IsOwner (v : ℕ) (s : SsspState) : Type 0 where
     pub rows : s.rows ≡ m.rows
     pub size : length s.vertices ≡ places_for ranks m.rows
-    pub least : IsLeast m.entries source v (get_or s.vertices (v / ranks) unreached).weight
+    pub least : IsLeast m.entries source v (get_or s.vertices (v / ranks) unreached_vertex).weight
 
   pub ends_len : (rounds : ℕ) → HasRounds sssp_rules starts rounds → length (states_at sssp_rules starts rounds) ≡ ranks
   ends_len rounds h =
@@ -243,6 +243,6 @@ module _ (ranks : ℕ) (m : Sparse) (source : ℕ) (some : 0 < ranks) (g : IsGra
         size = ap length vs ∙ length-map u.0.vertices calm ∙ (all.each r u.0 u.1).valid.places ∙ ap (λ p. places_for p u.0.rows) (all.each r u.0 u.1).all_ranks ∙ ap (places_for ranks) rows;
         least =
             subst (IsLeast m.entries source v)
-            (ap (λ (w : Vertex). w.weight) (at_vertex ranks (full over.last) r u.0 v u.1 refl) ∙ sym (ap (λ (w : Vertex). w.weight) (calm_at u.0.vertices (v / ranks))) ∙ ap (λ ws. (get_or ws (v / ranks) unreached).weight) (sym vs))
+            (ap (λ (w : Vertex). w.weight) (at_vertex ranks (full over.last) r u.0 v u.1 refl) ∙ sym (ap (λ (w : Vertex). w.weight) (calm_at u.0.vertices (v / ranks))) ∙ ap (λ ws. (get_or ws (v / ranks) unreached_vertex).weight) (sym vs))
             (over.least v);
       }

@@ -6,7 +6,7 @@ use Rattle.mtx_text.specs.Sparse.{Sparse}
 use Rattle.sparse_rows.specs.Owners.{places_for}
 use Rattle.sparse_rows.proofs.Places.{place_below}
 use Rattle.least_walks.specs.Walks.{IsLeast, AreLeast}
-use Rattle.least_walks.specs.Vertices.{unreached}
+use Rattle.least_walks.specs.Vertices.{unreached_vertex}
 use Rattle.app_sssp.specs.Sssps.{SsspState}
 use Rattle.app_sssp.specs.SsspRuns.{SsspEnded}
 use Rattle.app_sssp.proofs.Ends.{ends_len, owner_has}
@@ -24,7 +24,7 @@ rank_found m source ps h r low none =
 pub record Owns (m : Sparse) (source ranks v : ℕ) (s : SsspState) : Type 0 where
   pub rows : s.rows ≡ m.rows
   pub size : length s.vertices ≡ places_for ranks m.rows
-  pub least : IsLeast m.entries source v (get_or s.vertices (v / ranks) unreached).weight
+  pub least : IsLeast m.entries source v (get_or s.vertices (v / ranks) unreached_vertex).weight
 
 pub owns : (m : Sparse) (source : ℕ) (ps : List SsspState) (h : SsspEnded m source ps) (v : ℕ) (s : SsspState) → slice_get ps (v % h.ranks) ≡ Some s → Owns m source h.ranks v s
 owns m source ps h v s at =

@@ -10,7 +10,7 @@ use Rattle.bale_items.specs.declared.Item.{Item}
 use Rattle.bale_items.specs.declared.triple.Triple.{Triple}
 use Rattle.bale_items.specs.Bits.{twos_complement}
 use Rattle.list_laws.proofs.Lists.{find, within, get_once, get_map}
-use Rattle.mtx_text.specs.Cells.{raised}
+use Rattle.mtx_text.specs.Cells.{with_value_raised}
 use Rattle.round_program.specs.Canonical.{items_of, emitted_of, emitted_by, absorb_all, absorb_upto, absorbed_round, end_all, vote_sum, InRound}
 use Rattle.sparse_rows.specs.Owners.{places_for}
 use Rattle.sparse_rows.proofs.Places.{place_below, place_own}
@@ -18,7 +18,7 @@ use Rattle.least_walks.specs.declared.table.Edge.{Edge}
 use Rattle.least_walks.specs.declared.vertices.Vertex.{Vertex}
 use Rattle.least_walks.specs.Walks.{AtMost}
 use Rattle.least_walks.specs.Tables.{edge_of, offer, table_of}
-use Rattle.least_walks.specs.Vertices.{unreached, improved_at, marked, calm}
+use Rattle.least_walks.specs.Vertices.{unreached_vertex, improved_at, marked_places, calm}
 use Rattle.least_walks.proofs.Settled.{cost}
 use Rattle.least_walks.proofs.Members.{has_item, was_item, upto, has_upto, was_upto}
 use Rattle.least_walks.proofs.Offered.{taken, taken_done, Took, taken_cases, Offering, has_offer, was_offered, has_mark, calm_at}
@@ -27,8 +27,8 @@ use Rattle.app_sssp.proofs.Rounds.{Stage, Improved, Round}
 
 -- a vertex as its owner has it
 abbrev pub vertex_of : Option SsspState → ℕ → Vertex
-vertex_of None p = unreached
-vertex_of (Some s) p = get_or s.vertices p unreached
+vertex_of None p = unreached_vertex
+vertex_of (Some s) p = get_or s.vertices p unreached_vertex
 
 abbrev pub vertex_at : ℕ → List SsspState → ℕ → Vertex
 vertex_at ranks ss v = vertex_of (slice_get ss (v % ranks)) (v / ranks)
@@ -36,7 +36,7 @@ vertex_at ranks ss v = vertex_of (slice_get ss (v % ranks)) (v / ranks)
 abbrev pub stage_of : ℕ → List SsspState → Stage
 stage_of ranks ss = record { found = λ v. (vertex_at ranks ss v).weight; fresh = λ v. (vertex_at ranks ss v).improved }
 
-pub at_vertex : (ranks : ℕ) (ss : List SsspState) (r : ℕ) (s : SsspState) (v : ℕ) → slice_get ss r ≡ Some s → v % ranks ≡ r → vertex_at ranks ss v ≡ get_or s.vertices (v / ranks) unreached
+pub at_vertex : (ranks : ℕ) (ss : List SsspState) (r : ℕ) (s : SsspState) (v : ℕ) → slice_get ss r ≡ Some s → v % ranks ≡ r → vertex_at ranks ss v ≡ get_or s.vertices (v / ranks) unreached_vertex
 at_vertex ranks ss r s v at e = ap (λ o. vertex_of o (v / ranks)) (ap (slice_get ss) e ∙ at)
 
 -- the edges that a rank has are those of its vertices
@@ -48,7 +48,7 @@ pub record Knows (es : List Triple) (ranks r : ℕ) (s : SsspState) : Type 0 whe
 
 one_later : (s : SsspState) (f : ℕ) (x : Item) → s.round ≢ 0 → sssp_rules.absorbed s f x ≡ record s { vertices = improved_at (x.a / s.ranks) x.b s.vertices }
 one_later s f x n =
-    ap (λ b. record s { arriving = cond b (raised (edge_came x) s.arriving) s.arriving; vertices = cond b s.vertices (improved_at (x.a / s.ranks) x.b s.vertices) }) (ne_eqb s.round 0 n)
+    ap (λ b. record s { arriving = cond b (with_value_raised (edge_came x) s.arriving) s.arriving; vertices = cond b s.vertices (improved_at (x.a / s.ranks) x.b s.vertices) }) (ne_eqb s.round 0 n)
 
 all_later : (s : SsspState) (f : ℕ) (xs : List Item) → s.round ≢ 0 → absorb_all sssp_rules s f xs ≡ record s { vertices = taken s.ranks s.vertices xs }
 all_later s f [] n = refl
@@ -134,7 +134,7 @@ module _ (es : List Triple) (rows ranks n : ℕ) (ss : List SsspState) (shape : 
   abbrev after : ℕ → SsspState → List Vertex
   after r s = taken ranks (map calm s.vertices) (items r)
 
-  after_at : (r : ℕ) (s : SsspState) (v : ℕ) → slice_get ss r ≡ Some s → v % ranks ≡ r → vertex_at ranks later v ≡ get_or (after r s) (v / ranks) unreached
+  after_at : (r : ℕ) (s : SsspState) (v : ℕ) → slice_get ss r ≡ Some s → v % ranks ≡ r → vertex_at ranks later v ≡ get_or (after r s) (v / ranks) unreached_vertex
   after_at r s v at e = at_vertex ranks later r (record (next s) { vertices = after r s }) v (later_at r s at) e
 
   tried : (e : Triple) → Contains es e → (stage_of ranks ss).fresh e.i ≡ true → (k : ℕ) → (stage_of ranks ss).found e.i ≡ Some k → AtMost ((stage_of ranks later).found e.j) (k + cost e)
@@ -143,14 +143,14 @@ module _ (es : List Triple) (rows ranks n : ℕ) (ss : List SsspState) (shape : 
       let r : ℕ = e.j % ranks in
       let s = rank_at f (mod-lt e.i some) in
       let t = rank_at r (mod-lt e.j some) in
-      let here : vertex_at ranks ss e.i ≡ get_or s.0.vertices (e.i / ranks) unreached = at_vertex ranks ss f s.0 e.i s.1 refl in
-      let weight : (get_or (map calm s.0.vertices) (e.i / ranks) unreached).weight ≡ Some k = ap (λ (v : Vertex). v.weight) (calm_at s.0.vertices (e.i / ranks) ∙ ap calm (sym here)) ∙ found in
-      let listed : Contains (marked s.0.vertices) (0 + e.i / ranks) = has_mark 0 s.0.vertices (e.i / ranks) (ap (λ (v : Vertex). v.improved) (sym here) ∙ fresh) in
+      let here : vertex_at ranks ss e.i ≡ get_or s.0.vertices (e.i / ranks) unreached_vertex = at_vertex ranks ss f s.0 e.i s.1 refl in
+      let weight : (get_or (map calm s.0.vertices) (e.i / ranks) unreached_vertex).weight ≡ Some k = ap (λ (v : Vertex). v.weight) (calm_at s.0.vertices (e.i / ranks) ∙ ap calm (sym here)) ∙ found in
+      let listed : Contains (marked_places s.0.vertices) (0 + e.i / ranks) = has_mark 0 s.0.vertices (e.i / ranks) (ap (λ (v : Vertex). v.improved) (sym here) ∙ fresh) in
       let offered : Contains (next s.0).outgoing (offer k (edge_of ranks e)) =
-      has_offer (table_after s.0) (map calm s.0.vertices) (marked s.0.vertices) (offer k (edge_of ranks e))
+      has_offer (table_after s.0) (map calm s.0.vertices) (marked_places s.0.vertices) (offer k (edge_of ranks e))
       (record {
         place = e.i / ranks;
-        listed = subst (Contains (marked s.0.vertices)) (let z : 0 + e.i / ranks ≡ e.i / ranks = omega arith in z) listed;
+        listed = subst (Contains (marked_places s.0.vertices)) (let z : 0 + e.i / ranks ≡ e.i / ranks = omega arith in z) listed;
         edge = edge_of ranks e;
         kept = (knows f s.0 s.1).complete e has refl;
         weight = k;
@@ -160,7 +160,7 @@ module _ (es : List Triple) (rows ranks n : ℕ) (ss : List SsspState) (shape : 
       let place : e.j / ranks < length (map calm t.0.vertices) =
       subst (λ l. e.j / ranks < l) (sym (length-map t.0.vertices calm ∙ (all.each r t.0 t.1).valid.places ∙ ap (λ p. places_for p t.0.rows) (all.each r t.0 t.1).all_ranks ∙ ap (places_for ranks) (size r t.0 t.1)))
       (place_below ranks rows e.j some (All-contains (λ (t : Triple). t.j < rows) es e edges.to has)) in
-      let done : AtMost (get_or (after r t.0) (e.j / ranks) unreached).weight ((k + twos_complement e.v) % 2 ^ 64) =
+      let done : AtMost (get_or (after r t.0) (e.j / ranks) unreached_vertex).weight ((k + twos_complement e.v) % 2 ^ 64) =
       taken_done ranks (e.j / ranks) (map calm t.0.vertices) (items r) (offer k (edge_of ranks e)).1 place (came r f s.0 (offer k (edge_of ranks e)).1 (mod-lt e.i some) s.1 offered) refl in
       let sum : (k + twos_complement e.v) % 2 ^ 64 ≡ k + cost e =
       sum_is e k (All-contains (λ (t : Triple). t.v ≡ pos (nat_abs t.v)) es e edges.plain has) (All-contains (λ (t : Triple). cost t ≤ 1_000_000_000_000) es e edges.light has) (low e.i k found) in
@@ -168,14 +168,14 @@ module _ (es : List Triple) (rows ranks n : ℕ) (ss : List SsspState) (shape : 
       (subst (λ (v : Vertex). AtMost v.weight ((k + twos_complement e.v) % 2 ^ 64)) (sym (after_at r t.0 e.j t.1 refl)) done)
 
   improved : (v : ℕ) (s : SsspState) → slice_get ss (v % ranks) ≡ Some s
-      → Took ranks (v / ranks) (get_or (map calm s.vertices) (v / ranks) unreached) (get_or (after (v % ranks) s) (v / ranks) unreached) (items (v % ranks))
+      → Took ranks (v / ranks) (get_or (map calm s.vertices) (v / ranks) unreached_vertex) (get_or (after (v % ranks) s) (v / ranks) unreached_vertex) (items (v % ranks))
       → Improved es (stage_of ranks ss) (stage_of ranks later) v
   improved v s at took =
       let r : ℕ = v % ranks in
       let x : Item = took.item in
       let source : Source r x = came_from r x took.is in
       let u : SsspState = source.state in
-      let o : Offering (table_after u) (map calm u.vertices) (marked u.vertices) (r, x) = was_offered (table_after u) (map calm u.vertices) (marked u.vertices) (r, x) source.sent in
+      let o : Offering (table_after u) (map calm u.vertices) (marked_places u.vertices) (r, x) = was_offered (table_after u) (map calm u.vertices) (marked_places u.vertices) (r, x) source.sent in
       let t = (knows source.from u source.at).sound o.place o.edge o.kept in
       let edge : Triple = t.0 in
       let owner : edge.j % ranks ≡ r = ap (λ (e : Edge). e.owner) t.4 ∙ ap (λ (w : ℕ × Item). w.0) o.is in
@@ -183,12 +183,12 @@ module _ (es : List Triple) (rows ranks n : ℕ) (ss : List SsspState) (shape : 
       let word : twos_complement edge.v ≡ o.edge.weight = ap (λ (e : Edge). e.weight) t.4 in
       let same : edge.j ≡ v = place_own ranks edge.j v owner (ap (λ k. k / ranks) to ∙ took.place) in
       let found : (stage_of ranks ss).found edge.i ≡ Some o.weight =
-      ap (λ (w : Vertex). w.weight) (at_vertex ranks ss source.from u edge.i source.at t.2 ∙ ap (λ p. get_or u.vertices p unreached) t.3)
+      ap (λ (w : Vertex). w.weight) (at_vertex ranks ss source.from u edge.i source.at t.2 ∙ ap (λ p. get_or u.vertices p unreached_vertex) t.3)
       ∙ sym (ap (λ (w : Vertex). w.weight) (calm_at u.vertices o.place)) ∙ o.found in
       let sum : (o.weight + twos_complement edge.v) % 2 ^ 64 ≡ o.weight + cost edge =
       sum_is edge o.weight (All-contains (λ (t : Triple). t.v ≡ pos (nat_abs t.v)) es edge edges.plain t.1) (All-contains (λ (t : Triple). cost t ≤ 1_000_000_000_000) es edge edges.light t.1) (low edge.i o.weight found) in
       let b : x.b ≡ o.weight + cost edge = sym (ap (λ (w : ℕ × Item). w.1.b) o.is) ∙ ap (λ k. (o.weight + k) % 2 ^ 64) (sym word) ∙ sum in
-      let before : (get_or (map calm s.vertices) (v / ranks) unreached).weight ≡ (stage_of ranks ss).found v =
+      let before : (get_or (map calm s.vertices) (v / ranks) unreached_vertex).weight ≡ (stage_of ranks ss).found v =
       ap (λ (w : Vertex). w.weight) (calm_at s.vertices (v / ranks) ∙ ap calm (sym (at_vertex ranks ss r s v at refl))) in
       record {
         edge = edge;
@@ -205,7 +205,7 @@ module _ (es : List Triple) (rows ranks n : ℕ) (ss : List SsspState) (shape : 
   each v =
       let r : ℕ = v % ranks in
       let s = rank_at r (mod-lt v some) in
-      let now : vertex_at ranks later v ≡ get_or (after r s.0) (v / ranks) unreached = after_at r s.0 v s.1 refl in
+      let now : vertex_at ranks later v ≡ get_or (after r s.0) (v / ranks) unreached_vertex = after_at r s.0 v s.1 refl in
       elim (taken_cases ranks (v / ranks) (map calm s.0.vertices) (items r)) [
         | inl same ↦
             let is : vertex_at ranks later v ≡ calm (vertex_at ranks ss v) = now ∙ same ∙ calm_at s.0.vertices (v / ranks) ∙ ap calm (sym (at_vertex ranks ss r s.0 v s.1 refl)) in

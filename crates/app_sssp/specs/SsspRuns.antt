@@ -7,7 +7,7 @@ use Rattle.mtx_text.specs.Sparse.{Sparse, IsSparse}
 use Rattle.round_program.specs.Canonical.{HaveEnded}
 use Rattle.sparse_rows.specs.Owners.{Numbered, own_entries, places_for, row_owner}
 use Rattle.least_walks.specs.declared.vertices.Vertex.{Vertex}
-use Rattle.least_walks.specs.Vertices.{unreached, improved_at}
+use Rattle.least_walks.specs.Vertices.{unreached_vertex, improved_at}
 use Rattle.least_walks.specs.Walks.{no_negative}
 use Rattle.app_sssp.specs.Sssps.{SsspState, sssp_rules}
 
@@ -24,8 +24,8 @@ edge_item e = record { a = e.1.i; b = e.1.j; c = twos_complement e.1.v }
 -- The vertices of a rank at the start: the source, which the empty walk leads to, is improved.
 abbrev pub vertices_begin : ℕ → ℕ → ℕ → ℕ → List Vertex
 vertices_begin ranks rows source rank =
-    if source % ranks == rank then improved_at (source / ranks) 0 (replicate (places_for ranks rows) unreached)
-    else replicate (places_for ranks rows) unreached
+    if source % ranks == rank then improved_at (source / ranks) 0 (replicate (places_for ranks rows) unreached_vertex)
+    else replicate (places_for ranks rows) unreached_vertex
 
 -- A rank as sssp begins: its entries on their way, and no edges.
 abbrev pub sssp_begins : ℕ → Sparse → ℕ → ℕ → SsspState

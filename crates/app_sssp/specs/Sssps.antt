@@ -6,14 +6,14 @@ use Rattle.std.specs.List.{All}
 use Rattle.bale_items.specs.declared.Item.{Item}
 use Rattle.bale_items.specs.declared.triple.Triple.{Triple}
 use Rattle.bale_items.specs.Bits.{from_twos_complement}
-use Rattle.mtx_text.specs.Cells.{InOrder, raised}
+use Rattle.mtx_text.specs.Cells.{InOrder, with_value_raised}
 use Rattle.round_program.specs.Rules.{Rules}
 use Rattle.round_program.specs.Laws.{is_item}
 use Rattle.sparse_rows.specs.Owners.{places_for}
 use Rattle.least_walks.specs.declared.table.Edge.{Edge}
 use Rattle.least_walks.specs.declared.vertices.Vertex.{Vertex}
-use Rattle.least_walks.specs.Tables.{table_of, offers}
-use Rattle.least_walks.specs.Vertices.{improved_at, marked, calm}
+use Rattle.least_walks.specs.Tables.{table_of, offers_by_place}
+use Rattle.least_walks.specs.Vertices.{improved_at, marked_places, calm}
 
 -- one rank's part
 pub record SsspState : Type 0 where
@@ -48,7 +48,7 @@ pub record IsEdge (ranks rows : ℕ) (e : Edge) : Type 0 where
   pub owned : e.owner ≡ e.to % ranks
 
 -- an entry inside a square matrix
-pub record IsInside (rows : ℕ) (t : Triple) : Type 0 where
+pub record IsInsideSquare (rows : ℕ) (t : Triple) : Type 0 where
   pub row : t.i < rows
   pub col : t.j < rows
 
@@ -56,7 +56,7 @@ pub record IsInside (rows : ℕ) (t : Triple) : Type 0 where
 pub record IsSssp (s : SsspState) : Type 0 where
   pub own : s.rank < s.ranks
   pub wide : s.rows ≤ 16384
-  pub arrived : All (IsInside s.rows) s.arriving
+  pub arrived : All (IsInsideSquare s.rows) s.arriving
   pub ordered : InOrder s.arriving
   pub edges : All (All (IsEdge s.ranks s.rows)) s.table
   pub rows_kept : 0 < s.round → length s.table ≡ length s.vertices
@@ -79,16 +79,16 @@ sssp_rules =
       emissions = λ s. s.outgoing;
       may_be_sent = may_sssp;
       absorbed = λ s from x. record s {
-        arriving = if s.round == 0 then raised (edge_came x) s.arriving else s.arriving;
+        arriving = if s.round == 0 then with_value_raised (edge_came x) s.arriving else s.arriving;
         vertices = if s.round == 0 then s.vertices else improved_at (x.a / s.ranks) x.b s.vertices;
       };
-      vote = λ s. if s.round == 0 then 0 else length (marked s.vertices);
+      vote = λ s. if s.round == 0 then 0 else length (marked_places s.vertices);
       goes_on = λ shape round votes. round == 0 || not (votes == 0);
       ended = λ s votes. record s {
         round = min (s.round + 1) (2 ^ 64 - 1);
         arriving = if s.round == 0 then [] else s.arriving;
         table = table_after s;
         vertices = map calm s.vertices;
-        outgoing = offers (table_after s) (map calm s.vertices) (marked s.vertices);
+        outgoing = offers_by_place (table_after s) (map calm s.vertices) (marked_places s.vertices);
       };
     }

@@ -8,7 +8,7 @@ ghost use Rattle.least_walks.specs.Tables.{table_of};
 ghost use Rattle.round_program.specs.Laws.{Fits};
 ghost use Rattle.round_program.specs.Batches.{taken_in};
 ghost use Rattle.app_sssp.specs.Sssps.{IsSssp, sssp_rules};
-ghost use Rattle.app_sssp.specs.code.SsspSeats.{IsSeat};
+ghost use Rattle.app_sssp.specs.code.SsspSeats.{IsSsspSeat};
 
 use crate::seat::Seat;
 use bale_items::{Item, NoMemory, Triple, value_of};
@@ -101,7 +101,7 @@ impl Sssp {
 
     /// Which items this rank may be sent in its round.
     fn seat(&self) -> Seat
-        ensures { IsSeat result self.now }
+        ensures { IsSsspSeat result self.now }
     {
         Seat {
             rank: self.rank,
@@ -114,10 +114,10 @@ impl Sssp {
     /// Takes in an item of a rank, where it fits.
     #[inline(always)]
     fn take_in(&mut self, seat: Seat, from: u32, item: Item) -> Result<(), NoMemory>
-        requires { IsSeat seat self.old }
+        requires { IsSsspSeat seat self.old }
         ensures ok { OnOk result (self.new ≡ taken_in sssp_rules self.old from item) }
         ensures sent { self.new.outgoing ≡ self.old.outgoing }
-        ensures seat { IsSeat seat self.new }
+        ensures seat { IsSsspSeat seat self.new }
     {
         if seat.fits(from, item) {
             return self.absorb_on(seat, from, item);
@@ -128,7 +128,7 @@ impl Sssp {
     /// Takes in an item that fits.
     #[inline(always)]
     fn absorb_on(&mut self, seat: Seat, from: u32, item: Item) -> Result<(), NoMemory>
-        requires seat { IsSeat seat self.old }
+        requires seat { IsSsspSeat seat self.old }
         requires fits { Fits sssp_rules self.old from item }
         ensures { AllOrNothing (sssp_rules.absorbed self.old from item) self.old self.new result }
     {

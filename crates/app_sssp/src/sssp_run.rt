@@ -2,7 +2,7 @@
 
 ghost use Rattle.round_program.specs.Ranks.{AreRanks};
 ghost use Rattle.std.specs.Prelude.{ℕ, true, ◌==◌, if◌then◌else◌, ◌≡◌, ◌<◌, ◌≤◌, ◌+◌, ◌%◌, ◌/◌, [], ◌∷◌, length, map, replicate, slice_index_or, Option, IfOk};
-ghost use Rattle.least_walks.specs.Vertices.{unreached, improved_at};
+ghost use Rattle.least_walks.specs.Vertices.{unreached_vertex, improved_at};
 ghost use Rattle.bale_types.specs.Out.{HandsOn, Writes};
 ghost use Rattle.bale_items.specs.Bits.{twos_complement};
 ghost use Rattle.mtx_text.specs.Sparse.{Sparse};
@@ -88,7 +88,7 @@ pub fn vertices_of(
     requires some { 0 < ranks }
     requires place { source / ranks < places }
     ensures { IfOk result (λ s. s ≡ (if source % ranks == rank then improved_at (source / ranks) 0
-        (replicate places unreached) else replicate places unreached)) }
+        (replicate places unreached_vertex) else replicate places unreached_vertex)) }
 {
     let mut vertices = Vertices::new(alloc, places)?;
     if source % ranks == rank {

@@ -10,7 +10,7 @@ use Rattle.std.proofs.lemmas.Option.{get_or_from_slice_get}
 use Rattle.list_laws.proofs.Lists.{find, get_map, all_get, all_head, all_tail}
 use Rattle.elastic.specs.Spelling.{IsLetter}
 use Rattle.app_tally.specs.Counts.{by_bytes}
-use Rattle.app_tally.specs.laws.CountOrder.{turned}
+use Rattle.app_tally.specs.laws.CountOrder.{order_turned}
 use Rattle.app_tally.specs.Numbers.{front_number}
 
 -- ---- The order
@@ -50,7 +50,7 @@ front_less (suc k) (b ∷ bs) (c ∷ cs) a d low =
 by_front : (o : Ordering) (l m : List ℕ) → o ≡ nat_cmp (front_number 16 l) (front_number 16 m) → All (λ b. b < 256) l → All (λ b. b < 256) m → ordering_then o (by_bytes l m) ≡ by_bytes l m
 by_front Less l m e a b = sym (front_less 16 l m a b (ranked (front_number 16 l) (front_number 16 m) Less e))
 by_front Equal l m e a b = refl
-by_front Greater l m e a b = sym (turned m l Less (front_less 16 m l b a (ranked (front_number 16 l) (front_number 16 m) Greater e)))
+by_front Greater l m e a b = sym (order_turned m l Less (front_less 16 m l b a (ranked (front_number 16 l) (front_number 16 m) Greater e)))
 
 -- so lines behind their numbers are in the order of lines
 pub front_order : (l m : List ℕ) → All (λ b. b < 256) l → All (λ b. b < 256) m → ordering_then (nat_cmp (front_number 16 l) (front_number 16 m)) (by_bytes l m) ≡ by_bytes l m

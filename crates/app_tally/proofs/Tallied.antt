@@ -5,8 +5,8 @@ use Rattle.std.specs.List.{Contains}
 use Rattle.std.proofs.lemmas.List.Elements.{All-nil, All-cons, All-weaker}
 use Rattle.std.proofs.lemmas.List.Sums.{sum_by-cons, fold_push}
 use Rattle.list_laws.proofs.Lists.{all_head, all_tail}
-use Rattle.app_tally.specs.Counts.{by_bytes, Entry, times, counted, tally_of, Before, Rises, IsTally}
-use Rattle.app_tally.specs.laws.CountOrder.{order, one_line, itself, turned, which, no_tie, at_less, at_equal, at_greater}
+use Rattle.app_tally.specs.Counts.{by_bytes, Entry, times, with_line, tally_of, Before, Rises, IsTally}
+use Rattle.app_tally.specs.laws.CountOrder.{order, one_line, itself, order_turned, which, no_tie, at_less, at_equal, at_greater}
 
 -- ---- What entries say of a line
 
@@ -35,7 +35,7 @@ before_less q l [] h b = tt
 before_less q l (e ∷ es) h b = (order.trans q l e.0 h b.0, before_less q l es h b.1)
 
 -- a line before entries and before one more line
-before_counted : (q l : List ℕ) (es : List Entry) → by_bytes q l ≡ Less → Before q es → Before q (counted l es)
+before_counted : (q l : List ℕ) (es : List Entry) → by_bytes q l ≡ Less → Before q es → Before q (with_line l es)
 before_counted q l [] h b = (h, tt)
 before_counted q l (e ∷ es) h b =
     elim (which (by_bytes l e.0)) [
@@ -44,13 +44,13 @@ before_counted q l (e ∷ es) h b =
       | inr (inr a) ↦ subst (Before q) (sym (at_greater l e es a)) (b.0, before_counted q l es h b.1)
     ]
 
-pub rises_counted : (l : List ℕ) (es : List Entry) → Rises es → Rises (counted l es)
+pub rises_counted : (l : List ℕ) (es : List Entry) → Rises es → Rises (with_line l es)
 rises_counted l [] r = (tt, tt)
 rises_counted l (e ∷ es) r =
     elim (which (by_bytes l e.0)) [
       | inl a ↦ subst Rises (sym (at_less l e es a)) ((a, before_less l e.0 es a r.0), (r.0, r.1))
       | inr (inl a) ↦ subst Rises (sym (at_equal l e es a)) (r.0, r.1)
-      | inr (inr a) ↦ subst Rises (sym (at_greater l e es a)) (before_counted e.0 l es (turned l e.0 Greater a) r.0, rises_counted l es r.1)
+      | inr (inr a) ↦ subst Rises (sym (at_greater l e es a)) (before_counted e.0 l es (order_turned l e.0 Greater a) r.0, rises_counted l es r.1)
     ]
 
 plus_none : (q l : List ℕ) (n : ℕ) (o : Ordering) → by_bytes q l ≡ o → is_eq o ≡ false → n ≡ n + one_if (is_eq (by_bytes q l))
@@ -70,13 +70,13 @@ apart_there q l e h a =
     elim (which (by_bytes q e)) [
       | inl o ↦ absurd (no_tie (is_eq (by_bytes q e)) (ap is_eq o) h)
       | inr (inl o) ↦
-          let less : by_bytes q l ≡ Less = ap (λ w. by_bytes w l) (one_line q e o) ∙ turned l e Greater a in
+          let less : by_bytes q l ≡ Less = ap (λ w. by_bytes w l) (one_line q e o) ∙ order_turned l e Greater a in
           ap (λ w. one_if (is_eq w)) less
       | inr (inr o) ↦ absurd (no_tie (is_eq (by_bytes q e)) (ap is_eq o) h)
     ]
 
 -- a line is found once more after it was counted, and no other is
-pub found_counted : (q l : List ℕ) (es : List Entry) → Rises es → found q (counted l es) ≡ found q es + one_if (is_eq (by_bytes q l))
+pub found_counted : (q l : List ℕ) (es : List Entry) → Rises es → found q (with_line l es) ≡ found q es + one_if (is_eq (by_bytes q l))
 found_counted q l [] r = omega arith
 found_counted q l (e ∷ es) r =
     elim (which (by_bytes l e.0)) [
@@ -102,15 +102,15 @@ found_counted q l (e ∷ es) r =
 pub times_cons : (q l : List ℕ) (ls : List (List ℕ)) → times q (l ∷ ls) ≡ one_if (is_eq (by_bytes q l)) + times q ls
 times_cons q l ls = sum_by-cons (λ m. cond (is_eq (by_bytes q m)) 1 0) l ls
 
-pub rises_on : (es : List Entry) (ls : List (List ℕ)) → Rises es → Rises (fold (λ es l. counted l es) es ls)
+pub rises_on : (es : List Entry) (ls : List (List ℕ)) → Rises es → Rises (fold (λ es l. with_line l es) es ls)
 rises_on es [] r = r
-rises_on es (l ∷ ls) r = rises_on (counted l es) ls (rises_counted l es r)
+rises_on es (l ∷ ls) r = rises_on (with_line l es) ls (rises_counted l es r)
 
-pub found_on : (q : List ℕ) (es : List Entry) (ls : List (List ℕ)) → Rises es → found q (fold (λ es l. counted l es) es ls) ≡ found q es + times q ls
+pub found_on : (q : List ℕ) (es : List Entry) (ls : List (List ℕ)) → Rises es → found q (fold (λ es l. with_line l es) es ls) ≡ found q es + times q ls
 found_on q es [] r = omega arith
 found_on q es (l ∷ ls) r =
-    let one : found q (counted l es) ≡ found q es + one_if (is_eq (by_bytes q l)) = found_counted q l es r in
-    let rest : found q (fold (λ es l. counted l es) (counted l es) ls) ≡ found q (counted l es) + times q ls = found_on q (counted l es) ls (rises_counted l es r) in
+    let one : found q (with_line l es) ≡ found q es + one_if (is_eq (by_bytes q l)) = found_counted q l es r in
+    let rest : found q (fold (λ es l. with_line l es) (with_line l es) ls) ≡ found q (with_line l es) + times q ls = found_on q (with_line l es) ls (rises_counted l es r) in
     let all : times q (l ∷ ls) ≡ one_if (is_eq (by_bytes q l)) + times q ls = times_cons q l ls in
     omega arith
 
@@ -121,7 +121,7 @@ pub found_tally : (q : List ℕ) (ls : List (List ℕ)) → found q (tally_of ls
 found_tally q ls = let f : found q (tally_of ls) ≡ 0 + times q ls = found_on q [] ls tt in omega arith
 
 -- each entry was read at least once, and at most as often as there are lines
-pub some_counted : (l : List ℕ) (es : List Entry) → All (λ e. 0 < e.1) es → All (λ e. 0 < e.1) (counted l es)
+pub some_counted : (l : List ℕ) (es : List Entry) → All (λ e. 0 < e.1) es → All (λ e. 0 < e.1) (with_line l es)
 some_counted l [] a = All-cons (λ (e : Entry). 0 < e.1) (l, 1) [] (lit< tt) (All-nil (λ (e : Entry). 0 < e.1))
 some_counted l (e ∷ es) a =
     let here : 0 < e.1 = all_head (λ (e : Entry). 0 < e.1) e es a in
@@ -129,12 +129,12 @@ some_counted l (e ∷ es) a =
     elim (which (by_bytes l e.0)) [
       | inl b ↦ subst (All (λ (e : Entry). 0 < e.1)) (sym (at_less l e es b)) (All-cons (λ (e : Entry). 0 < e.1) (l, 1) (e ∷ es) (lit< tt) a)
       | inr (inl b) ↦ subst (All (λ (e : Entry). 0 < e.1)) (sym (at_equal l e es b)) (All-cons (λ (e : Entry). 0 < e.1) (e.0, e.1 + 1) es (omega arith) rest)
-      | inr (inr b) ↦ subst (All (λ (e : Entry). 0 < e.1)) (sym (at_greater l e es b)) (All-cons (λ (e : Entry). 0 < e.1) e (counted l es) here (some_counted l es rest))
+      | inr (inr b) ↦ subst (All (λ (e : Entry). 0 < e.1)) (sym (at_greater l e es b)) (All-cons (λ (e : Entry). 0 < e.1) e (with_line l es) here (some_counted l es rest))
     ]
 
-pub some_on : (es : List Entry) (ls : List (List ℕ)) → All (λ e. 0 < e.1) es → All (λ e. 0 < e.1) (fold (λ es l. counted l es) es ls)
+pub some_on : (es : List Entry) (ls : List (List ℕ)) → All (λ e. 0 < e.1) es → All (λ e. 0 < e.1) (fold (λ es l. with_line l es) es ls)
 some_on es [] a = a
-some_on es (l ∷ ls) a = some_on (counted l es) ls (some_counted l es a)
+some_on es (l ∷ ls) a = some_on (with_line l es) ls (some_counted l es a)
 
 pub some_tally : (ls : List (List ℕ)) → All (λ e. 0 < e.1) (tally_of ls)
 some_tally ls = some_on [] ls (All-nil (λ (e : Entry). 0 < e.1))
@@ -144,7 +144,7 @@ later_found : (e : Entry) (es fs : List Entry) → Before e.0 fs → All (λ f. 
 later_found e es [] b a = All-nil (λ (f : Entry). f.1 ≡ found f.0 (e ∷ es))
 later_found e es (f ∷ fs) b a =
     All-cons (λ (g : Entry). g.1 ≡ found g.0 (e ∷ es)) f fs
-    (all_head (λ (g : Entry). g.1 ≡ found g.0 es) f fs a ∙ sym (found_other f.0 e es Greater (turned e.0 f.0 Less b.0) refl))
+    (all_head (λ (g : Entry). g.1 ≡ found g.0 es) f fs a ∙ sym (found_other f.0 e es Greater (order_turned e.0 f.0 Less b.0) refl))
     (later_found e es fs b.1 (all_tail (λ (g : Entry). g.1 ≡ found g.0 es) f fs a))
 
 found_later : (q : List ℕ) (e : Entry) (es : List Entry) → found q (e ∷ es) ≡ found q es → Contains es (q, found q es) → Contains (e ∷ es) (q, found q (e ∷ es))
@@ -209,7 +209,7 @@ same_entries (e ∷ es) (f ∷ fs) r s a b h =
           same_entries es fs r.1 s.1 (all_tail (λ (e : Entry). 0 < e.1) e es a) (all_tail (λ (e : Entry). 0 < e.1) f fs b) (λ q. same_tails q e f es fs r.0 s.0 key (h q)) in
           ap (λ w. (w, e.1) ∷ es) key ∙ ap (λ n. (f.0, n) ∷ es) count ∙ ap (λ w. f ∷ w) tails
       | inr (inr o) ↦
-          let back : by_bytes f.0 e.0 ≡ Less = turned e.0 f.0 Greater o in
+          let back : by_bytes f.0 e.0 ≡ Less = order_turned e.0 f.0 Greater o in
           let none : f.1 ≡ 0 = sym (found_here f.0 f fs (itself f.0)) ∙ sym (h f.0) ∙ found_before f.0 (e ∷ es) (back, before_less f.0 e.0 es back r.0) in
           absurd (omega arith)
     ]
@@ -218,5 +218,5 @@ pub same_tally : (ls ms : List (List ℕ)) → ((q : List ℕ) → times q ls �
 same_tally ls ms h =
     same_entries (tally_of ls) (tally_of ms) (rises_tally ls) (rises_tally ms) (some_tally ls) (some_tally ms) (λ q. found_tally q ls ∙ h q ∙ sym (found_tally q ms))
 
-pub tally_push : (ls : List (List ℕ)) (l : List ℕ) → tally_of (ls ++ l ∷ []) ≡ counted l (tally_of ls)
-tally_push ls l = fold_push (λ es l. counted l es) [] ls l
+pub tally_push : (ls : List (List ℕ)) (l : List ℕ) → tally_of (ls ++ l ∷ []) ≡ with_line l (tally_of ls)
+tally_push ls l = fold_push (λ es l. with_line l es) [] ls l

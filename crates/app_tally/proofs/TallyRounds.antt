@@ -24,7 +24,7 @@ use Rattle.elastic.specs.LetterRuns.{letters_to_of, letters_by, absorb_letters, 
 use Rattle.elastic.specs.Mails.{MailState, mailing, mail_rules}
 use Rattle.elastic.specs.Theorem.{SameLetterRuns}
 use Rattle.elastic.proofs.Runs.{mailers_run_letters}
-use Rattle.app_tally.specs.Counts.{by_bytes, counted, times, tally_of, Rises}
+use Rattle.app_tally.specs.Counts.{by_bytes, with_line, times, tally_of, Rises}
 use Rattle.app_tally.specs.Tallies.{TallyState, tally_rules, IsTallying, counter_of}
 use Rattle.app_tally.specs.laws.TallyLaws.{tally_laws}
 use Rattle.app_tally.specs.TallyRuns.{own_lines, tally_begins, tally_starts, TallyEnded}
@@ -125,9 +125,9 @@ within_one ranks lines a =
 abbrev pub comes : ℕ → List (List ℕ) → List ℕ → ℕ → ℕ
 comes ranks lines q r = total ranks (λ f. times q (dealt (counter_of ranks) r (own_lines ranks f lines)))
 
-came_after : (t : TallyState) (from : ℕ) (ls : List (List ℕ)) → (absorb_letters tally_rules t from ls).came ≡ fold (λ es l. counted l es) t.came ls
+came_after : (t : TallyState) (from : ℕ) (ls : List (List ℕ)) → (absorb_letters tally_rules t from ls).came ≡ fold (λ es l. with_line l es) t.came ls
 came_after t from [] = refl
-came_after t from (l ∷ ls) = came_after (record t { came = counted l t.came }) from ls
+came_after t from (l ∷ ls) = came_after (record t { came = with_line l t.came }) from ls
 
 zero_plus : (n : ℕ) → 0 + n ≡ n
 zero_plus n = omega arith

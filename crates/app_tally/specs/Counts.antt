@@ -28,14 +28,14 @@ counted_by Equal l e es later = (e.0, e.1 + 1) ∷ es
 counted_by Greater l e es later = e ∷ later
 
 -- Entries with one more line, at its place in the order.
-abbrev pub counted : List ℕ → List Entry → List Entry
-counted l [] = (l, 1) ∷ []
-counted l (e ∷ es) = counted_by (by_bytes l e.0) l e es (counted l es)
+abbrev pub with_line : List ℕ → List Entry → List Entry
+with_line l [] = (l, 1) ∷ []
+with_line l (e ∷ es) = counted_by (by_bytes l e.0) l e es (with_line l es)
 
 -- The tally of lines: the distinct ones in order, each with how many times it was read.
 -- Of "b", "a", "b", "", "a b": ("", 1), ("a", 1), ("a b", 1), ("b", 2).
 abbrev pub tally_of : List (List ℕ) → List Entry
-tally_of lines = fold (λ es l. counted l es) [] lines
+tally_of lines = fold (λ es l. with_line l es) [] lines
 
 -- A line is before those of all entries.
 abbrev pub Before : List ℕ → List Entry → Type 0
@@ -56,9 +56,9 @@ pub record IsTally (lines : List (List ℕ)) (entries : List Entry) : Type 0 whe
   pub all : (l : List ℕ) → 0 < times l lines → Contains entries (l, times l lines)
 
 -- The text of an entry: the number of times, one space, the line and LF. ("b", 2) is "2 b\n".
-abbrev pub entry_text : Entry → List ℕ
-entry_text e = (decimal e.1 ++ 32 ∷ []) ++ (e.0 ++ 10 ∷ [])
+abbrev pub count_text : Entry → List ℕ
+count_text e = (decimal e.1 ++ 32 ∷ []) ++ (e.0 ++ 10 ∷ [])
 
 -- The answer of tally: the text of each entry, in order.
 abbrev pub tally_text : List Entry → List ℕ
-tally_text entries = flat_map entry_text entries
+tally_text entries = flat_map count_text entries

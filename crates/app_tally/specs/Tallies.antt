@@ -3,7 +3,7 @@ use Rattle.std.specs.Prelude.{ℕ, ◌+◌, ◌-◌, ◌%◌, ◌^◌, ◌<◌, 
 use Rattle.std.specs.List.{All, sum}
 use Rattle.elastic.specs.Spelling.{IsLetter}
 use Rattle.elastic.specs.LetterRules.{LetterRules}
-use Rattle.app_tally.specs.Counts.{Entry, counted}
+use Rattle.app_tally.specs.Counts.{Entry, with_line}
 
 -- one rank's part
 pub record TallyState : Type 0 where
@@ -35,7 +35,7 @@ tally_rules =
       shape = λ s. [];
       most = λ s. 1;
       letters = λ s. map (λ l. (counter_of s.ranks l, l)) s.own;
-      absorbed = λ s from l. record s { came = counted l s.came };
+      absorbed = λ s from l. record s { came = with_line l s.came };
       vote = λ s. 0;
       goes_on = λ shape round votes. false;
       ended = λ s votes. record s { round = min (s.round + 1) (2 ^ 64 - 1); own = [] };

@@ -5,8 +5,8 @@ ghost use Rattle.std.specs.List.{All};
 ghost use Rattle.std.specs.List.Sorted.{IsSortedBy};
 ghost use Rattle.std.specs.Ordering.{is_gt, is_lt};
 ghost use Rattle.elastic.specs.Spelling.{IsLetter};
-ghost use Rattle.app_tally.specs.code.CountView.{entries_of, IsCounts};
-ghost use Rattle.app_tally.specs.Counts.{by_bytes, counted, tally_of};
+ghost use Rattle.app_tally.specs.code.CountView.{numbered_lines, IsCounts};
+ghost use Rattle.app_tally.specs.Counts.{by_bytes, with_line, tally_of};
 ghost use Rattle.app_tally.specs.Numbers.{front_number};
 
 use crate::numbered::Numbered;
@@ -24,12 +24,12 @@ pub struct Counts {
 
 impl Model for Counts {
     ghost use Rattle.std.specs.Prelude.{List};
-    ghost use Rattle.app_tally.specs.code.CountView.{entries_of, IsCounts};
+    ghost use Rattle.app_tally.specs.code.CountView.{numbered_lines, IsCounts};
     ghost use Rattle.app_tally.specs.Counts.{Entry};
 
     ghost Value = { List Entry };
 
-    ghost view = { λ c. entries_of c.lines c.times.items };
+    ghost view = { λ c. numbered_lines c.lines c.times.items };
 
     ghost invariant = { λ c. IsCounts c.lines c.times.items };
 }
@@ -38,7 +38,7 @@ impl Counts {
     /// The entries of these lines and numbers.
     fn of_parts(lines: Strings, times: Vec<u64>) -> Counts
         requires { IsCounts lines times.items }
-        ensures { result ≡ entries_of lines times.items }
+        ensures { result ≡ numbered_lines lines times.items }
     {
         Counts { lines, times }
     }
@@ -96,12 +96,12 @@ fn count_sorted(alloc: Global, sorted: &[Numbered<'_>]) -> Result<Counts, NoMemo
 /// Counts one more line, which is no less than those counted so far.
 fn count(lines: &mut Strings, times: &mut Vec<u64>, line: &[u8]) -> Result<(), NoMemory>
     requires counts { IsCounts lines.old times.old.items }
-    requires last { All (λ e. is_gt (by_bytes e.0 line.now) ≡ false) (entries_of lines.old times.old.items) }
-    requires room { All (λ e. e.1 + 1 < 2 ^ 64) (entries_of lines.old times.old.items) }
+    requires last { All (λ e. is_gt (by_bytes e.0 line.now) ≡ false) (numbered_lines lines.old times.old.items) }
+    requires room { All (λ e. e.1 + 1 < 2 ^ 64) (numbered_lines lines.old times.old.items) }
     requires short { length line.now ≤ 65_535 }
     ensures counts { OnOk result (IsCounts lines.new times.new.items) }
-    ensures counted { OnOk result (entries_of lines.new times.new.items
-        ≡ counted line.now (entries_of lines.old times.old.items)) }
+    ensures counted { OnOk result (numbered_lines lines.new times.new.items
+        ≡ with_line line.now (numbered_lines lines.old times.old.items)) }
 {
     if ends_with(lines, line) {
         one_more(times);

@@ -2,7 +2,7 @@
 
 ghost use Rattle.std.specs.Prelude.{◌<◌};
 ghost use Rattle.bale_types.specs.Out.{Writes};
-ghost use Rattle.app_tally.specs.Counts.{entry_text, tally_text};
+ghost use Rattle.app_tally.specs.Counts.{count_text, tally_text};
 
 use crate::counts::Counts;
 use bale_types::{Failed, Line, Out, Sink};
@@ -24,7 +24,7 @@ pub fn tally_write<K: Sink>(c: &Counts, out: &mut Out<'_, K>) -> Result<(), Fail
 
 /// Writes one entry.
 fn write_entry<K: Sink>(out: &mut Out<'_, K>, line: &[u8], times: u64) -> Result<(), Failed>
-    ensures { Writes K.taken K.faults (entry_text (line.now, times)) out.old out.new result }
+    ensures { Writes K.taken K.faults (count_text (line.now, times)) out.old out.new result }
 {
     let mut count = Line::new();
     count.number(times);

@@ -13,7 +13,7 @@ use Rattle.mtx_text.proofs.PlaceOrder.{pairs_head, pairs_tail}
 use Rattle.sparse_rows.proofs.Doubles.{one_if}
 use Rattle.sparse_rows.proofs.Gathering.{Differ}
 use Rattle.app_topo.specs.Triangular.{IsValid}
-use Rattle.app_topo.specs.Levels.{Claim, row_claims, col_claims, is_open, level, claims_after, is_complete}
+use Rattle.app_topo.specs.Levels.{Claim, row_claims, col_claims, is_open, level, claims_after, levels_complete}
 use Rattle.app_topo.proofs.Counting.{count_cons, count_append, found_by, counted, count_total, all_once, none_twice}
 use Rattle.app_topo.proofs.LevelFacts.{IsOpen, open_parts, open_from, IsReady, IsNext, level_next, next_column, rows_once, rows_below, cols_below, level_holds}
 use Rattle.app_topo.proofs.Printed.{Inside, Complete}
@@ -196,7 +196,7 @@ complete n es p q v inside once =
     row_total : (n : ℕ) (claims : List Claim) → ((i : ℕ) → i < n → row_claims i claims ≡ 1) → total n (λ i. row_claims i claims) ≡ n
     row_total n claims h = total_same n _ (λ _. 1) h ∙ total_const n 1 ∙ omega arith
 
-pub complete_from : (n : ℕ) (claims : List Claim) → Complete n claims → is_complete n claims ≡ true
+pub complete_from : (n : ℕ) (claims : List Claim) → Complete n claims → levels_complete n claims ≡ true
 complete_from n claims h =
     all_of (λ x. eqb (row_claims x claims) 1 && eqb (col_claims x claims) 1) (range_with_len 0 n) (λ k d l.
     let x : ℕ = get_or (range_with_len 0 n) k d in
@@ -209,5 +209,5 @@ complete_from n claims h =
     all_of p [] h = refl
     all_of p (x ∷ xs) h = and_from (p x) (list_all p xs) (All-head (λ x. p x ≡ true) x xs h) (all_of p xs (All-tail (λ x. p x ≡ true) x xs h))
 
-pub order_exists : (n : ℕ) (es : List Triple) (p q : ℕ → ℕ) → IsValid n es p q → Inside n es → AllPairs Differ es → is_complete n (claims_after n es n) ≡ true
+pub order_exists : (n : ℕ) (es : List Triple) (p q : ℕ → ℕ) → IsValid n es p q → Inside n es → AllPairs Differ es → levels_complete n (claims_after n es n) ≡ true
 order_exists n es p q v inside once = complete_from n (claims_after n es n) (complete n es p q v inside once)

@@ -8,7 +8,7 @@ use Rattle.std.proofs.lemmas.List.Sorted.{IsPermutation-reverse, sum_by-IsPermut
 use Rattle.bale_items.specs.declared.triple.Triple.{Triple}
 use Rattle.list_laws.proofs.Sums.{total_same, total_const}
 use Rattle.app_topo.specs.Triangular.{IsValid}
-use Rattle.app_topo.specs.Levels.{Claim, row_claims, col_claims, claims_after, is_complete, row_position, col_position}
+use Rattle.app_topo.specs.Levels.{Claim, row_claims, col_claims, claims_after, levels_complete, row_position, col_position}
 use Rattle.app_topo.proofs.Counting.{a_place, only_place, count_total}
 use Rattle.app_topo.proofs.LevelFacts.{AtEntry, rows_below, cols_below, at_entries, in_turn}
 
@@ -121,7 +121,7 @@ order_of n es t inside h =
           (far, omega arith, omega arith, ap (λ (c : Claim). c.1) (other ∙ sym same) ∙ eqb-true _ u.j at_it.2);
     }
 
-pub complete_parts : (n : ℕ) (claims : List Claim) → is_complete n claims ≡ true → Complete n claims
+pub complete_parts : (n : ℕ) (claims : List Claim) → levels_complete n claims ≡ true → Complete n claims
 complete_parts n claims h =
     record {
       rows = λ i low. (each i low).0;
@@ -142,6 +142,6 @@ complete_parts n claims h =
         (eqb-true _ 1 p.0, eqb-true _ 1 p.1)
 
 -- so the printed pair is valid
-pub printed : (n : ℕ) (es : List Triple) → Inside n es → is_complete n (claims_after n es n) ≡ true
+pub printed : (n : ℕ) (es : List Triple) → Inside n es → levels_complete n (claims_after n es n) ≡ true
     → IsValid n es (row_position (reverse (claims_after n es n))) (col_position (reverse (claims_after n es n)))
 printed n es inside h = valid_order n es (reverse (claims_after n es n)) inside (order_of n es n inside (complete_parts n (claims_after n es n) h))

@@ -11,15 +11,15 @@ use Rattle.std.proofs.lemmas.List.Sums.{sum_by-cons}
 use Rattle.bale_items.specs.declared.Item.{Item}
 use Rattle.list_laws.proofs.Lists.{get_once, within}
 use Rattle.mtx_text.specs.Sparse.{Sparse, IsSparse}
-use Rattle.mtx_text.specs.Cells.{raised_all, gathered}
-use Rattle.round_program.specs.Canonical.{absorbed_round, round_of, vote_sum, InRound}
+use Rattle.mtx_text.specs.Cells.{raised_all, gathered_cells}
+use Rattle.round_program.specs.Canonical.{absorbed_round, after_whole_round, vote_sum, InRound}
 use Rattle.round_program.proofs.Members.{absorbed_in}
 use Rattle.sparse_rows.specs.Deals.{dealt}
 use Rattle.sparse_rows.proofs.EveryEntry.{every_owned}
 use Rattle.sparse_rows.proofs.Starts.{made_at, made_from, round_made}
 use Rattle.app_topo.specs.declared.placed.Placed.{Placed}
 use Rattle.app_topo.specs.Levels.{Claim, col_claims}
-use Rattle.app_topo.specs.Topos.{TopoState, topo_rules, spot, number_at, falls_of, placed_in, next_outgoing, claims_of, own_rows, claimed_by}
+use Rattle.app_topo.specs.Topos.{TopoState, topo_rules, spot, number_at, falls_of, placed_in, topo_next_outgoing, claims_of, own_rows, claimed_by}
 use Rattle.app_topo.specs.laws.TopoLaws.{topo_laws, in_odd}
 use Rattle.app_topo.proofs.LevelFacts.{IsNext, level_next, next_free}
 use Rattle.app_topo.proofs.TopoTables.{table, table_at}
@@ -33,7 +33,7 @@ abbrev pub IsClaiming : ℕ → Sparse → ℕ → Type 0
 IsClaiming ranks m t = InRound topo_rules ranks (2 * t + 1) (m.rows ∷ []) (2 * m.rows + 2) (all_claiming ranks m t)
 
 -- what a rank has absorbed
-claims_absorbed : (ranks : ℕ) (m : Sparse) (t r : ℕ) → 0 < ranks → r < ranks → IsClaiming ranks m t
+pub claims_absorbed : (ranks : ℕ) (m : Sparse) (t r : ℕ) → 0 < ranks → r < ranks → IsClaiming ranks m t
     → slice_get (absorbed_round topo_rules (all_claiming ranks m t)) r ≡ Some (claims_all (claiming ranks m t r) (come_claims ranks m t r))
 claims_absorbed ranks m t r some low begun =
     let odd : (2 * t + 1) % 2 ≡ 1 = omega arith in
@@ -54,7 +54,7 @@ claims_are ranks m t r low square is =
     let came : List (ℕ × Item) = come_claims ranks m t r in
     let fresh : ℕ = (claims_all s came).fresh in
     let marks : raised_all [] (map (λ e. spot e.1.a 0) came) ≡ own_marks ranks m t r =
-    ap gathered (map-map (λ (e : ℕ × Item). spot e.1.a 0) (λ c. (claim_row ranks c, claim_item c)) (dealt (claim_column ranks) r (next m t))) in
+    ap gathered_cells (map-map (λ (e : ℕ × Item). spot e.1.a 0) (λ c. (claim_row ranks c, claim_item c)) (dealt (claim_column ranks) r (next m t))) in
     claims_parts s came
     ∙ ap (λ w. record s { counts = w; fresh = fresh; came = raised_all [] (map (λ e. spot e.1.a 0) came) }) (counts_after ranks m t r low square is)
     ∙ ap (λ w. record s { counts = table ranks r m.rows (λ j. col_claims j (claims m (suc t))); fresh = fresh; came = w }) marks
@@ -73,7 +73,7 @@ ends_freeing ranks m t r fresh votes small =
     map-map {C = Placed} (placed_in (2 * t + 1)) (λ c. (claim_column ranks c, claim_item c)) mine ∙ ap (λ q. map (λ (c : Claim). record { level = q; row = c.0; column = c.1 }) mine) half in
     let claimed : cond (u.round % 2 == 1) (u.claimed ++ map (placed_in (2 * t + 1)) u.outgoing) u.claimed ≡ end.claimed =
     ap (λ b. cond b (u.claimed ++ map (placed_in (2 * t + 1)) u.outgoing) u.claimed) (eq-eqb (u.round % 2) 1 odd) ∙ ap (λ w. u.claimed ++ w) placed in
-    let outgoing : next_outgoing u ≡ end.outgoing =
+    let outgoing : topo_next_outgoing u ≡ end.outgoing =
     in_odd u (claims_of ranks m.rows u.numbers u.sums (own_rows ranks r m.rows)) (cond (nat_lt u.round (2 ^ 64 - 1)) (falls_of ranks u.columns u.came) []) (claims_of ranks m.rows u.numbers u.sums (map (λ v. v.i) u.came)) nonzero odd
     ∙ ap (λ b. cond b (falls_of ranks u.columns u.came) []) (lt-ltb u.round (2 ^ 64 - 1) (omega arith))
     ∙ own_falls ranks m t r in
@@ -83,7 +83,7 @@ ends_freeing ranks m t r fresh votes small =
     ∙ ap (λ w. record (topo_rules.ended u votes) { round = 2 * t + 2; columns = u.columns; claimed = end.claimed; outgoing = w }) outgoing
 
 pub claim_round : (ranks : ℕ) (m : Sparse) (t : ℕ) → 0 < ranks → m.rows ≡ m.cols → IsSparse m → t ≤ 16384 → IsClaiming ranks m t
-    → round_of topo_rules (all_claiming ranks m t) ≡ map (freeing ranks m t) (range_with_len 0 ranks)
+    → after_whole_round topo_rules (all_claiming ranks m t) ≡ map (freeing ranks m t) (range_with_len 0 ranks)
 claim_round ranks m t some square is small begun =
     round_made topo_rules ranks (claiming ranks m t) (freeing ranks m t) (λ r votes low u at.
     ap (λ w. topo_rules.ended w votes)

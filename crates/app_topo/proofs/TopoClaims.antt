@@ -11,7 +11,7 @@ use Rattle.bale_items.specs.declared.triple.Triple.{Triple}
 use Rattle.list_laws.specs.Sums.{total}
 use Rattle.list_laws.proofs.Sums.{total_bound}
 use Rattle.mtx_text.specs.Sparse.{Sparse, IsSparse}
-use Rattle.mtx_text.specs.Cells.{is_before, InOrder, raised, raised_all, gathered}
+use Rattle.mtx_text.specs.Cells.{is_before, InOrder, with_value_raised, raised_all, gathered_cells}
 use Rattle.mtx_text.proofs.PlaceOrder.{pairs_head, pairs_tail, before_parts, place_cases}
 use Rattle.mtx_text.proofs.Raised.{greater, raised_first, raised_later, raised_here}
 use Rattle.mtx_text.proofs.Gathered.{gathered_ordered, gathered_all}
@@ -22,7 +22,7 @@ use Rattle.sparse_rows.proofs.Doubles.{one_if}
 use Rattle.sparse_rows.proofs.EveryEntry.{came_to}
 use Rattle.sparse_rows.proofs.Gathering.{row_of, pairs_filter, gathered_cons}
 use Rattle.app_topo.specs.Levels.{Claim, row_claims, col_claims}
-use Rattle.app_topo.specs.Topos.{TopoState, topo_rules, spot, to_fall, falls_of, entered, claimed_by, fallen}
+use Rattle.app_topo.specs.Topos.{TopoState, topo_rules, spot, to_fall, falls_of, after_entry, claimed_by, after_fall}
 use Rattle.app_topo.specs.laws.TopoLaws.{in_odd}
 use Rattle.app_topo.proofs.Counting.{count_cons, count_append, count_total, found_by}
 use Rattle.app_topo.proofs.LevelFacts.{rows_once, rows_below, cols_below}
@@ -37,7 +37,7 @@ claims_all s came = fold (λ u e. claimed_by u e.1) s came
 pub each_claimed : (s : TopoState) (came : List (ℕ × Item)) → s.round ≢ 0 → s.round % 2 ≡ 1 → absorb_each topo_rules s came ≡ claims_all s came
 each_claimed s [] n o = refl
 each_claimed s (e ∷ es) n o =
-    ap (λ u. absorb_each topo_rules u es) (in_odd s (entered s e.1) (claimed_by s e.1) (fallen s e.1) n o) ∙ each_claimed (claimed_by s e.1) es n o
+    ap (λ u. absorb_each topo_rules u es) (in_odd s (after_entry s e.1) (claimed_by s e.1) (after_fall s e.1) n o) ∙ each_claimed (claimed_by s e.1) es n o
 
 abbrev pub every : Item → Bool
 every x = true
@@ -189,7 +189,7 @@ falls_filter (c ∷ cs) cols order flat rise =
 
 -- ---- What is marked
 
-pub raised_count : (j : ℕ) (t : Triple) (cells : List Triple) → (count_by (λ c. c.i == j) (raised t cells) ≤ count_by (λ c. c.i == j) (t ∷ cells)) × (count_by (λ c. c.i == j) (t ∷ cells) ≤ 2 * count_by (λ c. c.i == j) (raised t cells))
+pub raised_count : (j : ℕ) (t : Triple) (cells : List Triple) → (count_by (λ c. c.i == j) (with_value_raised t cells) ≤ count_by (λ c. c.i == j) (t ∷ cells)) × (count_by (λ c. c.i == j) (t ∷ cells) ≤ 2 * count_by (λ c. c.i == j) (with_value_raised t cells))
 raised_count j t [] = (omega arith, omega arith)
 raised_count j t (c ∷ cs) =
     let p : Triple → Bool = λ c. eqb c.i j in
@@ -198,37 +198,37 @@ raised_count j t (c ∷ cs) =
     elim (place_cases c t) [
       | inl before ↦
           let r = raised_count j t cs in
-          let is : count_by p (raised t (c ∷ cs)) ≡ count_by p (c ∷ raised t cs) = ap (count_by p) (raised_later t c cs before) in
-          let split : count_by p (c ∷ raised t cs) ≡ one_if (p c) + count_by p (raised t cs) = count_cons p c (raised t cs) in
+          let is : count_by p (with_value_raised t (c ∷ cs)) ≡ count_by p (c ∷ with_value_raised t cs) = ap (count_by p) (raised_later t c cs before) in
+          let split : count_by p (c ∷ with_value_raised t cs) ≡ one_if (p c) + count_by p (with_value_raised t cs) = count_cons p c (with_value_raised t cs) in
           let given : count_by p (t ∷ cs) ≡ one_if (p t) + count_by p cs = count_cons p t cs in
           (omega (arith, whole, inner, is, split, given, r.0), omega (arith, whole, inner, is, split, given, r.1))
       | inr o ↦ elim o [
         | inl same ↦
-            let is : count_by p (raised t (c ∷ cs)) ≡ count_by p (greater c t ∷ cs) = ap (count_by p) (raised_here t c cs same.0 same.1) in
+            let is : count_by p (with_value_raised t (c ∷ cs)) ≡ count_by p (greater c t ∷ cs) = ap (count_by p) (raised_here t c cs same.0 same.1) in
             let split : count_by p (greater c t ∷ cs) ≡ one_if (p c) + count_by p cs = count_cons p (greater c t) cs in
             let alike : one_if (p t) ≡ one_if (p c) = ap (λ k. one_if (eqb k j)) (sym same.0) in
             (omega (arith, whole, inner, is, split, alike), omega (arith, whole, inner, is, split, alike))
         | inr after ↦
-            let is : count_by p (raised t (c ∷ cs)) ≡ count_by p (t ∷ c ∷ cs) = ap (count_by p) (raised_first t c cs after) in
+            let is : count_by p (with_value_raised t (c ∷ cs)) ≡ count_by p (t ∷ c ∷ cs) = ap (count_by p) (raised_first t c cs after) in
             (omega (arith, is), omega (arith, is))
       ]
     ]
 
-pub gathered_marks : (j : ℕ) (ts : List Triple) → (0 < count_by (λ c. c.i == j) ts → 0 < count_by (λ c. c.i == j) (gathered ts)) × (0 < count_by (λ c. c.i == j) (gathered ts) → 0 < count_by (λ c. c.i == j) ts)
+pub gathered_marks : (j : ℕ) (ts : List Triple) → (0 < count_by (λ c. c.i == j) ts → 0 < count_by (λ c. c.i == j) (gathered_cells ts)) × (0 < count_by (λ c. c.i == j) (gathered_cells ts) → 0 < count_by (λ c. c.i == j) ts)
 gathered_marks j [] = (λ h. h, λ h. h)
 gathered_marks j (t ∷ ts) =
     let p : Triple → Bool = λ c. eqb c.i j in
-    let is : count_by p (gathered (t ∷ ts)) ≡ count_by p (raised t (gathered ts)) = ap (count_by p) (gathered_cons t ts) in
-    let both = raised_count j t (gathered ts) in
-    let a : count_by p (t ∷ gathered ts) ≡ one_if (p t) + count_by p (gathered ts) = count_cons p t (gathered ts) in
+    let is : count_by p (gathered_cells (t ∷ ts)) ≡ count_by p (with_value_raised t (gathered_cells ts)) = ap (count_by p) (gathered_cons t ts) in
+    let both = raised_count j t (gathered_cells ts) in
+    let a : count_by p (t ∷ gathered_cells ts) ≡ one_if (p t) + count_by p (gathered_cells ts) = count_cons p t (gathered_cells ts) in
     let b : count_by p (t ∷ ts) ≡ one_if (p t) + count_by p ts = count_cons p t ts in
     let rest = gathered_marks j ts in
     elim (cases_eq (count_by p ts) 0) [
       | inl none ↦
-          let none_either : count_by p (gathered ts) ≡ 0 = elim (cases_eq (count_by p (gathered ts)) 0) [ inl z ↦ z | inr some ↦ (let s : 0 < count_by p ts = rest.1 (omega arith) in absurd (omega arith)) ] in
+          let none_either : count_by p (gathered_cells ts) ≡ 0 = elim (cases_eq (count_by p (gathered_cells ts)) 0) [ inl z ↦ z | inr some ↦ (let s : 0 < count_by p ts = rest.1 (omega arith) in absurd (omega arith)) ] in
           (λ h. omega (arith, is, both.1, a, b, h), λ h. omega (arith, is, both.0, a, b, h))
       | inr some ↦
-          let also : 0 < count_by p (gathered ts) = rest.0 (omega arith) in
+          let also : 0 < count_by p (gathered_cells ts) = rest.0 (omega arith) in
           (λ h. omega (arith, is, both.1, a), λ h. omega (arith, b))
     ]
 
@@ -268,7 +268,7 @@ flat_mapped g f (x ∷ xs) = ap (λ ys. map g (f x) ++ ys) (flat_mapped g f xs) 
 
 -- the marks of a rank
 abbrev pub own_marks : ℕ → Sparse → ℕ → ℕ → List Triple
-own_marks ranks m t r = gathered (map mark_of (dealt (claim_column ranks) r (next m t)))
+own_marks ranks m t r = gathered_cells (map mark_of (dealt (claim_column ranks) r (next m t)))
 
 own_marked : (ranks : ℕ) (m : Sparse) (t r j : ℕ) → j % ranks ≡ r → marked j (own_marks ranks m t r) ≡ is_freed m t j
 own_marked ranks m t r j own =

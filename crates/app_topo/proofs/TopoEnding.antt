@@ -15,7 +15,7 @@ use Rattle.bale_items.specs.declared.triple.Triple.{Triple}
 use Rattle.bale_items.specs.Bits.{twos_complement, from_twos_complement}
 use Rattle.list_laws.proofs.Lists.{get_once}
 use Rattle.mtx_text.specs.Sparse.{Sparse, IsSparse}
-use Rattle.mtx_text.specs.Cells.{is_before, InOrder, raised, raised_all, gathered}
+use Rattle.mtx_text.specs.Cells.{is_before, InOrder, with_value_raised, raised_all, gathered_cells}
 use Rattle.mtx_text.proofs.PlaceOrder.{pairs_head, pairs_tail, pairs_cons, pairs_none, row_before, column_before}
 use Rattle.mtx_text.proofs.Gathered.{gathered_permutes, gathered_itself}
 use Rattle.mtx_text.proofs.Shuffles.{range_more}
@@ -27,11 +27,11 @@ use Rattle.sparse_rows.proofs.Starts.{made_at}
 use Rattle.sparse_rows.proofs.Places.{place_below}
 use Rattle.sparse_rows.specs.Owners.{places_for}
 use Rattle.app_topo.specs.declared.placed.Placed.{Placed}
-use Rattle.app_topo.specs.Levels.{Claim, row_claims, col_claims, is_ready, claimed_column, is_complete, topo_order, row_position, col_position}
+use Rattle.app_topo.specs.Levels.{Claim, row_claims, col_claims, is_ready, claimed_column, levels_complete, topo_order, row_position, col_position}
 use Rattle.app_topo.specs.Triangular.{IsValid}
 use Rattle.app_topo.specs.Topos.{TopoState, number_at}
 use Rattle.app_topo.specs.TopoRuns.{TopoEnded}
-use Rattle.app_topo.specs.TopoEnds.{cell_of, place_of}
+use Rattle.app_topo.specs.TopoEnds.{cell_of_level, cell_place}
 use Rattle.app_topo.proofs.Counting.{all_once, count_total}
 use Rattle.app_topo.proofs.LevelFacts.{rows_below, rows_once}
 use Rattle.app_topo.proofs.Printed.{Inside, Complete, complete_size, complete_parts, printed}
@@ -54,14 +54,14 @@ level_cells m (suc t) = level_cells m t ++ map (level_cell t) (next m t)
 abbrev cell_owner : ℕ → Triple → ℕ
 cell_owner ranks u = u.j % ranks
 
-own_cells : (ranks : ℕ) (m : Sparse) (r t : ℕ) → map cell_of (placed_upto ranks m r t) ≡ dealt (cell_owner ranks) r (level_cells m t)
+own_cells : (ranks : ℕ) (m : Sparse) (r t : ℕ) → map cell_of_level (placed_upto ranks m r t) ≡ dealt (cell_owner ranks) r (level_cells m t)
 unfolding level_cells level_cell
 own_cells ranks m r zero = refl
 own_cells ranks m r (suc t) =
     let mine : List Claim = dealt (claim_row ranks) r (next m t) in
-    map-append cell_of (placed_upto ranks m r t) (map (λ c. record { level = t; row = c.0; column = c.1 }) mine)
+    map-append cell_of_level (placed_upto ranks m r t) (map (λ c. record { level = t; row = c.0; column = c.1 }) mine)
     ∙ ap₂ (λ a b. a ++ b) (own_cells ranks m r t)
-    (map-map cell_of (λ (c : Claim). record { level = t; row = c.0; column = c.1 }) mine ∙ sym (dealt_map (cell_owner ranks) r (level_cell t) (next m t)))
+    (map-map cell_of_level (λ (c : Claim). record { level = t; row = c.0; column = c.1 }) mine ∙ sym (dealt_map (cell_owner ranks) r (level_cell t) (next m t)))
     ∙ sym (filter-append (λ u. eqb (cell_owner ranks u) r) (level_cells m t) (map (level_cell t) (next m t)))
 
 -- they are in order
@@ -110,15 +110,15 @@ small_columns m (suc t) square is =
     let low : (get_or (next m t) k d).1 < m.rows = next_inside m t square is k d l in
     subst (λ w. w < 2 ^ 32) (sym (word_back (get_or (next m t) k d).1 (omega arith))) (omega arith)))
 
-cells_claims : (m : Sparse) (t : ℕ) → m.rows ≡ m.cols → IsSparse m → map place_of (level_cells m t) ≡ claims m t
+cells_claims : (m : Sparse) (t : ℕ) → m.rows ≡ m.cols → IsSparse m → map cell_place (level_cells m t) ≡ claims m t
 unfolding level_cells level_cell
 cells_claims m zero square is = refl
 cells_claims m (suc t) square is =
     let tall : m.rows ≤ 16384 = is.tall in
-    map-append place_of (level_cells m t) (map (level_cell t) (next m t))
+    map-append cell_place (level_cells m t) (map (level_cell t) (next m t))
     ∙ ap₂ (λ a b. a ++ b) (cells_claims m t square is)
-    (map-map place_of (level_cell t) (next m t)
-    ∙ same_map (λ c. place_of (level_cell t c)) (λ c. c) (next m t) (λ k d l.
+    (map-map cell_place (level_cell t) (next m t)
+    ∙ same_map (λ c. cell_place (level_cell t c)) (λ c. c) (next m t) (λ k d l.
     let low : (get_or (next m t) k d).1 < m.rows = next_inside m t square is k d l in
     ap (λ w. ((get_or (next m t) k d).0, w)) (word_back (get_or (next m t) k d).1 (omega arith)))
     ∙ same_list (next m t))
@@ -157,10 +157,10 @@ pub all_cells : Sparse → List Triple
 all_cells m = level_cells m (suc (last_level m).0)
 
 pub rank_cells : (m : Sparse) (ps : List TopoState) (h : TopoEnded m ps) (r : ℕ) (s : TopoState) → r < length ps → slice_get ps r ≡ Some s
-    → map cell_of s.claimed ≡ dealt (cell_owner (length ps)) r (all_cells m)
+    → map cell_of_level s.claimed ≡ dealt (cell_owner (length ps)) r (all_cells m)
 unfolding all_cells
 rank_cells m ps h r s low at =
-    ap (λ (t : TopoState). map cell_of t.claimed) (get_once ps r s _ at (ended_at m ps h r low)) ∙ own_cells (length ps) m r (suc (last_level m).0)
+    ap (λ (t : TopoState). map cell_of_level t.claimed) (get_once ps r s _ at (ended_at m ps h r low)) ∙ own_cells (length ps) m r (suc (last_level m).0)
 
 pub rank_levels : (m : Sparse) (ps : List TopoState) (h : TopoEnded m ps) (r : ℕ) (s : TopoState) → r < length ps → slice_get ps r ≡ Some s → All (λ (q : Placed). q.level < 2 ^ 32) s.claimed
 rank_levels m ps h r s low at =
@@ -178,7 +178,7 @@ rank_levels m ps h r s low at =
 
 -- the cells of the ranks below one
 abbrev pub upto_rank : ℕ → Sparse → ℕ → List Triple
-upto_rank ranks m n = gathered (flat_map (λ r. dealt (cell_owner ranks) r (all_cells m)) (range_with_len 0 n))
+upto_rank ranks m n = gathered_cells (flat_map (λ r. dealt (cell_owner ranks) r (all_cells m)) (range_with_len 0 n))
 
 pub ranks_more : (ranks : ℕ) (m : Sparse) (r : ℕ) (old new part : List Triple) → old ≡ upto_rank ranks m r → part ≡ dealt (cell_owner ranks) r (all_cells m) → new ≡ raised_all old part → new ≡ upto_rank ranks m (r + 1)
 ranks_more ranks m r old new part so_far is one =
@@ -186,8 +186,8 @@ ranks_more ranks m r old new part so_far is one =
     let more : parts (range_with_len 0 (r + 1)) ≡ parts (range_with_len 0 r) ++ dealt (cell_owner ranks) r (all_cells m) =
     ap parts (range_more r) ∙ flat_map-append (λ r. dealt (cell_owner ranks) r (all_cells m)) (range_with_len 0 r) (r ∷ [])
     ∙ ap (λ ys. parts (range_with_len 0 r) ++ ys) (append-nil (dealt (cell_owner ranks) r (all_cells m))) in
-    one ∙ ap (λ os. raised_all os part) so_far ∙ ap (raised_all (gathered (parts (range_with_len 0 r)))) is
-    ∙ sym (ap gathered more ∙ fold-append (λ cells t. raised t cells) [] (parts (range_with_len 0 r)) (dealt (cell_owner ranks) r (all_cells m)))
+    one ∙ ap (λ os. raised_all os part) so_far ∙ ap (raised_all (gathered_cells (parts (range_with_len 0 r)))) is
+    ∙ sym (ap gathered_cells more ∙ fold-append (λ cells t. with_value_raised t cells) [] (parts (range_with_len 0 r)) (dealt (cell_owner ranks) r (all_cells m)))
 
 whole : (m : Sparse) (ps : List TopoState) (h : TopoEnded m ps) (all : List Triple) (n : ℕ) → n ≡ length ps → all ≡ upto_rank (length ps) m n → all ≡ all_cells m
 unfolding all_cells
@@ -197,10 +197,10 @@ whole m ps h all n is so_far =
     ∙ gathered_permutes cells (flat_map (λ r. dealt (cell_owner (length ps)) r cells) (range_with_len 0 (length ps))) (hands_together (length ps) (cell_owner (length ps)) cells (λ k d l. mod-lt _ (some_ranks m ps h)))
     ∙ gathered_itself cells (cells_ordered m (suc (last_level m).0))
 
-pub whole_claims : (m : Sparse) (ps : List TopoState) (h : TopoEnded m ps) (all : List Triple) (n : ℕ) → n ≡ length ps → all ≡ upto_rank (length ps) m n → map place_of all ≡ claims m m.rows
+pub whole_claims : (m : Sparse) (ps : List TopoState) (h : TopoEnded m ps) (all : List Triple) (n : ℕ) → n ≡ length ps → all ≡ upto_rank (length ps) m n → map cell_place all ≡ claims m m.rows
 unfolding all_cells
 whole_claims m ps h all n is so_far =
-    ap (map place_of) (whole m ps h all n is so_far) ∙ cells_claims m (suc (last_level m).0) h.square h.matrix ∙ final_claims m (last_level m).0 (last_level m).1
+    ap (map cell_place) (whole m ps h all n is so_far) ∙ cells_claims m (suc (last_level m).0) h.square h.matrix ∙ final_claims m (last_level m).0 (last_level m).1
 
 pub whole_small : (m : Sparse) (ps : List TopoState) (h : TopoEnded m ps) (all : List Triple) (n : ℕ) → n ≡ length ps → all ≡ upto_rank (length ps) m n → All (λ u. twos_complement u.v < 2 ^ 32) all
 unfolding all_cells
@@ -248,16 +248,16 @@ once_broken p n j low broken =
 inside_of : (m : Sparse) → m.rows ≡ m.cols → IsSparse m → Inside m.rows m.entries
 inside_of m square is = record { row = λ k d l. (is.inside k d l).row; col = λ k d l. subst (λ n. (get_or m.entries k d).j < n) (sym square) (is.inside k d l).col }
 
-pub too_few : (m : Sparse) (placed : List Triple) → map place_of placed ≡ claims m m.rows → length placed ≢ m.rows → is_complete m.rows (claims m m.rows) ≡ false
+pub too_few : (m : Sparse) (placed : List Triple) → map cell_place placed ≡ claims m m.rows → length placed ≢ m.rows → levels_complete m.rows (claims m m.rows) ≡ false
 too_few m placed is few =
-    elim (cases_Bool (is_complete m.rows (claims m m.rows))) [
-      | inl whole ↦ absurd (few (sym (length-map placed place_of) ∙ ap length is ∙ complete_size m.rows (claims m m.rows) (rows_below m.rows m.entries m.rows) (complete_parts m.rows (claims m m.rows) whole)))
+    elim (cases_Bool (levels_complete m.rows (claims m m.rows))) [
+      | inl whole ↦ absurd (few (sym (length-map placed cell_place) ∙ ap length is ∙ complete_size m.rows (claims m m.rows) (rows_below m.rows m.entries m.rows) (complete_parts m.rows (claims m m.rows) whole)))
       | inr not_whole ↦ not_whole
     ]
 
-pub not_once : (m : Sparse) → list_all (λ j. col_claims j (claims m m.rows) == 1) (range_with_len 0 m.rows) ≡ false → is_complete m.rows (claims m m.rows) ≡ false
+pub not_once : (m : Sparse) → list_all (λ j. col_claims j (claims m m.rows) == 1) (range_with_len 0 m.rows) ≡ false → levels_complete m.rows (claims m m.rows) ≡ false
 not_once m broken =
-    elim (cases_Bool (is_complete m.rows (claims m m.rows))) [
+    elim (cases_Bool (levels_complete m.rows (claims m m.rows))) [
       | inl whole ↦
           let parts : Complete m.rows (claims m m.rows) = complete_parts m.rows (claims m m.rows) whole in
           let all : list_all (λ j. col_claims j (claims m m.rows) == 1) (range_with_len 0 m.rows) ≡ true =
@@ -269,26 +269,26 @@ not_once m broken =
       | inr not_whole ↦ not_whole
     ]
 
-pub complete_then : (m : Sparse) (placed : List Triple) → map place_of placed ≡ claims m m.rows → length placed ≡ m.rows → list_all (λ j. col_claims j (claims m m.rows) == 1) (range_with_len 0 m.rows) ≡ true
-    → is_complete m.rows (claims m m.rows) ≡ true
+pub complete_then : (m : Sparse) (placed : List Triple) → map cell_place placed ≡ claims m m.rows → length placed ≡ m.rows → list_all (λ j. col_claims j (claims m m.rows) == 1) (range_with_len 0 m.rows) ≡ true
+    → levels_complete m.rows (claims m m.rows) ≡ true
 complete_then m placed is enough cols =
-    let size : length (claims m m.rows) ≡ m.rows = ap length (sym is) ∙ length-map placed place_of ∙ enough in
+    let size : length (claims m m.rows) ≡ m.rows = ap length (sym is) ∙ length-map placed cell_place ∙ enough in
     let sum : total m.rows (λ i. row_claims i (claims m m.rows)) ≡ length (claims m m.rows) = count_total m.rows (λ (c : Claim). c.0) (claims m m.rows) (rows_below m.rows m.entries m.rows) in
     complete_from m.rows (claims m m.rows) (record {
       rows = all_once m.rows (λ i. row_claims i (claims m m.rows)) (λ i low. rows_once m.rows m.entries m.rows i) (omega (arith, sum, size));
       cols = λ j low. eqb-true (col_claims j (claims m m.rows)) 1 (in_all (λ j. eqb (col_claims j (claims m m.rows)) 1) m.rows j cols low);
     })
 
-pub order_none : (m : Sparse) → is_complete m.rows (claims m m.rows) ≡ false → None ≡ topo_order m.rows m.entries
+pub order_none : (m : Sparse) → levels_complete m.rows (claims m m.rows) ≡ false → None ≡ topo_order m.rows m.entries
 order_none m broken = ap (λ b. cond b (Some (reverse (claims m m.rows))) None) (sym broken)
 
-pub none_valid : (m : Sparse) (p q : ℕ → ℕ) → m.rows ≡ m.cols → IsSparse m → is_complete m.rows (claims m m.rows) ≡ false → IsValid m.rows m.entries p q → ⊥
-none_valid m p q square is broken v = (let whole : is_complete m.rows (claims m m.rows) ≡ true = order_exists m.rows m.entries p q v (inside_of m square is) is.once in absurd (cc))
+pub none_valid : (m : Sparse) (p q : ℕ → ℕ) → m.rows ≡ m.cols → IsSparse m → levels_complete m.rows (claims m m.rows) ≡ false → IsValid m.rows m.entries p q → ⊥
+none_valid m p q square is broken v = (let whole : levels_complete m.rows (claims m m.rows) ≡ true = order_exists m.rows m.entries p q v (inside_of m square is) is.once in absurd (cc))
 
-pub order_some : (m : Sparse) (placed : List Triple) (places : List Claim) → map place_of placed ≡ claims m m.rows → places ≡ reverse (map place_of placed) → is_complete m.rows (claims m m.rows) ≡ true → Some places ≡ topo_order m.rows m.entries
+pub order_some : (m : Sparse) (placed : List Triple) (places : List Claim) → map cell_place placed ≡ claims m m.rows → places ≡ reverse (map cell_place placed) → levels_complete m.rows (claims m m.rows) ≡ true → Some places ≡ topo_order m.rows m.entries
 order_some m placed places is back whole = ap Some (back ∙ ap reverse is) ∙ ap (λ b. cond b (Some (reverse (claims m m.rows))) None) (sym whole)
 
-pub order_valid : (m : Sparse) (placed : List Triple) (places : List Claim) → m.rows ≡ m.cols → IsSparse m → map place_of placed ≡ claims m m.rows → places ≡ reverse (map place_of placed) → is_complete m.rows (claims m m.rows) ≡ true
+pub order_valid : (m : Sparse) (placed : List Triple) (places : List Claim) → m.rows ≡ m.cols → IsSparse m → map cell_place placed ≡ claims m m.rows → places ≡ reverse (map cell_place placed) → levels_complete m.rows (claims m m.rows) ≡ true
     → IsValid m.rows m.entries (row_position places) (col_position places)
 order_valid m placed places square is same back whole =
     subst (λ o. IsValid m.rows m.entries (row_position o) (col_position o)) (sym (back ∙ ap reverse same)) (printed m.rows m.entries (inside_of m square is) whole)

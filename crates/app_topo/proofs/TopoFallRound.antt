@@ -10,11 +10,11 @@ use Rattle.bale_items.specs.declared.Item.{Item}
 use Rattle.bale_items.specs.declared.triple.Triple.{Triple}
 use Rattle.list_laws.proofs.Lists.{get_once}
 use Rattle.mtx_text.specs.Sparse.{Sparse, IsSparse}
-use Rattle.mtx_text.specs.Cells.{is_before, InOrder, raised}
+use Rattle.mtx_text.specs.Cells.{is_before, InOrder, with_value_raised}
 use Rattle.mtx_text.proofs.PlaceOrder.{pairs_none}
 use Rattle.mtx_text.proofs.Raised.{raised_ordered}
 use Rattle.mtx_text.proofs.Gathered.{raised_keeps}
-use Rattle.round_program.specs.Canonical.{absorbed_round, round_of, InRound}
+use Rattle.round_program.specs.Canonical.{absorbed_round, after_whole_round, InRound}
 use Rattle.round_program.specs.Orders.{absorb_each}
 use Rattle.sparse_rows.specs.Deals.{dealt}
 use Rattle.sparse_rows.specs.Owners.{places_for}
@@ -24,7 +24,7 @@ use Rattle.sparse_rows.proofs.Gathering.{row_of, pairs_map}
 use Rattle.sparse_rows.proofs.Places.{place_own, place_below}
 use Rattle.sparse_rows.proofs.Starts.{made_at, made_from, round_made}
 use Rattle.app_topo.specs.Levels.{Claim, row_claims, is_ready, claimed_column}
-use Rattle.app_topo.specs.Topos.{TopoState, topo_rules, spot, number_at, placed_in, next_outgoing, claims_of, falls_of, own_rows, entered, claimed_by, fallen}
+use Rattle.app_topo.specs.Topos.{TopoState, topo_rules, spot, number_at, placed_in, topo_next_outgoing, claims_of, falls_of, own_rows, after_entry, claimed_by, after_fall}
 use Rattle.app_topo.specs.laws.TopoLaws.{topo_laws, in_even, added_here, added_there, added_len}
 use Rattle.app_topo.proofs.Counting.{count_cons, count_append}
 use Rattle.app_topo.proofs.LevelFacts.{IsReady, ready_from}
@@ -36,39 +36,39 @@ use Rattle.app_topo.proofs.TopoFalls.{minus_one, minus_column, come_falls, falls
 use Rattle.app_topo.proofs.TopoReady.{Less, comes, claims_next, ready_where, claimed_closed, to_filter, in_range}
 
 abbrev falls_all : TopoState → List (ℕ × Item) → TopoState
-falls_all s came = fold (λ u e. fallen u e.1) s came
+falls_all s came = fold (λ u e. after_fall u e.1) s came
 
 each_fallen : (s : TopoState) (came : List (ℕ × Item)) → s.round ≢ 0 → s.round % 2 ≢ 1 → absorb_each topo_rules s came ≡ falls_all s came
 each_fallen s [] n o = refl
 each_fallen s (e ∷ es) n o =
-    ap (λ u. absorb_each topo_rules u es) (in_even s (entered s e.1) (claimed_by s e.1) (fallen s e.1) n o) ∙ each_fallen (fallen s e.1) es n o
+    ap (λ u. absorb_each topo_rules u es) (in_even s (after_entry s e.1) (claimed_by s e.1) (after_fall s e.1) n o) ∙ each_fallen (after_fall s e.1) es n o
 
 falls_parts : (s : TopoState) (came : List (ℕ × Item))
     → falls_all s came ≡ record s { numbers = added_all s.ranks every minus_one s.numbers came; sums = added_all s.ranks every minus_column s.sums came; came = (falls_all s came).came }
 falls_parts s [] = refl
-falls_parts s (e ∷ es) = falls_parts (fallen s e.1) es
+falls_parts s (e ∷ es) = falls_parts (after_fall s e.1) es
 
 -- ---- The rows whose number falls to 1
 
 abbrev has : ℕ → List Triple → ℕ
 has i cells = count_by (λ c. c.i == i) cells
 
-maybe_has : (i : ℕ) (b : Bool) (t : Triple) (cells : List Triple) → 0 < has i cells → 0 < has i (cond b (raised t cells) cells)
+maybe_has : (i : ℕ) (b : Bool) (t : Triple) (cells : List Triple) → 0 < has i cells → 0 < has i (cond b (with_value_raised t cells) cells)
 maybe_has i true t cells h =
     let c : has i (t ∷ cells) ≡ one_if (eqb t.i i) + has i cells = count_cons (λ c. eqb c.i i) t cells in
     omega (arith, c, (raised_count i t cells).1)
 maybe_has i false t cells h = h
 
-now_has : (i : ℕ) (b : Bool) (t : Triple) (cells : List Triple) → b ≡ true → t.i ≡ i → 0 < has i (cond b (raised t cells) cells)
+now_has : (i : ℕ) (b : Bool) (t : Triple) (cells : List Triple) → b ≡ true → t.i ≡ i → 0 < has i (cond b (with_value_raised t cells) cells)
 now_has i b t cells is same =
     let c : has i (t ∷ cells) ≡ one_if (eqb t.i i) + has i cells = count_cons (λ c. eqb c.i i) t cells in
     let one : one_if (eqb t.i i) ≡ 1 = ap one_if (eq-eqb t.i i same) in
-    let here : 0 < has i (raised t cells) = omega (arith, c, one, (raised_count i t cells).1) in
-    subst (λ q. 0 < has i (cond q (raised t cells) cells)) (sym is) here
+    let here : 0 < has i (with_value_raised t cells) = omega (arith, c, one, (raised_count i t cells).1) in
+    subst (λ q. 0 < has i (cond q (with_value_raised t cells) cells)) (sym is) here
 
 stays_marked : (i : ℕ) (s : TopoState) (es : List (ℕ × Item)) → 0 < has i s.came → 0 < has i (falls_all s es).came
 stays_marked i s [] h = h
-stays_marked i s (e ∷ es) h = stays_marked i (fallen s e.1) es (maybe_has i ((number_at s.ranks s.numbers e.1.a + (2 ^ 64 - 1)) % 2 ^ 64 == 1) (spot e.1.a 0) s.came h)
+stays_marked i s (e ∷ es) h = stays_marked i (after_fall s e.1) es (maybe_has i ((number_at s.ranks s.numbers e.1.a + (2 ^ 64 - 1)) % 2 ^ 64 == 1) (spot e.1.a 0) s.came h)
 
 abbrev times : ℕ → List (ℕ × Item) → ℕ
 times i es = count_by (λ e. e.1.a == i) es
@@ -79,7 +79,7 @@ unchanged i r n s (e ∷ es) own mine none =
     let c : times i (e ∷ es) ≡ one_if (eqb e.1.a i) + times i es = count_cons (λ e. eqb e.1.a i) e es in
     let here = All-head (IsFor s.ranks r n) e es own in
     let apart : e.1.a ≢ i = λ same. (let one : one_if (eqb e.1.a i) ≡ 1 = ap one_if (eq-eqb e.1.a i same) in omega arith) in
-    unchanged i r n (fallen s e.1) es (All-tail (IsFor s.ranks r n) e es own) mine (omega arith)
+    unchanged i r n (after_fall s e.1) es (All-tail (IsFor s.ranks r n) e es own) mine (omega arith)
     ∙ added_there s.ranks s.numbers e.1.a i (2 ^ 64 - 1) (λ place. apart (place_own s.ranks e.1.a i (here.0 ∙ sym mine) place))
 
 touched : (i r n : ℕ) (s : TopoState) (es : List (ℕ × Item)) → 0 < s.ranks → All (IsFor s.ranks r n) es → length s.numbers ≡ places_for s.ranks n → i % s.ranks ≡ r
@@ -90,14 +90,14 @@ touched i r n s (e ∷ es) some own size mine one came =
     let here = All-head (IsFor s.ranks r n) e es own in
     let rest = All-tail (IsFor s.ranks r n) e es own in
     elim (cases_lt 0 (times i es)) [
-      | inl later ↦ touched i r n (fallen s e.1) es some rest (added_len s.ranks s.numbers e.1.a (2 ^ 64 - 1) ∙ size) mine one later
+      | inl later ↦ touched i r n (after_fall s e.1) es some rest (added_len s.ranks s.numbers e.1.a (2 ^ 64 - 1) ∙ size) mine one later
       | inr never ↦
           let same : e.1.a ≡ i = elim (cases_eq e.1.a i) [ inl q ↦ q | inr q ↦ (let z : one_if (eqb e.1.a i) ≡ 0 = ap one_if (ne_eqb e.1.a i q) in absurd (omega arith)) ] in
           let place : e.1.a / s.ranks < length s.numbers = subst (λ k. e.1.a / s.ranks < k) (sym size) (place_below s.ranks n e.1.a some here.1) in
           let now : (number_at s.ranks s.numbers e.1.a + (2 ^ 64 - 1)) % 2 ^ 64 ≡ 1 =
           sym (added_here s.ranks s.numbers e.1.a i (2 ^ 64 - 1) (ap (λ k. k / s.ranks) same) place)
-          ∙ sym (unchanged i r n (fallen s e.1) es rest mine (omega arith)) ∙ one in
-          stays_marked i (fallen s e.1) es (now_has i ((number_at s.ranks s.numbers e.1.a + (2 ^ 64 - 1)) % 2 ^ 64 == 1) (spot e.1.a 0) s.came (eq-eqb _ 1 now) same)
+          ∙ sym (unchanged i r n (after_fall s e.1) es rest mine (omega arith)) ∙ one in
+          stays_marked i (after_fall s e.1) es (now_has i ((number_at s.ranks s.numbers e.1.a + (2 ^ 64 - 1)) % 2 ^ 64 == 1) (spot e.1.a 0) s.came (eq-eqb _ 1 now) same)
     ]
 
 -- what is marked are own rows, rising
@@ -106,7 +106,7 @@ record AreMarks (ranks r : ℕ) (cells : List Triple) : Type 0 where
   own : All (λ u. u.i % ranks ≡ r) cells
   flat : All (λ u. u.j ≡ 0) cells
 
-maybe_marks : (ranks r a : ℕ) (b : Bool) (cells : List Triple) → a % ranks ≡ r → AreMarks ranks r cells → AreMarks ranks r (cond b (raised (spot a 0) cells) cells)
+maybe_marks : (ranks r a : ℕ) (b : Bool) (cells : List Triple) → a % ranks ≡ r → AreMarks ranks r cells → AreMarks ranks r (cond b (with_value_raised (spot a 0) cells) cells)
 maybe_marks ranks r a true cells own h =
     record {
       ordered = raised_ordered (spot a 0) cells h.ordered;
@@ -118,7 +118,7 @@ maybe_marks ranks r a false cells own h = h
 are_marks : (r n : ℕ) (s : TopoState) (es : List (ℕ × Item)) → All (IsFor s.ranks r n) es → AreMarks s.ranks r s.came → AreMarks s.ranks r (falls_all s es).came
 are_marks r n s [] own h = h
 are_marks r n s (e ∷ es) own h =
-    are_marks r n (fallen s e.1) es (All-tail (IsFor s.ranks r n) e es own) (maybe_marks s.ranks r e.1.a ((number_at s.ranks s.numbers e.1.a + (2 ^ 64 - 1)) % 2 ^ 64 == 1) s.came (All-head (IsFor s.ranks r n) e es own).0 h)
+    are_marks r n (after_fall s e.1) es (All-tail (IsFor s.ranks r n) e es own) (maybe_marks s.ranks r e.1.a ((number_at s.ranks s.numbers e.1.a + (2 ^ 64 - 1)) % 2 ^ 64 == 1) s.came (All-head (IsFor s.ranks r n) e es own).0 h)
 
 -- ---- The round
 
@@ -199,7 +199,7 @@ ends_claiming ranks m t r votes some low square is small =
     let lost_it : 0 < lost m t i = lost_some m t i is inside one in
     let marked : 0 < has i marks = touched i r m.rows s came some (falls_own ranks m t r square is) (length-map-range_with_len (λ k. open_number m (claims m t) (k * ranks + r)) 0 (places_for ranks m.rows)) mine number (subst (λ k. 0 < k) (sym falls_of_it) lost_it) in
     subst (λ k. 0 < k) (sym (map_counts (λ y. eqb y i) (λ v. v.i) marks)) marked) in
-    let outgoing : next_outgoing u ≡ end.outgoing =
+    let outgoing : topo_next_outgoing u ≡ end.outgoing =
     in_even u (claims_of ranks m.rows u.numbers u.sums (own_rows ranks r m.rows)) (cond (nat_lt u.round (2 ^ 64 - 1)) (falls_of ranks u.columns u.came) []) (claims_of ranks m.rows u.numbers u.sums rows) nonzero even
     ∙ claims_next ranks m (suc t) r rows some square is up own all in
     ap (λ w. record (topo_rules.ended u votes) { round = w }) round
@@ -208,7 +208,7 @@ ends_claiming ranks m t r votes some low square is small =
     ∙ ap (λ w. record (topo_rules.ended u votes) { round = 2 * suc t + 1; columns = u.columns; claimed = u.claimed; outgoing = w }) outgoing
 
 pub fall_round : (ranks : ℕ) (m : Sparse) (t : ℕ) → 0 < ranks → m.rows ≡ m.cols → IsSparse m → t ≤ 16384 → IsFreeing ranks m t
-    → round_of topo_rules (map (freeing ranks m t) (range_with_len 0 ranks)) ≡ all_claiming ranks m (suc t)
+    → after_whole_round topo_rules (map (freeing ranks m t) (range_with_len 0 ranks)) ≡ all_claiming ranks m (suc t)
 fall_round ranks m t some square is small begun =
     round_made topo_rules ranks (freeing ranks m t) (claiming ranks m (suc t)) (λ r votes low u at.
     ap (λ w. topo_rules.ended w votes)

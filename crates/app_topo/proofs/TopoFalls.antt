@@ -9,7 +9,7 @@ use Rattle.std.proofs.lemmas.List.Sorted.{sum_by-IsPermutation}
 use Rattle.bale_items.specs.declared.Item.{Item}
 use Rattle.bale_items.specs.declared.triple.Triple.{Triple}
 use Rattle.mtx_text.specs.Sparse.{Sparse, IsSparse, IsEntry}
-use Rattle.mtx_text.specs.Cells.{gathered}
+use Rattle.mtx_text.specs.Cells.{gathered_cells}
 use Rattle.mtx_text.proofs.Gathered.{gathered_all}
 use Rattle.sparse_rows.specs.Deals.{dealt}
 use Rattle.sparse_rows.proofs.Doubles.{one_if}
@@ -111,7 +111,7 @@ lost_sum m t i f is =
     let flips : List Triple = map (λ t. spot t.j t.i) m.entries in
     let h : Triple → ℕ = λ u. cond (is_freed m t u.i) (cond (u.j == i) (f u) 0) 0 in
     filter_sum (λ u. is_freed m t u.i) (λ u. cond (u.j == i) (f u) 0) (by_column m)
-    ∙ sum_by-IsPermutation h flips (gathered flips) (gathered_moves flips (flip_differ m is))
+    ∙ sum_by-IsPermutation h flips (gathered_cells flips) (gathered_moves flips (flip_differ m is))
     ∙ map_sum h (λ t. spot t.j t.i) m.entries
     ∙ same_sum (λ e. h (spot e.j e.i)) (λ e. cond (e.i == i && is_freed m t e.j) (f (spot e.j e.i)) 0) m.entries (λ e. nested (is_freed m t e.j) (eqb e.i i) (f (spot e.j e.i)))
   where

@@ -12,17 +12,17 @@ use Rattle.bale_items.specs.declared.Item.{Item}
 use Rattle.bale_items.specs.declared.triple.Triple.{Triple}
 use Rattle.list_laws.proofs.Lists.{get_once}
 use Rattle.mtx_text.specs.Sparse.{Sparse, IsSparse}
-use Rattle.mtx_text.specs.Cells.{raised, raised_all}
-use Rattle.round_program.specs.Canonical.{absorbed_round, round_of}
+use Rattle.mtx_text.specs.Cells.{with_value_raised, raised_all}
+use Rattle.round_program.specs.Canonical.{absorbed_round, after_whole_round}
 use Rattle.round_program.specs.Orders.{absorb_each}
 use Rattle.sparse_rows.specs.Deals.{dealt}
-use Rattle.sparse_rows.specs.Owners.{Numbered, numbered, entry_owner, places_for}
+use Rattle.sparse_rows.specs.Owners.{Numbered, with_numbers, entry_owner, places_for}
 use Rattle.sparse_rows.proofs.EveryEntry.{came_to, every_owned}
 use Rattle.sparse_rows.proofs.Gathering.{row_of, pairs_map, gathered_dealt}
 use Rattle.sparse_rows.proofs.Places.{place_below}
 use Rattle.sparse_rows.proofs.Starts.{made_at, made_from, round_made}
 use Rattle.app_topo.specs.Levels.{is_open}
-use Rattle.app_topo.specs.Topos.{TopoState, topo_rules, spot, entered, claimed_by, fallen, own_rows, next_outgoing}
+use Rattle.app_topo.specs.Topos.{TopoState, topo_rules, spot, after_entry, claimed_by, after_fall, own_rows, topo_next_outgoing}
 use Rattle.app_topo.specs.laws.TopoLaws.{topo_laws, in_first}
 use Rattle.app_topo.specs.TopoRuns.{for_row, for_column, first_sent, topo_begins, topo_starts}
 use Rattle.app_topo.proofs.Counting.{counted}
@@ -76,11 +76,11 @@ emitted_both ranks f es =
 -- ---- What the absorbs leave
 
 abbrev entered_all : TopoState → List (ℕ × Item) → TopoState
-entered_all s came = fold (λ u e. entered u e.1) s came
+entered_all s came = fold (λ u e. after_entry u e.1) s came
 
 each_entered : (s : TopoState) (came : List (ℕ × Item)) → s.round ≡ 0 → absorb_each topo_rules s came ≡ entered_all s came
 each_entered s [] z = refl
-each_entered s (e ∷ es) z = ap (λ u. absorb_each topo_rules u es) (in_first s (entered s e.1) (claimed_by s e.1) (fallen s e.1) z) ∙ each_entered (entered s e.1) es z
+each_entered s (e ∷ es) z = ap (λ u. absorb_each topo_rules u es) (in_first s (after_entry s e.1) (claimed_by s e.1) (after_fall s e.1) z) ∙ each_entered (after_entry s e.1) es z
 
 abbrev is_row : Item → Bool
 is_row x = x.c == 0
@@ -89,15 +89,15 @@ abbrev its_column : Item → ℕ
 its_column x = x.b
 
 abbrev columns_all : List Triple → List (ℕ × Item) → List Triple
-columns_all cells came = fold (λ cs e. cond (e.1.c == 0) cs (raised (spot e.1.a e.1.b) cs)) cells came
+columns_all cells came = fold (λ cs e. cond (e.1.c == 0) cs (with_value_raised (spot e.1.a e.1.b) cs)) cells came
 
 entered_parts : (s : TopoState) (came : List (ℕ × Item))
     → entered_all s came ≡ record s { numbers = added_all s.ranks is_row one_each s.numbers came; sums = added_all s.ranks is_row its_column s.sums came; came = columns_all s.came came }
 entered_parts s [] = refl
-entered_parts s (e ∷ es) = entered_parts (entered s e.1) es
+entered_parts s (e ∷ es) = entered_parts (after_entry s e.1) es
 
 abbrev come_first : ℕ → Sparse → ℕ → List (ℕ × Item)
-come_first ranks m r = came_to (sent_from ranks) (λ w. (sent_item w).a % ranks) sent_item r (sent_list (numbered m.entries))
+come_first ranks m r = came_to (sent_from ranks) (λ w. (sent_item w).a % ranks) sent_item r (sent_list (with_numbers m.entries))
 
 -- the columns' entries
 columns_come : (ranks r n : ℕ) (es : List Triple) (cells : List Triple)
@@ -113,7 +113,7 @@ columns_come ranks r n (t ∷ ts) cells =
     ∙ (elim (cases_Bool (eqb (t.j % ranks) r)) [
       | inl here ↦
           ap (λ b. columns_all cells (came (cond b ((e, false) ∷ mine) mine))) here
-          ∙ columns_come ranks r (n + 1) ts (raised (spot t.j t.i) cells)
+          ∙ columns_come ranks r (n + 1) ts (with_value_raised (spot t.j t.i) cells)
           ∙ ap (λ b. raised_all cells (cond b (spot t.j t.i ∷ own) own)) (sym here)
       | inr away ↦
           ap (λ b. columns_all cells (came (cond b ((e, false) ∷ mine) mine))) away
@@ -148,9 +148,9 @@ rows_come i n amount ranks (t ∷ ts) =
 
 first_own : (ranks : ℕ) (m : Sparse) (r : ℕ) → m.rows ≡ m.cols → IsSparse m → All (IsFor ranks r m.rows) (come_first ranks m r)
 first_own ranks m r square is =
-    All-map (IsFor ranks r m.rows) (λ w. (sent_from ranks w, sent_item w)) (dealt (λ w. (sent_item w).a % ranks) r (sent_list (numbered m.entries))) (λ k d l. (
-      eqb-true _ r (filter_passes (λ w. eqb ((sent_item w).a % ranks) r) (sent_list (numbered m.entries)) k d l),
-      All-filter (λ w. eqb ((sent_item w).a % ranks) r) (λ w. (sent_item w).a < m.rows) (sent_list (numbered m.entries))
+    All-map (IsFor ranks r m.rows) (λ w. (sent_from ranks w, sent_item w)) (dealt (λ w. (sent_item w).a % ranks) r (sent_list (with_numbers m.entries))) (λ k d l. (
+      eqb-true _ r (filter_passes (λ w. eqb ((sent_item w).a % ranks) r) (sent_list (with_numbers m.entries)) k d l),
+      All-filter (λ w. eqb ((sent_item w).a % ranks) r) (λ w. (sent_item w).a < m.rows) (sent_list (with_numbers m.entries))
           (low m.rows 0 m.entries (λ k d l. ((is.inside k d l).row, subst (λ n. (get_or m.entries k d).j < n) (sym square) (is.inside k d l).col))) k d l,
     ))
   where
@@ -170,7 +170,7 @@ first_numbers : (ranks : ℕ) (m : Sparse) (r : ℕ) → r < ranks → m.rows �
 first_numbers ranks m r low square is =
     ap (λ ns. added_all ranks is_row one_each ns (come_first ranks m r)) (zeros_are ranks r m.rows)
     ∙ added_total ranks r m.rows is_row one_each (λ i. 0) (open_number m (claims m 0)) (come_first ranks m r) low (first_own ranks m r square is) (λ i own. omega arith) (λ i own.
-    let sum : sum_by (share is_row one_each i) (come_first ranks m r) ≡ open_number m [] i = came_share (sent_from ranks) sent_item is_row one_each ranks i r (sent_list (numbered m.entries)) own ∙ rows_come i 0 one_each ranks m.entries in
+    let sum : sum_by (share is_row one_each i) (come_first ranks m r) ≡ open_number m [] i = came_share (sent_from ranks) sent_item is_row one_each ranks i r (sent_list (with_numbers m.entries)) own ∙ rows_come i 0 one_each ranks m.entries in
     omega (arith, sum, number_small m [] i is))
 
 first_sums : (ranks : ℕ) (m : Sparse) (r : ℕ) → r < ranks → m.rows ≡ m.cols → IsSparse m
@@ -178,7 +178,7 @@ first_sums : (ranks : ℕ) (m : Sparse) (r : ℕ) → r < ranks → m.rows ≡ m
 first_sums ranks m r low square is =
     ap (λ ns. added_all ranks is_row its_column ns (come_first ranks m r)) (zeros_are ranks r m.rows)
     ∙ added_total ranks r m.rows is_row its_column (λ i. 0) (open_sum m (claims m 0)) (come_first ranks m r) low (first_own ranks m r square is) (λ i own. omega arith) (λ i own.
-    let sum : sum_by (share is_row its_column i) (come_first ranks m r) ≡ open_sum m [] i = came_share (sent_from ranks) sent_item is_row its_column ranks i r (sent_list (numbered m.entries)) own ∙ rows_come i 0 its_column ranks m.entries in
+    let sum : sum_by (share is_row its_column i) (come_first ranks m r) ≡ open_sum m [] i = came_share (sent_from ranks) sent_item is_row its_column ranks i r (sent_list (with_numbers m.entries)) own ∙ rows_come i 0 its_column ranks m.entries in
     omega (arith, sum, open_small m [] i is))
 
 first_columns : (ranks : ℕ) (m : Sparse) (r : ℕ) → IsSparse m → columns_all [] (come_first ranks m r) ≡ dealt (row_of ranks) r (by_column m)
@@ -219,18 +219,18 @@ first_are ranks m r low square is =
 ends_first : (ranks : ℕ) (m : Sparse) (r votes : ℕ) → 0 < ranks → r < ranks → m.rows ≡ m.cols → IsSparse m → topo_rules.ended (after_first ranks m r) votes ≡ claiming ranks m 0 r
 ends_first ranks m r votes some low square is =
     let u : TopoState = after_first ranks m r in
-    let outgoing : next_outgoing u ≡ (claiming ranks m 0 r).outgoing =
+    let outgoing : topo_next_outgoing u ≡ (claiming ranks m 0 r).outgoing =
     claims_next ranks m 0 r (own_rows ranks r m.rows) some square is (rows_up ranks r m.rows some) (rows_own ranks r m.rows low) (λ i own inside one. rows_all ranks r m.rows i some own inside) in
     ap (λ w. record (topo_rules.ended u votes) { outgoing = w }) outgoing
     ∙ ap (λ w. record (claiming ranks m 0 r) { counts = w }) (zeros_are ranks r m.rows)
 
-pub first_round : (ranks : ℕ) (m : Sparse) → 0 < ranks → m.rows ≡ m.cols → IsSparse m → round_of topo_rules (topo_starts ranks m) ≡ all_claiming ranks m 0
+pub first_round : (ranks : ℕ) (m : Sparse) → 0 < ranks → m.rows ≡ m.cols → IsSparse m → after_whole_round topo_rules (topo_starts ranks m) ≡ all_claiming ranks m 0
 first_round ranks m some square is =
     round_made topo_rules ranks (topo_begins ranks m) (claiming ranks m 0) (λ r votes low u at.
     let absorbed : slice_get (absorbed_round topo_rules (topo_starts ranks m)) r ≡ Some (absorb_each topo_rules (topo_begins ranks m r) (come_first ranks m r)) =
-    every_owned topo_rules topo_laws ranks 0 (m.rows ∷ []) (2 * m.rows + 2) (topo_starts ranks m) (sent_from ranks) (λ w. (sent_item w).a % ranks) sent_item (sent_list (numbered m.entries))
+    every_owned topo_rules topo_laws ranks 0 (m.rows ∷ []) (2 * m.rows + 2) (topo_starts ranks m) (sent_from ranks) (λ w. (sent_item w).a % ranks) sent_item (sent_list (with_numbers m.entries))
     (starts_in_round ranks m square is) (λ k d l. mod-lt _ some)
-    (λ f v here. ap topo_rules.emissions (sym (made_from (topo_begins ranks m) ranks f v here).1) ∙ emitted_both ranks f (numbered m.entries))
+    (λ f v here. ap topo_rules.emissions (sym (made_from (topo_begins ranks m) ranks f v here).1) ∙ emitted_both ranks f (with_numbers m.entries))
     r (topo_begins ranks m r) (made_at (topo_begins ranks m) ranks r low) in
     ap (λ w. topo_rules.ended w votes)
     (get_once (absorbed_round topo_rules (topo_starts ranks m)) r u _ at absorbed ∙ each_entered (topo_begins ranks m r) (come_first ranks m r) refl ∙ first_are ranks m r low square is)

@@ -12,7 +12,7 @@ use Rattle.sparse_rows.specs.Owners.{Numbered}
 use Rattle.app_topo.specs.declared.placed.Placed.{Placed}
 use Rattle.app_topo.specs.Topos.{claims_of, falls_of, to_fall, own_rows, sent_after, placed_in}
 use Rattle.app_topo.specs.TopoRuns.{first_sent}
-use Rattle.app_topo.specs.code.TopoSent.{for_both, to_other, sent_of}
+use Rattle.app_topo.specs.code.TopoSent.{for_both, to_other, topo_sent}
 
 -- ---- Round 0: two items for each entry
 
@@ -53,19 +53,19 @@ entry_more x part e old new so_far here one =
 
 -- ---- What is kept, as what is sent
 
-pub sent_first : (round ranks : ℕ) (kept : List Triple) → round ≡ 0 → sent_of round ranks kept ≡ flat_map (for_both ranks) kept
+pub sent_first : (round ranks : ℕ) (kept : List Triple) → round ≡ 0 → topo_sent round ranks kept ≡ flat_map (for_both ranks) kept
 sent_first round ranks kept z = ap (λ b. cond b (flat_map (for_both ranks) kept) (map (to_other ranks (3 - round % 2)) kept)) (eq-eqb round 0 z)
 
-pub sent_later : (round ranks : ℕ) (kept : List Triple) → round ≢ 0 → sent_of round ranks kept ≡ map (to_other ranks (3 - round % 2)) kept
+pub sent_later : (round ranks : ℕ) (kept : List Triple) → round ≢ 0 → topo_sent round ranks kept ≡ map (to_other ranks (3 - round % 2)) kept
 sent_later round ranks kept n = ap (λ b. cond b (flat_map (for_both ranks) kept) (map (to_other ranks (3 - round % 2)) kept)) (ne_eqb round 0 n)
 
-pub sent_claims : (round ranks : ℕ) (kept : List Triple) → round % 2 ≡ 1 → sent_of round ranks kept ≡ map (to_other ranks 2) kept
+pub sent_claims : (round ranks : ℕ) (kept : List Triple) → round % 2 ≡ 1 → topo_sent round ranks kept ≡ map (to_other ranks 2) kept
 sent_claims round ranks kept o = sent_later round ranks kept (λ z. absurd (omega arith)) ∙ ap (λ k. map (to_other ranks (3 - k)) kept) o
 
-pub sent_falls : (round ranks : ℕ) (kept : List Triple) → round ≢ 0 → round % 2 ≡ 0 → sent_of round ranks kept ≡ map (to_other ranks 3) kept
+pub sent_falls : (round ranks : ℕ) (kept : List Triple) → round ≢ 0 → round % 2 ≡ 0 → topo_sent round ranks kept ≡ map (to_other ranks 3) kept
 sent_falls round ranks kept n e = sent_later round ranks kept n ∙ ap (λ k. map (to_other ranks (3 - k)) kept) e
 
-pub count_first : (round ranks n : ℕ) (kept : List Triple) → round ≡ 0 → n ≡ length kept → 2 * n ≡ length (sent_of round ranks kept)
+pub count_first : (round ranks n : ℕ) (kept : List Triple) → round ≡ 0 → n ≡ length kept → 2 * n ≡ length (topo_sent round ranks kept)
 count_first round ranks n kept z e = ap (λ m. 2 * m) e ∙ sym (both_len ranks kept) ∙ ap length (sym (sent_first round ranks kept z))
 
 -- ---- What is kept after a round, as what is sent next
@@ -80,18 +80,18 @@ odd_is : {X : Type 0} (round : ℕ) (a b c : X) → round % 2 ≡ 1 → cond (ro
 odd_is round a b c o = ap (λ t. cond t a (cond (round % 2 == 1) b c)) (ne_eqb round 0 (λ z. absurd (omega arith))) ∙ ap (λ t. cond t b c) (eq-eqb (round % 2) 1 o)
 
 pub next_falls : (round rank ranks size : ℕ) (numbers sums : List ℕ) (columns came kept : List Triple) → round % 2 ≡ 1 → round < 2 ^ 64 - 1 → kept ≡ flat_map (λ c. filter (λ u. u.i == c.i) columns) came
-    → sent_of (min (round + 1) (2 ^ 64 - 1)) ranks kept ≡ sent_after round rank ranks size numbers sums columns came
+    → topo_sent (min (round + 1) (2 ^ 64 - 1)) ranks kept ≡ sent_after round rank ranks size numbers sums columns came
 next_falls round rank ranks size numbers sums columns came kept o low h =
     sent_falls (min (round + 1) (2 ^ 64 - 1)) ranks kept (omega arith) (omega arith) ∙ ap (map (to_other ranks 3)) h ∙ falls_map ranks columns came
     ∙ sym (ap (λ b. cond b (falls_of ranks columns came) []) (lt-ltb round (2 ^ 64 - 1) low))
     ∙ sym (odd_is round (claims_of ranks size numbers sums (own_rows ranks rank size)) (cond (nat_lt round (2 ^ 64 - 1)) (falls_of ranks columns came) []) (claims_of ranks size numbers sums (map (λ u. u.i) came)) o)
 
 -- of what is kept after a round
-pub sent_then : (round next ranks : ℕ) (kept old : List Triple) (sent : List (ℕ × Item)) → next ≡ round → kept ≡ old → sent_of round ranks old ≡ sent → sent_of next ranks kept ≡ sent
-sent_then round next ranks kept old sent r k is = ap (sent_of next ranks) k ∙ ap (λ n. sent_of n ranks old) r ∙ is
+pub sent_then : (round next ranks : ℕ) (kept old : List Triple) (sent : List (ℕ × Item)) → next ≡ round → kept ≡ old → topo_sent round ranks old ≡ sent → topo_sent next ranks kept ≡ sent
+sent_then round next ranks kept old sent r k is = ap (topo_sent next ranks) k ∙ ap (λ n. topo_sent n ranks old) r ∙ is
 
 -- the rows that claim, as they are kept and as they are sent
-pub placed_is : (round ranks : ℕ) (kept : List Triple) → round % 2 ≡ 1 → map (placed_in round) (sent_of round ranks kept) ≡ map (λ u. record { level = (round - 1) / 2; row = u.i; column = u.j }) kept
+pub placed_is : (round ranks : ℕ) (kept : List Triple) → round % 2 ≡ 1 → map (placed_in round) (topo_sent round ranks kept) ≡ map (λ u. record { level = (round - 1) / 2; row = u.i; column = u.j }) kept
 placed_is round ranks kept o = ap (map (placed_in round)) (sent_claims round ranks kept o) ∙ each kept
   where
     each : (kept : List Triple) → map (placed_in round) (map (to_other ranks 2) kept) ≡ map (λ u. record { level = (round - 1) / 2; row = u.i; column = u.j }) kept

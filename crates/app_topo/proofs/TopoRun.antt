@@ -4,7 +4,7 @@ use Rattle.std.specs.List.{range_with_len}
 use Rattle.std.proofs.lemmas.Bool.{cases_eq, eq-eqb, ne_eqb}
 use Rattle.std.proofs.lemmas.List.{length-append}
 use Rattle.mtx_text.specs.Sparse.{Sparse, IsSparse}
-use Rattle.round_program.specs.Canonical.{absorbed_round, round_of, states_at, votes_at, vote_sum, HasRounds, EndsWithin, InRound}
+use Rattle.round_program.specs.Canonical.{absorbed_round, after_whole_round, states_at, votes_at, vote_sum, HasRounds, EndsWithin, InRound}
 use Rattle.round_program.proofs.Members.{rounds_once, in_round}
 use Rattle.app_topo.specs.Levels.{level}
 use Rattle.app_topo.specs.Topos.{TopoState, topo_rules}
@@ -24,13 +24,13 @@ at_claims ranks m (suc t) some square is small =
     let starts : List TopoState = topo_starts ranks m in
     let before : states_at topo_rules starts (2 * t + 1) ≡ all_claiming ranks m t = at_claims ranks m t some square is (omega arith) in
     let begun : IsClaiming ranks m t = subst (InRound topo_rules ranks (2 * t + 1) (m.rows ∷ []) (2 * m.rows + 2)) before (in_round topo_rules topo_laws ranks (m.rows ∷ []) (2 * m.rows + 2) starts (2 * t + 1) (starts_in_round ranks m square is) (omega arith)) in
-    let middle : states_at topo_rules starts (suc (2 * t + 1)) ≡ map (freeing ranks m t) (range_with_len 0 ranks) = ap (round_of topo_rules) before ∙ claim_round ranks m t some square is (omega arith) begun in
+    let middle : states_at topo_rules starts (suc (2 * t + 1)) ≡ map (freeing ranks m t) (range_with_len 0 ranks) = ap (after_whole_round topo_rules) before ∙ claim_round ranks m t some square is (omega arith) begun in
     let two : suc (2 * t + 1) ≡ 2 * t + 2 = omega arith in
     let three : 2 * suc t + 1 ≡ suc (suc (2 * t + 1)) = omega arith in
     let then_begun : IsFreeing ranks m t =
     subst (InRound topo_rules ranks (2 * t + 2) (m.rows ∷ []) (2 * m.rows + 2)) (ap (states_at topo_rules starts) (sym two) ∙ middle)
     (in_round topo_rules topo_laws ranks (m.rows ∷ []) (2 * m.rows + 2) starts (2 * t + 2) (starts_in_round ranks m square is) (omega arith)) in
-    ap (states_at topo_rules starts) three ∙ ap (round_of topo_rules) middle ∙ fall_round ranks m t some square is (omega arith) then_begun
+    ap (states_at topo_rules starts) three ∙ ap (after_whole_round topo_rules) middle ∙ fall_round ranks m t some square is (omega arith) then_begun
 
 begun_at : (ranks : ℕ) (m : Sparse) (t : ℕ) → 0 < ranks → m.rows ≡ m.cols → IsSparse m → t ≤ 16384 → IsClaiming ranks m t
 begun_at ranks m t some square is small =
@@ -40,7 +40,7 @@ begun_at ranks m t some square is small =
 pub at_freeing : (ranks : ℕ) (m : Sparse) (t : ℕ) → 0 < ranks → m.rows ≡ m.cols → IsSparse m → t ≤ 16384 → states_at topo_rules (topo_starts ranks m) (2 * t + 2) ≡ map (freeing ranks m t) (range_with_len 0 ranks)
 at_freeing ranks m t some square is small =
     let two : 2 * t + 2 ≡ suc (2 * t + 1) = omega arith in
-    ap (states_at topo_rules (topo_starts ranks m)) two ∙ ap (round_of topo_rules) (at_claims ranks m t some square is small) ∙ claim_round ranks m t some square is small (begun_at ranks m t some square is small)
+    ap (states_at topo_rules (topo_starts ranks m)) two ∙ ap (after_whole_round topo_rules) (at_claims ranks m t some square is small) ∙ claim_round ranks m t some square is small (begun_at ranks m t some square is small)
 
 -- ---- The last level
 

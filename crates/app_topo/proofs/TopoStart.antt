@@ -11,9 +11,9 @@ use Rattle.mtx_text.specs.Sparse.{Sparse, IsSparse}
 use Rattle.mtx_text.specs.Cells.{is_before}
 use Rattle.mtx_text.proofs.PlaceOrder.{pairs_none}
 use Rattle.round_program.specs.Canonical.{InRound}
-use Rattle.sparse_rows.specs.Owners.{Numbered, numbered, own_entries, row_owner, column_owner, places_for}
+use Rattle.sparse_rows.specs.Owners.{Numbered, with_numbers, own_entries, row_owner, column_owner, places_for}
 use Rattle.sparse_rows.proofs.Starts.{made_in_round, all_numbered}
-use Rattle.app_topo.specs.Topos.{TopoState, IsTopo, IsInside, topo_rules, may_topo}
+use Rattle.app_topo.specs.Topos.{TopoState, IsTopo, AreInside, topo_rules, may_topo}
 use Rattle.app_topo.specs.TopoRuns.{first_sent, for_row, for_column, topo_begins, topo_starts}
 
 -- what an entry sends fits
@@ -44,12 +44,12 @@ begins_valid ranks m r low square is =
       sum_places = length-replicate (places_for ranks m.rows) 0;
       count_places = length-replicate (places_for ranks m.rows) 0;
       few = lit< tt;
-      inside = All-nil (IsInside m.rows);
+      inside = All-nil (AreInside m.rows);
       sorted = pairs_none (λ t u. is_before t u ≡ true);
-      came_inside = All-nil (IsInside m.rows);
+      came_inside = All-nil (AreInside m.rows);
       ordered = pairs_none (λ t u. is_before t u ≡ true);
       fit = sent_fits m.rows ranks r (own_entries ranks r m.entries) low is.tall
-          (All-filter (λ (e : Numbered). e.0 % ranks == r) (λ (e : Numbered). (e.1.i < m.rows) × (e.1.j < m.rows)) (numbered m.entries)
+          (All-filter (λ (e : Numbered). e.0 % ranks == r) (λ (e : Numbered). (e.1.i < m.rows) × (e.1.j < m.rows)) (with_numbers m.entries)
           (all_numbered (λ (t : Triple). (t.i < m.rows) × (t.j < m.rows)) 0 m.entries (λ k d l. ((is.inside k d l).row, subst (λ n. (get_or m.entries k d).j < n) (sym square) (is.inside k d l).col))));
     }
 

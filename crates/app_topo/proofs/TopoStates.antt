@@ -5,7 +5,7 @@ use Rattle.std.specs.List.{filter}
 use Rattle.bale_items.specs.declared.Item.{Item}
 use Rattle.bale_items.specs.declared.triple.Triple.{Triple}
 use Rattle.mtx_text.specs.Sparse.{Sparse}
-use Rattle.mtx_text.specs.Cells.{gathered}
+use Rattle.mtx_text.specs.Cells.{gathered_cells}
 use Rattle.sparse_rows.specs.Deals.{dealt}
 use Rattle.sparse_rows.proofs.Gathering.{row_of}
 use Rattle.app_topo.specs.declared.placed.Placed.{Placed}
@@ -22,7 +22,7 @@ next m t = level m.rows m.entries (claims m t)
 
 -- the entries by column and row
 abbrev pub by_column : Sparse → List Triple
-by_column m = gathered (map (λ t. spot t.j t.i) m.entries)
+by_column m = gathered_cells (map (λ t. spot t.j t.i) m.entries)
 
 -- the open entries of row i: how many, and their columns together
 abbrev pub open_number : Sparse → List Claim → ℕ → ℕ

@@ -2,21 +2,21 @@
 use Rattle.std.proofs.Common.{ℕ, ◌+◌, ◌-◌, ◌/◌, ◌^◌, ◌<◌, ◌≡◌, ◌==◌, min, Bool, true, false, cond, List, [], length, get_or, All, arith, sym, ap, ◌∙◌, subst, lit<}
 use Rattle.bale_items.specs.declared.Item.{Item}
 use Rattle.bale_items.specs.declared.triple.Triple.{Triple}
-use Rattle.mtx_text.specs.Cells.{InOrder, raised}
+use Rattle.mtx_text.specs.Cells.{InOrder, with_value_raised}
 use Rattle.mtx_text.proofs.Raised.{raised_ordered}
 use Rattle.sparse_rows.specs.Owners.{places_for}
 use Rattle.sparse_rows.proofs.Places.{place_below}
 use Rattle.app_topo.specs.declared.placed.Placed.{Placed}
-use Rattle.app_topo.specs.Topos.{TopoState, IsTopo, IsInside, topo_rules, spot, sent_after, next_outgoing}
-use Rattle.app_topo.specs.laws.TopoLaws.{IsOwn, topo_laws, raised_in}
+use Rattle.app_topo.specs.Topos.{TopoState, IsTopo, AreInside, topo_rules, spot, sent_after, topo_next_outgoing}
+use Rattle.app_topo.specs.laws.TopoLaws.{IsOwnItem, topo_laws, raised_in}
 
 -- a number has a place
-pub own_place : (s : TopoState) (x : Item) → IsTopo s → IsOwn s.size s.ranks s.rank x → x.a / s.ranks < places_for s.ranks s.size
+pub own_place : (s : TopoState) (x : Item) → IsTopo s → IsOwnItem s.size s.ranks s.rank x → x.a / s.ranks < places_for s.ranks s.size
 own_place s x v o = (let own : s.rank < s.ranks = v.own in place_below s.ranks s.size x.a (omega arith) o.a_low)
 
 -- a rank whose lists keep their lengths, and to which something may have come
 pub kept_valid : (s : TopoState) (numbers sums counts : List ℕ) (fresh : ℕ) (b : Bool) (t : Triple) (came : List Triple) → IsTopo s
-    → length numbers ≡ length s.numbers → length sums ≡ length s.sums → length counts ≡ length s.counts → fresh < 2 ^ 32 → IsInside s.size t → came ≡ cond b (raised t s.came) s.came
+    → length numbers ≡ length s.numbers → length sums ≡ length s.sums → length counts ≡ length s.counts → fresh < 2 ^ 32 → AreInside s.size t → came ≡ cond b (with_value_raised t s.came) s.came
     → IsTopo (record s { numbers = numbers; sums = sums; counts = counts; fresh = fresh; came = came })
 kept_valid s numbers sums counts fresh b t came v n m c few inside is =
     record {
@@ -28,20 +28,20 @@ kept_valid s numbers sums counts fresh b t came v n m c few inside is =
       few = few;
       inside = v.inside;
       sorted = v.sorted;
-      came_inside = subst (All (IsInside s.size)) (sym is) (in_either b);
+      came_inside = subst (All (AreInside s.size)) (sym is) (in_either b);
       ordered = subst InOrder (sym is) (order_either b);
       fit = v.fit;
     }
   where
-    in_either : (b : Bool) → All (IsInside s.size) (cond b (raised t s.came) s.came)
+    in_either : (b : Bool) → All (AreInside s.size) (cond b (with_value_raised t s.came) s.came)
     in_either true = raised_in s.size t s.came inside v.came_inside
     in_either false = v.came_inside
 
-    order_either : (b : Bool) → InOrder (cond b (raised t s.came) s.came)
+    order_either : (b : Bool) → InOrder (cond b (with_value_raised t s.came) s.came)
     order_either true = raised_ordered t s.came v.ordered
     order_either false = v.ordered
 
-pub at_one : (s : TopoState) (x : Item) → IsOwn s.size s.ranks s.rank x → IsInside s.size (spot x.a 0)
+pub at_one : (s : TopoState) (x : Item) → IsOwnItem s.size s.ranks s.rank x → AreInside s.size (spot x.a 0)
 at_one s x o = (let low : x.a < s.size = o.a_low in (o.a_low, omega arith))
 
 pub fresh_low : (b : Bool) (fresh new : ℕ) → fresh < 2 ^ 32 → new ≡ cond b (min (fresh + 1) (2 ^ 32 - 1)) fresh → new < 2 ^ 32
@@ -64,12 +64,12 @@ pub ended_valid : (s : TopoState) (round : ℕ) (columns came : List Triple) (cl
     → IsTopo (record s { round = round; columns = columns; claimed = claimed; fresh = 0; came = came; outgoing = outgoing })
 ended_valid s round columns came claimed outgoing numbers sums old_columns old_came v r c k n m oc ok o =
     let next : IsTopo (topo_rules.ended s 0) = (topo_laws.next s 0 v (lit< tt)).valid in
-    let is : outgoing ≡ next_outgoing s =
+    let is : outgoing ≡ topo_next_outgoing s =
     o ∙ ap (λ w. sent_after s.round s.rank s.ranks s.size w sums old_columns old_came) n
     ∙ ap (λ w. sent_after s.round s.rank s.ranks s.size s.numbers w old_columns old_came) m
     ∙ ap (λ w. sent_after s.round s.rank s.ranks s.size s.numbers s.sums w old_came) oc
     ∙ ap (λ w. sent_after s.round s.rank s.ranks s.size s.numbers s.sums s.columns w) ok in
-    let any : IsTopo (record s { round = min (s.round + 1) (2 ^ 64 - 1); columns = cond (s.round == 0) s.came s.columns; claimed = claimed; fresh = 0; came = []; outgoing = next_outgoing s }) =
+    let any : IsTopo (record s { round = min (s.round + 1) (2 ^ 64 - 1); columns = cond (s.round == 0) s.came s.columns; claimed = claimed; fresh = 0; came = []; outgoing = topo_next_outgoing s }) =
     record {
       own = next.own;
       wide = next.wide;

@@ -12,7 +12,7 @@ use Rattle.sparse_rows.specs.Owners.{places_for}
 use Rattle.sparse_rows.specs.Deals.{dealt}
 use Rattle.sparse_rows.proofs.EveryEntry.{came_to, same_map}
 use Rattle.sparse_rows.proofs.Places.{place_below}
-use Rattle.app_topo.specs.Topos.{added, number_at}
+use Rattle.app_topo.specs.Topos.{with_rise, number_at}
 
 -- own numbers by a function: that of x stands at x div ranks
 abbrev pub table : ℕ → ℕ → ℕ → (ℕ → ℕ) → List ℕ
@@ -33,18 +33,18 @@ table_same ranks r n f g low h =
 raised_at : ℕ → ℕ → (ℕ → ℕ) → ℕ → ℕ
 raised_at a b f i = cond (eqb i a) ((f i + b) % 2 ^ 64) (f i)
 
-added_table : (ranks r n a b : ℕ) (f : ℕ → ℕ) → r < ranks → a % ranks ≡ r → a < n → added ranks (table ranks r n f) a b ≡ table ranks r n (raised_at a b f)
+added_table : (ranks r n a b : ℕ) (f : ℕ → ℕ) → r < ranks → a % ranks ≡ r → a < n → with_rise ranks (table ranks r n f) a b ≡ table ranks r n (raised_at a b f)
 unfolding raised_at
 added_table ranks r n a b f low own inside =
     let old : List ℕ = table ranks r n f in
     let size : length old ≡ places_for ranks n = length-map-range_with_len (λ k. f (k * ranks + r)) 0 (places_for ranks n) in
     let place : a / ranks < places_for ranks n = place_below ranks n a (omega arith) inside in
     let whole : a / ranks * ranks + r ≡ a = ap (λ k. a / ranks * ranks + k) (sym own) ∙ div-add-mod' a ranks in
-    fill_by_all (λ k. raised_at a b f (k * ranks + r)) (added ranks old a b) (places_for ranks n) 0 (changed_len old (a / ranks) 0 (λ v. (v + b) % 2 ^ 64) ∙ size) (λ k l.
+    fill_by_all (λ k. raised_at a b f (k * ranks + r)) (with_rise ranks old a b) (places_for ranks n) 0 (changed_len old (a / ranks) 0 (λ v. (v + b) % 2 ^ 64) ∙ size) (λ k l.
     elim (cases_eq (a / ranks) k) [
       | inl here ↦
           let at_it : k * ranks + r ≡ a = ap (λ q. q * ranks + r) (sym here) ∙ whole in
-          ap (λ q. get_or (added ranks old a b) q 0) (sym here)
+          ap (λ q. get_or (with_rise ranks old a b) q 0) (sym here)
           ∙ (get_or-set_same old (a / ranks) ((get_or old (a / ranks) 0 + b) % 2 ^ 64) 0 (subst (λ q. a / ranks < q) (sym size) place)
           ∙ ap (λ v. (v + b) % 2 ^ 64) (table_get ranks r n (a / ranks) 0 f place ∙ ap (λ q. f (q * ranks + r)) here)
           ∙ sym (ap (λ t. cond t ((f (k * ranks + r) + b) % 2 ^ 64) (f (k * ranks + r))) (eq-eqb (k * ranks + r) a at_it)))
@@ -58,7 +58,7 @@ added_table ranks r n a b f low own inside =
 -- ---- All that came
 
 abbrev pub added_all : ℕ → (Item → Bool) → (Item → ℕ) → List ℕ → List (ℕ × Item) → List ℕ
-added_all ranks chosen amount numbers came = fold (λ ns e. cond (chosen e.1) (added ranks ns e.1.a (amount e.1)) ns) numbers came
+added_all ranks chosen amount numbers came = fold (λ ns e. cond (chosen e.1) (with_rise ranks ns e.1.a (amount e.1)) ns) numbers came
 
 -- what an item adds at i
 abbrev pub share : (Item → Bool) → (Item → ℕ) → ℕ → ℕ × Item → ℕ
@@ -87,7 +87,7 @@ added_total ranks r n chosen amount f g (e ∷ es) low own word is =
     elim (cases_Bool (chosen e.1)) [
       | inl used ↦
           let f2 : ℕ → ℕ = raised_at e.1.a (amount e.1) f in
-          ap (λ c. added_all ranks chosen amount (cond c (added ranks (table ranks r n f) e.1.a (amount e.1)) (table ranks r n f)) es) used
+          ap (λ c. added_all ranks chosen amount (cond c (with_rise ranks (table ranks r n f) e.1.a (amount e.1)) (table ranks r n f)) es) used
           ∙ ap (λ ns. added_all ranks chosen amount ns es) (added_table ranks r n e.1.a (amount e.1) f low here.0 here.1)
           ∙ added_total ranks r n chosen amount f2 g es low rest (λ i mine. raised_word e.1.a (amount e.1) i f (word i mine)) (λ i mine.
           let given : g i ≡ (f i + sum_by (share chosen amount i) (e ∷ es)) % 2 ^ 64 = is i mine in
@@ -103,7 +103,7 @@ added_total ranks r n chosen amount f g (e ∷ es) low own word is =
                 given ∙ omega (arith, s, mark, part)
           ])
       | inr unused ↦
-          ap (λ c. added_all ranks chosen amount (cond c (added ranks (table ranks r n f) e.1.a (amount e.1)) (table ranks r n f)) es) unused
+          ap (λ c. added_all ranks chosen amount (cond c (with_rise ranks (table ranks r n f) e.1.a (amount e.1)) (table ranks r n f)) es) unused
           ∙ added_total ranks r n chosen amount f g es low rest word (λ i mine.
           let given : g i ≡ (f i + sum_by (share chosen amount i) (e ∷ es)) % 2 ^ 64 = is i mine in
           let s : sum_by (share chosen amount i) (e ∷ es) ≡ share chosen amount i e + sum_by (share chosen amount i) es = cons i in

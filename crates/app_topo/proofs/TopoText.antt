@@ -4,7 +4,7 @@ use Rattle.std.specs.List.{flat_map, enumerate_from}
 use Rattle.std.proofs.lemmas.Option.{get_or_from_slice_get}
 use Rattle.std.proofs.lemmas.List.{take_more, take_all}
 use Rattle.std.proofs.lemmas.List.Concat.{flat_map-append}
-use Rattle.bale_types.specs.Stream.{after, IsFront}
+use Rattle.bale_types.specs.Stream.{taken_with, IsTakenPrefix}
 use Rattle.bale_types.proofs.Moves.{after-after, front_in_loop}
 use Rattle.list_laws.proofs.Lists.{within}
 use Rattle.app_topo.specs.Levels.{Claim}
@@ -35,7 +35,7 @@ at_position order x c at = (let place : 0 + x ≡ x = omega arith in numbered_ge
 
 -- one line more
 pub lines_more : (order : List Claim) (x : ℕ) (c : Claim) (new mid old : Option (List ℕ)) → slice_get order x ≡ Some c
-    → new ≡ after mid (topo_line x c) → mid ≡ after old (flat_map position_line (take x (positions order))) → new ≡ after old (flat_map position_line (take (x + 1) (positions order)))
+    → new ≡ taken_with mid (topo_line x c) → mid ≡ taken_with old (flat_map position_line (take x (positions order))) → new ≡ taken_with old (flat_map position_line (take (x + 1) (positions order)))
 lines_more order x c new mid old at step so_far =
     let ts : List (ℕ × Claim) = positions order in
     let here : slice_get ts x ≡ Some (x, c) = at_position order x c at in
@@ -44,20 +44,20 @@ lines_more order x c new mid old at step so_far =
     ap (λ l. flat_map position_line (take x ts) ++ l) (sym (append-nil (topo_line x c)))
     ∙ sym (flat_map-append position_line (take x ts) ((x, c) ∷ []))
     ∙ ap (flat_map position_line) (sym longer) in
-    step ∙ ap (λ o. after o (topo_line x c)) so_far ∙ after-after old (flat_map position_line (take x ts)) (topo_line x c) ∙ ap (after old) whole
+    step ∙ ap (λ o. taken_with o (topo_line x c)) so_far ∙ after-after old (flat_map position_line (take x ts)) (topo_line x c) ∙ ap (taken_with old) whole
 
 -- the line that failed
 pub front_at : (order : List Claim) (x : ℕ) (c : Claim) (taken mid old : Option (List ℕ)) → slice_get order x ≡ Some c
-    → IsFront taken (after mid (topo_line x c)) → mid ≡ after old (flat_map position_line (take x (positions order))) → IsFront taken (after old (flat_map position_line (positions order)))
+    → IsTakenPrefix taken (taken_with mid (topo_line x c)) → mid ≡ taken_with old (flat_map position_line (take x (positions order))) → IsTakenPrefix taken (taken_with old (flat_map position_line (positions order)))
 front_at order x c taken mid old at front so_far =
     let ts : List (ℕ × Claim) = positions order in
     let here : slice_get ts x ≡ Some (x, c) = at_position order x c at in
     front_in_loop position_line taken mid old ts x (x, c) (within ts x (x, c) here) so_far
-    (subst (λ e. IsFront taken (after mid (position_line e))) (sym (get_or_from_slice_get ts x (x, c) (x, c) here)) front)
+    (subst (λ e. IsTakenPrefix taken (taken_with mid (position_line e))) (sym (get_or_from_slice_get ts x (x, c) (x, c) here)) front)
 
 -- all lines
-pub lines_all : (order : List Claim) (x : ℕ) (old : Option (List ℕ)) → length order ≤ x → after old (flat_map position_line (take x (positions order))) ≡ after old (flat_map position_line (positions order))
-lines_all order x old far = ap (λ ts. after old (flat_map position_line ts)) (take_all x (positions order) (subst (λ k. k ≤ x) (sym (count 0 order)) far))
+pub lines_all : (order : List Claim) (x : ℕ) (old : Option (List ℕ)) → length order ≤ x → taken_with old (flat_map position_line (take x (positions order))) ≡ taken_with old (flat_map position_line (positions order))
+lines_all order x old far = ap (λ ts. taken_with old (flat_map position_line ts)) (take_all x (positions order) (subst (λ k. k ≤ x) (sym (count 0 order)) far))
   where
     count : (n : ℕ) (xs : List Claim) → length (enumerate_from n xs) ≡ length xs
     count n [] = refl

@@ -48,16 +48,17 @@ claims_after n entries zero = []
 claims_after n entries (suc t) = claims_after n entries t ++ level n entries (claims_after n entries t)
 
 -- Every row of n has a level, and every column exactly one claim.
-abbrev pub is_complete : ℕ → List Claim → Bool
-is_complete n claims = list_all (λ x. row_claims x claims == 1 && col_claims x claims == 1) (range_with_len 0 n)
+abbrev pub levels_complete : ℕ → List Claim → Bool
+levels_complete n claims = list_all (λ x. row_claims x claims == 1 && col_claims x claims == 1) (range_with_len 0 n)
 
--- The order of a square matrix: at position 0 the row and the column that were claimed last, at the
--- last position those that were claimed first; none where some row has no level or some column not
--- exactly one claim.
--- of the entries above: (0,0), (2,2), (1,1); of (0,0), (0,1), (1,0), (1,1): none
+-- The order of a square matrix: all claims in reverse, so later levels first, and within a level
+-- the greater row first; none where some row has no level or some column not exactly one claim. n
+-- levels suffice, since each that isn't empty gives some row its level. In this order the matrix is
+-- upper triangular with a full diagonal.
+-- of the entries of open_columns: (0,0), (2,2), (1,1); of (0,0), (0,1), (1,0), (1,1): none
 abbrev pub topo_order : ℕ → List Triple → Option (List Claim)
 topo_order n entries =
-    if is_complete n (claims_after n entries n) then Some (reverse (claims_after n entries n)) else None
+    if levels_complete n (claims_after n entries n) then Some (reverse (claims_after n entries n)) else None
 
 -- The position of a row, and of a column.
 abbrev pub row_position : List Claim → ℕ → ℕ

@@ -8,7 +8,7 @@ use Rattle.bale_items.specs.declared.Item.{Item}
 use Rattle.bale_items.specs.declared.triple.Triple.{Triple}
 use Rattle.list_laws.specs.Lists.{changed_at}
 use Rattle.app_topo.specs.declared.placed.Placed.{Placed}
-use Rattle.mtx_text.specs.Cells.{InOrder, raised}
+use Rattle.mtx_text.specs.Cells.{InOrder, with_value_raised}
 use Rattle.round_program.specs.Rules.{Rules}
 use Rattle.round_program.specs.Laws.{is_item}
 use Rattle.sparse_rows.specs.Owners.{places_for}
@@ -43,8 +43,8 @@ abbrev pub spot : ℕ → ℕ → Triple
 spot a b = record { i = a; j = b; v = pos 0 }
 
 -- the number at x rises by b, modulo 2^64
-abbrev pub added : ℕ → List ℕ → ℕ → ℕ → List ℕ
-added ranks numbers x b = changed_at numbers (x / ranks) 0 (λ v. (v + b) % 2 ^ 64)
+abbrev pub with_rise : ℕ → List ℕ → ℕ → ℕ → List ℕ
+with_rise ranks numbers x b = changed_at numbers (x / ranks) 0 (λ v. (v + b) % 2 ^ 64)
 
 -- the number at x
 abbrev pub number_at : ℕ → List ℕ → ℕ → ℕ
@@ -85,36 +85,36 @@ sent_after round rank ranks size numbers sums columns came =
     else if round % 2 == 1 then if nat_lt round (2 ^ 64 - 1) then falls_of ranks columns came else []
     else claims_of ranks size numbers sums (map (λ u. u.i) came)
 
-abbrev pub next_outgoing : TopoState → List (ℕ × Item)
-next_outgoing s = sent_after s.round s.rank s.ranks s.size s.numbers s.sums s.columns s.came
+abbrev pub topo_next_outgoing : TopoState → List (ℕ × Item)
+topo_next_outgoing s = sent_after s.round s.rank s.ranks s.size s.numbers s.sums s.columns s.came
 
 -- ---- What is absorbed
 
 -- round 0: row a has an entry in column b, or column a has one in row b
-abbrev pub entered : TopoState → Item → TopoState
-entered s x =
+abbrev pub after_entry : TopoState → Item → TopoState
+after_entry s x =
     record s {
-      numbers = if x.c == 0 then added s.ranks s.numbers x.a 1 else s.numbers;
-      sums = if x.c == 0 then added s.ranks s.sums x.a x.b else s.sums;
-      came = if x.c == 0 then s.came else raised (spot x.a x.b) s.came;
+      numbers = if x.c == 0 then with_rise s.ranks s.numbers x.a 1 else s.numbers;
+      sums = if x.c == 0 then with_rise s.ranks s.sums x.a x.b else s.sums;
+      came = if x.c == 0 then s.came else with_value_raised (spot x.a x.b) s.came;
     }
 
 -- odd rounds: a row claims column a
 abbrev pub claimed_by : TopoState → Item → TopoState
 claimed_by s x =
     record s {
-      counts = added s.ranks s.counts x.a 1;
+      counts = with_rise s.ranks s.counts x.a 1;
       fresh = if number_at s.ranks s.counts x.a == 0 then min (s.fresh + 1) (2 ^ 32 - 1) else s.fresh;
-      came = raised (spot x.a 0) s.came;
+      came = with_value_raised (spot x.a 0) s.came;
     }
 
 -- later even rounds: row a has an entry less, that in column b
-abbrev pub fallen : TopoState → Item → TopoState
-fallen s x =
+abbrev pub after_fall : TopoState → Item → TopoState
+after_fall s x =
     record s {
-      numbers = added s.ranks s.numbers x.a (2 ^ 64 - 1);
-      sums = added s.ranks s.sums x.a (2 ^ 64 - x.b);
-      came = if (number_at s.ranks s.numbers x.a + (2 ^ 64 - 1)) % 2 ^ 64 == 1 then raised (spot x.a 0) s.came
+      numbers = with_rise s.ranks s.numbers x.a (2 ^ 64 - 1);
+      sums = with_rise s.ranks s.sums x.a (2 ^ 64 - x.b);
+      came = if (number_at s.ranks s.numbers x.a + (2 ^ 64 - 1)) % 2 ^ 64 == 1 then with_value_raised (spot x.a 0) s.came
           else s.came;
     }
 
@@ -129,8 +129,8 @@ may_topo shape ranks round to from x = false
 -- ---- The rank
 
 -- both numbers of what is kept lie inside
-abbrev pub IsInside : ℕ → Triple → Type 0
-IsInside size u = (u.i < size) × (u.j < size)
+abbrev pub AreInside : ℕ → Triple → Type 0
+AreInside size u = (u.i < size) × (u.j < size)
 
 pub record IsTopo (s : TopoState) : Type 0 where
   pub own : s.rank < s.ranks
@@ -139,9 +139,9 @@ pub record IsTopo (s : TopoState) : Type 0 where
   pub sum_places : length s.sums ≡ places_for s.ranks s.size
   pub count_places : length s.counts ≡ places_for s.ranks s.size
   pub few : s.fresh < 2 ^ 32
-  pub inside : All (IsInside s.size) s.columns
+  pub inside : All (AreInside s.size) s.columns
   pub sorted : InOrder s.columns
-  pub came_inside : All (IsInside s.size) s.came
+  pub came_inside : All (AreInside s.size) s.came
   pub ordered : InOrder s.came
   pub fit : All (λ e. may_topo (s.size ∷ []) s.ranks s.round e.0 s.rank e.1 ≡ true) s.outgoing
 
@@ -160,8 +160,8 @@ topo_rules =
       most = λ s. 2 * s.size + 2;
       emissions = λ s. s.outgoing;
       may_be_sent = may_topo;
-      absorbed = λ s from x. if s.round == 0 then entered s x else if s.round % 2 == 1 then claimed_by s x
-          else fallen s x;
+      absorbed = λ s from x. if s.round == 0 then after_entry s x else if s.round % 2 == 1 then claimed_by s x
+          else after_fall s x;
       vote = λ s. s.fresh;
       goes_on = λ shape round votes. round % 2 == 0 || not (votes == 0);
       ended = λ s votes. record s {
@@ -170,6 +170,6 @@ topo_rules =
         claimed = if s.round % 2 == 1 then s.claimed ++ map (placed_in s.round) s.outgoing else s.claimed;
         fresh = 0;
         came = [];
-        outgoing = next_outgoing s;
+        outgoing = topo_next_outgoing s;
       };
     }

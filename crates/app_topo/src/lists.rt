@@ -5,7 +5,7 @@ ghost use Rattle.std.specs.List.{All, filter, flat_map};
 ghost use Rattle.bale_items.specs.declared.triple.Triple.{Triple};
 ghost use Rattle.mtx_text.specs.Cells.{InOrder};
 ghost use Rattle.app_topo.specs.Topos.{claims_of, sent_after, own_rows, placed_in};
-ghost use Rattle.app_topo.specs.code.TopoSent.{sent_of, to_other};
+ghost use Rattle.app_topo.specs.code.TopoSent.{topo_sent, to_other};
 ghost use Rattle.app_topo.specs.code.TopoPlaces.{IsCounted, AreCounted};
 
 use crate::marks::number_at;
@@ -136,7 +136,7 @@ pub(crate) fn put_next(
     requires counted { AreCounted ranks rank size numbers.now sums.now }
     requires placed { All (λ u. (u.i / ranks < length numbers.now) × (u.i / ranks < length sums.now)) came.now }
     requires ordered { InOrder columns.now }
-    ensures { OnOk result (sent_of (min (round + 1) (2 ^ 64 - 1)) ranks outgoing.new.items
+    ensures { OnOk result (topo_sent (min (round + 1) (2 ^ 64 - 1)) ranks outgoing.new.items
         ≡ sent_after round rank ranks size numbers.now sums.now columns.now came.now) }
 {
     if round == 0 {
@@ -161,7 +161,7 @@ pub(crate) fn keep_claims(
     outgoing: &[Triple],
 ) -> Result<(), NoMemory>
     ensures { (ranks : ℕ) → OnOk result (claimed.new.items ≡ (if round % 2 == 1
-        then claimed.old.items ++ map (placed_in round) (sent_of round ranks outgoing.now) else claimed.old.items)) }
+        then claimed.old.items ++ map (placed_in round) (topo_sent round ranks outgoing.now) else claimed.old.items)) }
 {
     if round % 2 == 1 {
         place_all(claimed, (round - 1) / 2, outgoing)?;

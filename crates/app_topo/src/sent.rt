@@ -4,7 +4,7 @@
 ghost use Rattle.std.specs.Prelude.{◌≡◌, ◌<◌, ◌-◌, ◌%◌, ℕ, Some, length, map, slice_get, slice_index_or};
 ghost use Rattle.std.specs.List.{flat_map};
 ghost use Rattle.round_program.specs.Handing.{MayHandOver, HandsUpTo};
-ghost use Rattle.app_topo.specs.code.TopoSent.{for_both, sent_of, to_other};
+ghost use Rattle.app_topo.specs.code.TopoSent.{for_both, topo_sent, to_other};
 
 use bale_items::{Item, Triple};
 use round_program::Departures;
@@ -12,7 +12,7 @@ use round_program::Departures;
 /// How many items are sent in a round.
 #[inline(always)]
 pub(crate) fn count_of(kept: &Vec<Triple>, round: u64) -> u64
-    ensures { (ranks : ℕ) → result ≡ length (sent_of round ranks kept.now.items) }
+    ensures { (ranks : ℕ) → result ≡ length (topo_sent round ranks kept.now.items) }
 {
     if round == 0 {
         return 2 * kept.len() as u64;
@@ -31,8 +31,8 @@ pub(crate) fn emit_kept<D: Departures>(
     out: &mut D,
 ) -> u64
     requires some { 0 < ranks }
-    requires may { MayHandOver (D.may out.old) (sent_of round ranks kept.now.items) from }
-    ensures { HandsUpTo D.hands (sent_of round ranks kept.now.items) from result out.old out.new }
+    requires may { MayHandOver (D.may out.old) (topo_sent round ranks kept.now.items) from }
+    ensures { HandsUpTo D.hands (topo_sent round ranks kept.now.items) from result out.old out.new }
 {
     let count = count_of(kept, round);
     let mut next = from;
@@ -50,8 +50,8 @@ pub(crate) fn emit_kept<D: Departures>(
 #[inline(always)]
 pub(crate) fn emission_of(kept: &Vec<Triple>, round: u64, ranks: u32, i: u64) -> (u32, Item)
     requires some { 0 < ranks }
-    requires within { i < length (sent_of round ranks kept.now.items) }
-    ensures { slice_get (sent_of round ranks kept.now.items) i ≡ Some result }
+    requires within { i < length (topo_sent round ranks kept.now.items) }
+    ensures { slice_get (topo_sent round ranks kept.now.items) i ≡ Some result }
 {
     if round == 0 {
         return first_emission(kept, ranks, i);

@@ -3,10 +3,10 @@
 ghost use Rattle.bale_items.specs.Changes.{AllOrNothing};
 ghost use Rattle.std.specs.Prelude.{◌≡◌, ◌≢◌, ◌<◌, ℕ, [], OnOk, OnErr};
 ghost use Rattle.round_program.specs.Batches.{taken_in};
-ghost use Rattle.app_topo.specs.Topos.{IsTopo, topo_rules, entered, claimed_by, fallen};
-ghost use Rattle.app_topo.specs.code.TopoSeats.{IsSeat, TakesIn};
-ghost use Rattle.app_topo.specs.code.TopoSent.{sent_of};
-ghost use Rattle.app_topo.specs.laws.TopoLaws.{IsOwn};
+ghost use Rattle.app_topo.specs.Topos.{IsTopo, topo_rules, after_entry, claimed_by, after_fall};
+ghost use Rattle.app_topo.specs.code.TopoSeats.{IsTopoSeat, TopoTakesIn};
+ghost use Rattle.app_topo.specs.code.TopoSent.{topo_sent};
+ghost use Rattle.app_topo.specs.laws.TopoLaws.{IsOwnItem};
 
 use crate::lists::{keep_claims, put_columns, put_next};
 use crate::marks::{add, fresh_after, lessen, mark, mark_if, number_at};
@@ -98,7 +98,7 @@ impl Topo {
           claimed = [];
           fresh = 0;
           came = [];
-          outgoing = sent_of 0 ranks begins.outgoing.items;
+          outgoing = topo_sent 0 ranks begins.outgoing.items;
         }) }
         ensures { result ≡ record {
           rank = rank;
@@ -112,7 +112,7 @@ impl Topo {
           claimed = [];
           fresh = 0;
           came = [];
-          outgoing = sent_of 0 ranks begins.outgoing.items;
+          outgoing = topo_sent 0 ranks begins.outgoing.items;
         } }
     {
         Topo {
@@ -150,7 +150,7 @@ impl Topo {
 
     /// Which items this rank may be sent in its round.
     fn seat(&self) -> Seat
-        ensures { IsSeat result self.now }
+        ensures { IsTopoSeat result self.now }
     {
         Seat {
             rank: self.rank,
@@ -163,8 +163,8 @@ impl Topo {
     /// Takes in an item of a rank, where it fits.
     #[inline(always)]
     fn take_in(&mut self, seat: Seat, from: u32, item: Item) -> Result<(), NoMemory>
-        requires { IsSeat seat self.old }
-        ensures { TakesIn (taken_in topo_rules self.old from item) seat self.old self.new result }
+        requires { IsTopoSeat seat self.old }
+        ensures { TopoTakesIn (taken_in topo_rules self.old from item) seat self.old self.new result }
     {
         if seat.round == 0 {
             return self.take_in_entry(seat, from, item);
@@ -178,9 +178,9 @@ impl Topo {
     /// Takes in an item of round 0. Each kind has its own tests, so that they are branches.
     #[inline(always)]
     fn take_in_entry(&mut self, seat: Seat, from: u32, item: Item) -> Result<(), NoMemory>
-        requires seat { IsSeat seat self.old }
+        requires seat { IsTopoSeat seat self.old }
         requires first { seat.round ≡ 0 }
-        ensures { TakesIn (taken_in topo_rules self.old from item) seat self.old self.new result }
+        ensures { TopoTakesIn (taken_in topo_rules self.old from item) seat self.old self.new result }
     {
         if item.c == 0 {
             if seat.owns(from, item) {
@@ -197,8 +197,8 @@ impl Topo {
     /// Takes in an item that fits.
     #[inline(always)]
     fn absorb_on(&mut self, seat: Seat, from: u32, item: Item) -> Result<(), NoMemory>
-        requires seat { IsSeat seat self.old }
-        requires own { IsOwn self.old.size self.old.ranks self.old.rank item }
+        requires seat { IsTopoSeat seat self.old }
+        requires own { IsOwnItem self.old.size self.old.ranks self.old.rank item }
         ensures { AllOrNothing (topo_rules.absorbed self.old from item) self.old self.new result }
     {
         if seat.round == 0 {
@@ -214,8 +214,8 @@ impl Topo {
     #[inline(always)]
     fn enter(&mut self, ranks: u32, item: Item) -> Result<(), NoMemory>
         requires ranks { ranks ≡ self.old.ranks }
-        requires own { IsOwn self.old.size self.old.ranks self.old.rank item }
-        ensures { AllOrNothing (entered self.old item) self.old self.new result }
+        requires own { IsOwnItem self.old.size self.old.ranks self.old.rank item }
+        ensures { AllOrNothing (after_entry self.old item) self.old self.new result }
     {
         if item.c == 0 {
             add(&mut self.numbers, ranks, item.a, 1);
@@ -229,7 +229,7 @@ impl Topo {
     #[inline(always)]
     fn claim(&mut self, ranks: u32, item: Item) -> Result<(), NoMemory>
         requires ranks { ranks ≡ self.old.ranks }
-        requires own { IsOwn self.old.size self.old.ranks self.old.rank item }
+        requires own { IsOwnItem self.old.size self.old.ranks self.old.rank item }
         ensures { AllOrNothing (claimed_by self.old item) self.old self.new result }
     {
         mark(&mut self.came, item.a, 0)?;
@@ -296,8 +296,8 @@ impl Topo {
     #[inline(always)]
     fn fall(&mut self, ranks: u32, item: Item) -> Result<(), NoMemory>
         requires ranks { ranks ≡ self.old.ranks }
-        requires own { IsOwn self.old.size self.old.ranks self.old.rank item }
-        ensures { AllOrNothing (fallen self.old item) self.old self.new result }
+        requires own { IsOwnItem self.old.size self.old.ranks self.old.rank item }
+        ensures { AllOrNothing (after_fall self.old item) self.old self.new result }
     {
         let left = number_at(&self.numbers, ranks, item.a).wrapping_sub(1);
         mark_if(&mut self.came, left == 1, item.a)?;

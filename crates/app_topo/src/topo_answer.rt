@@ -7,7 +7,7 @@ ghost use Rattle.mtx_text.specs.Cells.{raised_all};
 ghost use Rattle.app_topo.specs.Levels.{topo_order, claims_after, col_claims, row_position, col_position};
 ghost use Rattle.app_topo.specs.Triangular.{IsValid};
 ghost use Rattle.app_topo.specs.TopoRuns.{TopoEnded};
-ghost use Rattle.app_topo.specs.TopoEnds.{cell_of, place_of};
+ghost use Rattle.app_topo.specs.TopoEnds.{cell_of_level, cell_place};
 
 use crate::order::TopoOrder;
 use crate::placed::Placed;
@@ -44,7 +44,7 @@ pub fn topo_end(alloc: Global, m: &Matrix, p: &Progs<Topo>) -> Result<Option<Top
 /// The rows that claimed, by level and then row.
 fn all_placed(alloc: Global, m: &Matrix, p: &Progs<Topo>) -> Result<Vec<Triple>, NoMemory>
     requires ended { TopoEnded m.now p.now }
-    ensures claims { IfOk result (λ v. map place_of v.items ≡ claims_after m.now.rows m.now.entries m.now.rows) }
+    ensures claims { IfOk result (λ v. map cell_place v.items ≡ claims_after m.now.rows m.now.entries m.now.rows) }
     ensures small { IfOk result (λ v. All (λ u. twos_complement u.v < 2 ^ 32) v.items) }
 {
     let mut all = Cells::new(alloc);
@@ -60,7 +60,7 @@ fn all_placed(alloc: Global, m: &Matrix, p: &Progs<Topo>) -> Result<Vec<Triple>,
 /// Puts a rank's rows to the others.
 fn raise_placed(all: &mut Cells, claimed: &[Placed]) -> Result<(), NoMemory>
     requires { All (λ q. q.level < 2 ^ 32) claimed.now }
-    ensures { OnOk result (all.new ≡ raised_all all.old (map cell_of claimed.now)) }
+    ensures { OnOk result (all.new ≡ raised_all all.old (map cell_of_level claimed.now)) }
 {
     for placed in claimed {
         all.raise(
@@ -102,7 +102,7 @@ fn claims_at(m: &Matrix, p: &Progs<Topo>, j: u32) -> u64
 /// The rows and their columns, those that claimed last first.
 fn last_first(alloc: Global, placed: &[Triple]) -> Result<Vec<(u32, u32)>, NoMemory>
     requires { All (λ u. twos_complement u.v < 2 ^ 32) placed.now }
-    ensures { IfOk result (λ v. v.items ≡ reverse (map place_of placed.now)) }
+    ensures { IfOk result (λ v. v.items ≡ reverse (map cell_place placed.now)) }
 {
     let mut places = Vec::with_capacity(alloc, placed.len())?;
     for cell in placed {

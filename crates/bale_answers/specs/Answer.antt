@@ -2,7 +2,7 @@
 use Rattle.std.specs.Prelude.{◌≡◌, ℕ, Bool, List, [], ◌==◌, ◌&&◌, Option, Some, None, is_some, Result, Ok, Err, OnOk}
 use Rattle.std.specs.Prelude.{if◌then◌else◌}
 use Rattle.std.specs.Prelude.{OnErr}
-use Rattle.bale_types.specs.Stream.{after, IsFront, CountsFaults}
+use Rattle.bale_types.specs.Stream.{taken_with, IsTakenPrefix, CountsFaults}
 use Rattle.bale_words.specs.declared.command.Command.{Command}
 use Rattle.bale_words.specs.declared.command.Generated.{Generated}
 use Rattle.bale_words.specs.Words.{command_of}
@@ -24,22 +24,22 @@ pub record Answer : Type 0 where
   pub err : List ℕ
 
 -- A refusal's status and text.
-abbrev pub refused : Refusal → Answer
-refused r = record { status = status_of r; err = refusal_text r }
+abbrev pub refusal_answer : Refusal → Answer
+refusal_answer r = record { status = status_of r; err = refusal_text r }
 
 -- A command's answer for a subject that it fits, with its own status, or that it doesn't fit.
 abbrev pub answer_by : ℕ → Option Unfit → Answer
-answer_by status (Some u) = refused (refusal.Unfit u)
+answer_by status (Some u) = refusal_answer (refusal.Unfit u)
 answer_by status None = record { status = status; err = [] }
 
 -- A command's answer for a text that has what it is asked of, or that has not.
 abbrev pub answer_for : Bool → Command → Result Subject Refusal → Answer
-answer_for serial c (Err r) = refused r
+answer_for serial c (Err r) = refusal_answer r
 answer_for serial c (Ok s) = answer_by (task_status c.task s) (unfitness c s serial)
 
 -- The answer to a command, and to words that give none.
 abbrev pub answer_to : (Command → Bool) → Option Command → List ℕ → Answer
-answer_to serial None text = refused refusal.Usage
+answer_to serial None text = refusal_answer refusal.Usage
 answer_to serial (Some c) text = answer_for (serial c) c (subject_asked c text)
 
 -- The serial answer: what the words ask for, of the matrix of the text or the generated one, or of
@@ -79,24 +79,24 @@ pub record IsUnfit (serial : Command → Bool) (job : Option Command) (text : Li
 
 -- What is written of an answer with this status: its bytes, or, at 0 and where the matrix was
 -- generated, their summary.
-abbrev pub shown : Option Generated → ℕ → List ℕ → List ℕ
-shown generated status bytes = if is_some generated && status == 0 then summary_of bytes else bytes
+abbrev pub shown_text : Option Generated → ℕ → List ℕ → List ℕ
+shown_text generated status bytes = if is_some generated && status == 0 then summary_of bytes else bytes
 
--- What a sink has taken of an answer as it is shown: all of it, or a front where a write failed.
+-- What a sink has taken of an answer as it is shown: all of it, or a prefix where a write failed.
 -- `old` is what it held.
 pub record HasWritten {T E : Type 0} (IsAnswer : List ℕ → Type 0) (shows : List ℕ → List ℕ) (old new : Option (List ℕ))
     (written : Result T E) : Type 0 where
   pub bytes : List ℕ
   pub answers : IsAnswer bytes
-  pub whole : OnOk written (new ≡ after old (shows bytes))
-  pub front : OnErr written (IsFront new (after old (shows bytes)))
+  pub whole : OnOk written (new ≡ taken_with old (shows bytes))
+  pub front : OnErr written (IsTakenPrefix new (taken_with old (shows bytes)))
 
 -- What a call does to a sink that it writes to, by its answer.
 -- held: what the sink held stays
 -- counts: how its count of faults goes with the answer
 pub record TakesMore {K T E : Type 0} (taken : K → Option (List ℕ)) (faults : K → ℕ) (old new : K)
     (result : Result T E) : Type 0 where
-  pub held : IsFront (taken old) (taken new)
+  pub held : IsTakenPrefix (taken old) (taken new)
   pub counts : CountsFaults (faults old) (faults new) result
 
 -- What is said on err at a status: nothing at 0 and 1, of a fault its text, else what the serial

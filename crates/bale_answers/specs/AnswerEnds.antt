@@ -1,11 +1,11 @@
 -- How the writing of an answer ended.
 use Rattle.std.specs.Prelude.{◌≡◌, ◌≤◌, ℕ, List, Option, OnOk}
-use Rattle.bale_types.specs.Stream.{HasCause, IsFront}
+use Rattle.bale_types.specs.Stream.{HasCause, IsTakenPrefix}
 use Rattle.bale_words.specs.declared.command.Generated.{Generated}
 use Rattle.bale_words.specs.declared.task.Task.{Task}
 use Rattle.bale_subjects.specs.declared.subject.Subject.{Subject}
 use Rattle.bale_answers.specs.declared.finish.AnswerEnd.{AnswerEnd}
-use Rattle.bale_answers.specs.Answer.{HasWritten, shown}
+use Rattle.bale_answers.specs.Answer.{HasWritten, shown_text}
 use Rattle.bale_answers.specs.Tasks.{IsAnswer, task_status}
 
 -- The answer of a task for its subject, on a sink before and after: `taken` is what a sink tells of
@@ -17,9 +17,9 @@ pub record IsAnswerEnd {K : Type 0} (t : Task) (s : Subject) (generated : Option
   -- The status is the answer's: 0, or 1 where topo finds no order.
   pub status : e.status ≡ task_status t s
   pub low : e.status ≤ 1
-  -- All of the answer was taken, or a front of it where a write failed; what the sink held stays.
-  pub answer : HasWritten (IsAnswer t s) (shown generated (task_status t s)) (taken out) (taken out') e.written
-  pub held : IsFront (taken out) (taken out')
+  -- All of the answer was taken, or a prefix of it where a write failed; what the sink held stays.
+  pub answer : HasWritten (IsAnswer t s) (shown_text generated (task_status t s)) (taken out) (taken out') e.written
+  pub held : IsTakenPrefix (taken out) (taken out')
   -- A failed write is the sink's own fault, and where all was taken there was none.
   pub cause : HasCause (faults out) (faults out') e.written
   pub no_fault : OnOk e.written (faults out' ≡ faults out)

@@ -6,3 +6,4 @@ pub mod Orders
 pub mod Summary
 pub mod Tasks
 pub mod Walks
+pub mod Laws

@@ -8,7 +8,8 @@ abbrev pub order_status : Option (List Claim) → ℕ
 order_status None = 1
 order_status (Some order) = 0
 
--- The lines of the order, or "not triangular\n".
+-- The lines of the order, or "not triangular\n": no order of rows and columns makes the matrix
+-- upper triangular with a full diagonal.
 abbrev pub order_text : Option (List Claim) → List ℕ
 order_text None = codes "not triangular\n"
 order_text (Some order) = topo_lines order

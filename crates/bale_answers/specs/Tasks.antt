@@ -14,7 +14,7 @@ use Rattle.app_histo_ig.specs.IgRuns.{ig_starts}
 use Rattle.app_histo_ig.specs.IgLines.{ig_lines}
 use Rattle.app_histo_ig.specs.Meanings.{HistoMeans, IgMeans}
 use Rattle.app_permute.specs.Meanings.{PermuteMeans, TransposeMeans}
-use Rattle.app_permute.specs.Moved.{permuted, transposed}
+use Rattle.app_permute.specs.Reorderings.{reordering_of, transpose_of}
 use Rattle.app_permute.specs.Permutes.{PermuteState, permute_rules}
 use Rattle.app_permute.specs.PermuteRuns.{permute_starts}
 use Rattle.app_permute.specs.Transposes.{TransposeState, transpose_rules}
@@ -45,8 +45,8 @@ use Rattle.bale_answers.specs.Walks.{SsspMeans}
 abbrev pub IsMatrixAnswer : Task → Sparse → List ℕ → Type 0
 IsMatrixAnswer task.Histo m bytes = bytes ≡ histo_lines m.entries m.cols
 IsMatrixAnswer task.Ig m bytes = bytes ≡ ig_lines m.entries
-IsMatrixAnswer (task.Permute by) m bytes = bytes ≡ text_of (permuted (perms_for by m).rows (perms_for by m).cols m)
-IsMatrixAnswer task.Transpose m bytes = bytes ≡ text_of (transposed m)
+IsMatrixAnswer (task.Permute by) m bytes = bytes ≡ text_of (reordering_of (perms_for by m).rows (perms_for by m).cols m)
+IsMatrixAnswer task.Transpose m bytes = bytes ≡ text_of (transpose_of m)
 IsMatrixAnswer task.Topo m bytes = bytes ≡ order_text (topo_order m.rows m.entries)
 IsMatrixAnswer (task.Sssp source delta) m bytes = IsSsspAnswer m (source - 1) bytes
 IsMatrixAnswer task.Tally m bytes = ⊥
@@ -67,7 +67,7 @@ abbrev pub task_status : Task → Subject → ℕ
 task_status t (subject.Matrix m) = matrix_status t m
 task_status t (subject.Lines lines) = 0
 
--- What a task's answer for a matrix means, by its status and its bytes; bale_meaning proves it of
+-- What a task's answer for a matrix means, by its status and its bytes; answer_law proves it of
 -- every answer.
 -- for histo: the bytes have of each column the number of its entries
 abbrev pub MatrixMeans : Task → Sparse → ℕ → List ℕ → Type 0
@@ -136,7 +136,7 @@ way_of t (subject.Lines lines) = tally_way
 unfoldable pub starts_of : Task → ℕ → Subject → List AnyState
 starts_of t ranks s = map (way_of t s).case ((plan_of t s).starts ranks)
 
-pub begun_with : (t : Task) (ranks : ℕ) (s : Subject)
+pub begun_with_fits : (t : Task) (ranks : ℕ) (s : Subject)
     → map (way_of t s).case ((plan_of t s).starts ranks) ≡ starts_of t ranks s
 unfolding starts_of
-begun_with t ranks s = refl
+begun_with_fits t ranks s = refl

@@ -55,13 +55,13 @@ impl Written for HistoAnswer {
 impl Application for HistoAnswer {
     ghost use Rattle.bale_words.specs.declared.task.Task.TheVariants as tasks;
     ghost use Rattle.bale_subjects.specs.declared.subject.Subject.TheVariants as subjects;
-    ghost use Rattle.bale_answers.specs.Tasks.{begun_with};
+    ghost use Rattle.bale_answers.specs.Tasks.{begun_with_fits};
 
     type Prog = Histo;
 
     ghost starts = { λ _. histo_starts };
 
-    ghost of_task = { λ _ p of. begun_with tasks.Histo p (subjects.Matrix of) };
+    ghost of_task = { λ _ p of. begun_with_fits tasks.Histo p (subjects.Matrix of) };
 
     fn start(
         alloc: Global,
@@ -125,13 +125,13 @@ impl Written for IgAnswer {
 impl Application for IgAnswer {
     ghost use Rattle.bale_words.specs.declared.task.Task.TheVariants as tasks;
     ghost use Rattle.bale_subjects.specs.declared.subject.Subject.TheVariants as subjects;
-    ghost use Rattle.bale_answers.specs.Tasks.{begun_with};
+    ghost use Rattle.bale_answers.specs.Tasks.{begun_with_fits};
 
     type Prog = Ig;
 
     ghost starts = { λ _. ig_starts };
 
-    ghost of_task = { λ _ p of. begun_with tasks.Ig p (subjects.Matrix of) };
+    ghost of_task = { λ _ p of. begun_with_fits tasks.Ig p (subjects.Matrix of) };
 
     fn start(alloc: Global, options: &(), m: &Matrix, ranks: u32) -> Result<Progs<Ig>, NoMemory> {
         ig_start(alloc, m, ranks)

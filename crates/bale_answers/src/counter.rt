@@ -3,7 +3,7 @@
 ghost use Rattle.std.specs.Prelude.{◌≡◌, ◌++◌, [], ◌∷◌, Some, length};
 ghost use Rattle.std.specs.List.{sum_by};
 ghost use Rattle.bale_answers.specs.Logs.{bytes_of};
-ghost use Rattle.list_laws.specs.Counts.{counted};
+ghost use Rattle.list_laws.specs.Counts.{saturated_count};
 ghost use Rattle.bale_answers.specs.Summary.{ends_line};
 
 use bale_types::{Failed, Sink};
@@ -24,9 +24,9 @@ pub(crate) struct Counter {
     pub(crate) bytes: u64,
     pub(crate) sum: u64,
     log: Log,
-    ghost lines_are: { lines ≡ counted (sum_by ends_line (bytes_of log)) },
-    ghost bytes_are: { bytes ≡ counted (length (bytes_of log)) },
-    ghost sum_is: { sum ≡ counted (sum_by (λ b. b) (bytes_of log)) },
+    ghost lines_are: { lines ≡ saturated_count (sum_by ends_line (bytes_of log)) },
+    ghost bytes_are: { bytes ≡ saturated_count (length (bytes_of log)) },
+    ghost sum_is: { sum ≡ saturated_count (sum_by (λ b. b) (bytes_of log)) },
 }
 
 impl Counter {

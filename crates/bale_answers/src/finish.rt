@@ -1,8 +1,8 @@
 //! The end of a run: the programs after their last round, and then the answer, written.
 
 ghost use Rattle.std.specs.Prelude.{◌≡◌, ◌≤◌, ◌<◌, ℕ, length, OnOk, OnErr, IfOk};
-ghost use Rattle.bale_types.specs.Stream.{after, IsFront};
-ghost use Rattle.bale_types.specs.Out.{appended, HandsOn};
+ghost use Rattle.bale_types.specs.Stream.{taken_with, IsTakenPrefix};
+ghost use Rattle.bale_types.specs.Out.{appended_bytes, HandsOn};
 ghost use Rattle.round_program.specs.Canonical.{HaveEnded};
 ghost use Rattle.app_cases.specs.Any.{any_rules};
 ghost use Rattle.app_histo_ig.specs.ColumnAnswers.{IgHeard};
@@ -117,7 +117,7 @@ fn write_all<A: Written, K: Sink>(
 ) -> Result<(), Failed>
     requires { CanWrite A.needs A.answers options.now of.now answer.now }
     ensures answer { HasWritten (IsAnswer (A.task options.now) (A.subject of.now)) (λ bytes. bytes)
-        (appended K.taken out.old) (K.taken out.new.sink.now) result }
+        (appended_bytes K.taken out.old) (K.taken out.new.sink.now) result }
     ensures sink { HandsOn K.taken K.faults out.old out.new result }
 {
     A::write(options, answer, of, out)?;
@@ -146,9 +146,10 @@ fn write_summary<A: Written, K: Sink>(
 
 /// Writes the line of a count through a buffer.
 fn write_line<K: Sink>(counter: &Counter, sink: &mut K) -> Result<(), Failed>
-    ensures ok { OnOk result (K.taken sink.new ≡ after (K.taken sink.old) (summary_of (bytes_of counter.now.log))) }
-    ensures err { OnErr result (IsFront (K.taken sink.new)
-        (after (K.taken sink.old) (summary_of (bytes_of counter.now.log)))) }
+    ensures ok { OnOk result (K.taken sink.new ≡ taken_with (K.taken sink.old) (summary_of (bytes_of
+        counter.now.log))) }
+    ensures err { OnErr result (IsTakenPrefix (K.taken sink.new)
+        (taken_with (K.taken sink.old) (summary_of (bytes_of counter.now.log)))) }
     ensures sink { TakesMore K.taken K.faults sink.old sink.new result }
 {
     let line = summary_line(counter);
@@ -157,8 +158,9 @@ fn write_line<K: Sink>(counter: &Counter, sink: &mut K) -> Result<(), Failed>
 }
 
 fn flush_text<K: Sink>(out: &mut Out<'_, K>, bytes: &[u8]) -> Result<(), Failed>
-    ensures ok { OnOk result (K.taken out.new.sink.now ≡ after (appended K.taken out.old) bytes.now) }
-    ensures err { OnErr result (IsFront (K.taken out.new.sink.now) (after (appended K.taken out.old) bytes.now)) }
+    ensures ok { OnOk result (K.taken out.new.sink.now ≡ taken_with (appended_bytes K.taken out.old) bytes.now) }
+    ensures err { OnErr result (IsTakenPrefix (K.taken out.new.sink.now) (taken_with (appended_bytes K.taken
+        out.old) bytes.now)) }
     ensures sink { HandsOn K.taken K.faults out.old out.new result }
 {
     out.text(bytes)?;

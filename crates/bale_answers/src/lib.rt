@@ -6,11 +6,13 @@
 //! | [`start_task`] | the programs of a task on its subject, in round 0 |
 //! | [`finish_task`] | the same programs after their last round, to the bytes of the answer or their summary |
 //! | [`finish_by_asking`] | the same of ig, by the ranks that asked one another |
+//! | [`answer_law`], [`words_law`] | theorems: what the bytes of each answer mean, in the words of its field; which status words give |
 //!
 //! Read `specs/Answer` first: the serial answer, about the words and the text alone. Then
 //! `specs/Tasks` (what each task runs and answers), `specs/Orders` (what topo answers),
 //! `specs/Summary` (the line of `--gen`) and `specs/AnswerEnds` (how the writing of an answer
-//! ends).
+//! ends). `specs/Laws` is what the laws say: `Means` in `specs/Tasks` has a line for each
+//! task, and names the `specs/Meanings` of the applications' crates.
 //! The other files of `specs/` are the code's own words.
 #![tactic(auto)]
 
@@ -18,6 +20,7 @@ mod application;
 mod column_answers;
 mod counter;
 mod finish;
+mod laws;
 mod line_answer;
 mod matrix_answers;
 mod order_answer;
@@ -25,4 +28,5 @@ mod tasks;
 mod walk_answers;
 
 pub use finish::{AnswerEnd, finish_by_asking};
+pub use laws::{answer_law, words_law};
 pub use tasks::{finish_task, start_task};

@@ -55,14 +55,14 @@ impl Written for TallyAnswer {
 impl Application for TallyAnswer {
     ghost use Rattle.bale_words.specs.declared.task.Task.TheVariants as tasks;
     ghost use Rattle.bale_subjects.specs.declared.subject.Subject.TheVariants as subjects;
-    ghost use Rattle.bale_answers.specs.Tasks.{begun_with};
+    ghost use Rattle.bale_answers.specs.Tasks.{begun_with_fits};
     ghost use Rattle.app_tally.specs.TallyRuns.{tally_starts};
 
     type Prog = TallyCase;
 
     ghost starts = { λ _. tally_starts };
 
-    ghost of_task = { λ _ p of. begun_with tasks.Tally p (subjects.Lines of) };
+    ghost of_task = { λ _ p of. begun_with_fits tasks.Tally p (subjects.Lines of) };
 
     fn start(
         alloc: Global,

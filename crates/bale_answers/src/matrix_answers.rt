@@ -2,7 +2,7 @@
 
 ghost use Rattle.std.specs.Prelude.{ℕ, ◌≡◌, ◌≤◌, IfOk};
 ghost use Rattle.round_program.specs.Canonical.{HaveEnded};
-ghost use Rattle.app_permute.specs.Moved.{permuted, transposed};
+ghost use Rattle.app_permute.specs.Reorderings.{reordering_of, transpose_of};
 ghost use Rattle.app_permute.specs.Permutes.{permute_rules};
 ghost use Rattle.app_permute.specs.PermuteRuns.{permute_starts};
 ghost use Rattle.app_permute.specs.Transposes.{transpose_rules};
@@ -27,7 +27,7 @@ pub(crate) struct PermuteAnswer;
 
 impl Written for PermuteAnswer {
     ghost use Rattle.std.specs.Prelude.{◌≡◌};
-    ghost use Rattle.app_permute.specs.Moved.{permuted};
+    ghost use Rattle.app_permute.specs.Reorderings.{reordering_of};
     ghost use Rattle.bale_subjects.specs.declared.subject.Subject.TheVariants as subjects;
     ghost use Rattle.bale_words.specs.declared.task.Task.TheVariants as tasks;
     ghost use Rattle.bale_subjects.specs.Numberings.{perms_for};
@@ -45,7 +45,7 @@ impl Written for PermuteAnswer {
 
     ghost needs = { CanMove };
 
-    ghost answers = { λ by m b. b ≡ permuted (perms_for by m).rows (perms_for by m).cols m };
+    ghost answers = { λ by m b. b ≡ reordering_of (perms_for by m).rows (perms_for by m).cols m };
 
     fn status(by: &Permutations, answer: &Matrix, m: &Matrix) -> u8 {
         0
@@ -64,7 +64,7 @@ impl Written for PermuteAnswer {
 impl Application for PermuteAnswer {
     ghost use Rattle.bale_words.specs.declared.task.Task.TheVariants as tasks;
     ghost use Rattle.bale_subjects.specs.declared.subject.Subject.TheVariants as subjects;
-    ghost use Rattle.bale_answers.specs.Tasks.{begun_with};
+    ghost use Rattle.bale_answers.specs.Tasks.{begun_with_fits};
     ghost use Rattle.app_permute.specs.PermuteRuns.{permute_starts};
     ghost use Rattle.bale_subjects.specs.Numberings.{perms_for};
 
@@ -72,7 +72,7 @@ impl Application for PermuteAnswer {
 
     ghost starts = { λ by ranks m. permute_starts ranks m (perms_for by m).rows (perms_for by m).cols };
 
-    ghost of_task = { λ by p of. begun_with (tasks.Permute by) p (subjects.Matrix of) };
+    ghost of_task = { λ by p of. begun_with_fits (tasks.Permute by) p (subjects.Matrix of) };
 
     fn start(
         alloc: Global,
@@ -104,7 +104,8 @@ impl Application for PermuteAnswer {
         requires ended { (ranks : ℕ) × (1 ≤ ranks) × (ranks ≤ 64)
             × HaveEnded permute_rules (permute_starts ranks m.now (perms_for by.now m.now).rows
             (perms_for by.now m.now).cols) progs }
-        ensures { IfOk result (λ b. b ≡ permuted (perms_for by.now m.now).rows (perms_for by.now m.now).cols m.now) }
+        ensures { IfOk result (λ b. b ≡ reordering_of (perms_for by.now m.now).rows (perms_for by.now m.now).cols
+            m.now) }
     {
         m.known();
         permute_end(alloc, m, &progs)
@@ -116,7 +117,7 @@ pub(crate) struct TransposeAnswer;
 
 impl Written for TransposeAnswer {
     ghost use Rattle.std.specs.Prelude.{◌≡◌};
-    ghost use Rattle.app_permute.specs.Moved.{transposed};
+    ghost use Rattle.app_permute.specs.Reorderings.{transpose_of};
     ghost use Rattle.bale_subjects.specs.declared.subject.Subject.TheVariants as subjects;
     ghost use Rattle.bale_words.specs.declared.task.Task.TheVariants as tasks;
 
@@ -132,7 +133,7 @@ impl Written for TransposeAnswer {
 
     ghost needs = { λ _ _. Unit {0} };
 
-    ghost answers = { λ _ m b. b ≡ transposed m };
+    ghost answers = { λ _ m b. b ≡ transpose_of m };
 
     fn status(options: &(), answer: &Matrix, m: &Matrix) -> u8 {
         0
@@ -151,14 +152,14 @@ impl Written for TransposeAnswer {
 impl Application for TransposeAnswer {
     ghost use Rattle.bale_words.specs.declared.task.Task.TheVariants as tasks;
     ghost use Rattle.bale_subjects.specs.declared.subject.Subject.TheVariants as subjects;
-    ghost use Rattle.bale_answers.specs.Tasks.{begun_with};
+    ghost use Rattle.bale_answers.specs.Tasks.{begun_with_fits};
     ghost use Rattle.app_permute.specs.TransposeRuns.{transpose_starts};
 
     type Prog = Transpose;
 
     ghost starts = { λ _. transpose_starts };
 
-    ghost of_task = { λ _ p of. begun_with tasks.Transpose p (subjects.Matrix of) };
+    ghost of_task = { λ _ p of. begun_with_fits tasks.Transpose p (subjects.Matrix of) };
 
     fn start(
         alloc: Global,
@@ -177,7 +178,7 @@ impl Application for TransposeAnswer {
     ) -> Result<Matrix, NoMemory>
         requires ended { (ranks : ℕ) × (1 ≤ ranks) × (ranks ≤ 64)
             × HaveEnded transpose_rules (transpose_starts ranks m.now) progs }
-        ensures { IfOk result (λ b. b ≡ transposed m.now) }
+        ensures { IfOk result (λ b. b ≡ transpose_of m.now) }
     {
         m.known();
         transpose_end(alloc, m, &progs)

@@ -59,14 +59,14 @@ impl Written for OrderAnswer {
 impl Application for OrderAnswer {
     ghost use Rattle.bale_words.specs.declared.task.Task.TheVariants as tasks;
     ghost use Rattle.bale_subjects.specs.declared.subject.Subject.TheVariants as subjects;
-    ghost use Rattle.bale_answers.specs.Tasks.{begun_with};
+    ghost use Rattle.bale_answers.specs.Tasks.{begun_with_fits};
     ghost use Rattle.app_topo.specs.TopoRuns.{topo_starts};
 
     type Prog = Topo;
 
     ghost starts = { λ _. topo_starts };
 
-    ghost of_task = { λ _ p of. begun_with tasks.Topo p (subjects.Matrix of) };
+    ghost of_task = { λ _ p of. begun_with_fits tasks.Topo p (subjects.Matrix of) };
 
     fn start(alloc: Global, options: &(), m: &Matrix, ranks: u32) -> Result<Progs<Topo>, NoMemory> {
         topo_start(alloc, m, ranks)

@@ -59,14 +59,14 @@ impl Application for SsspAnswer {
     ghost use Rattle.std.specs.Prelude.{◌-◌, None};
     ghost use Rattle.bale_words.specs.declared.task.Task.TheVariants as tasks;
     ghost use Rattle.bale_subjects.specs.declared.subject.Subject.TheVariants as subjects;
-    ghost use Rattle.bale_answers.specs.Tasks.{begun_with};
+    ghost use Rattle.bale_answers.specs.Tasks.{begun_with_fits};
     ghost use Rattle.app_sssp.specs.SsspRuns.{sssp_starts};
 
     type Prog = Sssp;
 
     ghost starts = { λ source ranks m. sssp_starts ranks m (source - 1) };
 
-    ghost of_task = { λ source p of. begun_with (tasks.Sssp source None) p (subjects.Matrix of) };
+    ghost of_task = { λ source p of. begun_with_fits (tasks.Sssp source None) p (subjects.Matrix of) };
 
     fn start(alloc: Global, source: &u32, m: &Matrix, ranks: u32) -> Result<Progs<Sssp>, NoMemory> {
         sssp_start(alloc, m, *source - 1, ranks)
@@ -130,14 +130,14 @@ impl Application for DeltaAnswer {
     ghost use Rattle.std.specs.Prelude.{◌-◌, Some};
     ghost use Rattle.bale_words.specs.declared.task.Task.TheVariants as tasks;
     ghost use Rattle.bale_subjects.specs.declared.subject.Subject.TheVariants as subjects;
-    ghost use Rattle.bale_answers.specs.Tasks.{begun_with};
+    ghost use Rattle.bale_answers.specs.Tasks.{begun_with_fits};
     ghost use Rattle.delta_step.specs.DeltaRuns.{delta_starts};
 
     type Prog = Delta;
 
     ghost starts = { λ by ranks m. delta_starts ranks m (by.0 - 1) by.1 };
 
-    ghost of_task = { λ by p of. begun_with (tasks.Sssp by.0 (Some by.1)) p (subjects.Matrix of) };
+    ghost of_task = { λ by p of. begun_with_fits (tasks.Sssp by.0 (Some by.1)) p (subjects.Matrix of) };
 
     fn start(
         alloc: Global,

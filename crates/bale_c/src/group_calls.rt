@@ -2,7 +2,7 @@
 ghost use Rattle.std.specs.Prelude.{◌≡◌, ◌≢◌, Some, None};
 ghost use Rattle.rank_handles.specs.Codes.{code_of};
 ghost use Rattle.rank_handles.specs.Handles.{if_there, new_group_answer, new_rank_answer, given_in, HasNewGroup, HasNewRank};
-ghost use Rattle.rank_handles.specs.Shown.{rank_of, group_of};
+ghost use Rattle.rank_handles.specs.HandleView.{seated_rank, group_of};
 
 use rank_handles::{Answer, BaleGroup, BaleRank, make_group, make_rank};
 use std::alloc::Global;
@@ -48,11 +48,11 @@ pub extern "C" fn bale_rank_new(
     out: &mut BaleRank,
 ) -> i32
     ensures answer { result ≢ code_of Answer.NoMemory → result ≡ code_of (new_rank_answer
-        (group_of group.old) (rank_of out.old) rank) }
+        (group_of group.old) (seated_rank out.old) rank) }
     ensures memory { result ≡ code_of Answer.NoMemory → new_rank_answer
-        (group_of group.old) (rank_of out.old) rank ≡ Answer.Good }
+        (group_of group.old) (seated_rank out.old) rank ≡ Answer.Good }
     ensures made { result ≡ code_of Answer.Good → HasNewRank (group_of group.old) rank
-        (rank_of out.new) }
+        (seated_rank out.new) }
     ensures given { result ≡ code_of Answer.Good → group_of group.new
         ≡ given_in (group_of group.old) rank }
     ensures unchanged { result ≢ code_of Answer.Good → out.new ≡ out.old }

@@ -9,6 +9,8 @@
 //! | `bale_group_new`, `bale_rank_new`, `bale_group_free` | `group_calls` | what became of the wish; the handle has a new group or a new rank |
 //! | `bale_begin`, `bale_push`, `bale_pull`, `bale_unpull`, `bale_advance`, `bale_reset` | `rank_calls` | as the conveyor's own calls; each is a step of the exchange machine |
 //! | `bale_ranks`, `bale_phase`, `bale_rank_free` | `rank_calls` | how many ranks there are; how far the rank is |
+//! | `bale_statistics` | `rank_calls` | what the rank sent and received so far |
+//! | `bale_lend`, `bale_pulled` | `view_calls` | the entries that the next pulls give, where they are; pulls the first ones |
 //! | `bale_push_many`, `bale_pull_many` | `many_calls` | how many items were moved, as by so many single calls |
 //!
 //! Misuse has an answer of its own, by a code below 0, and changes nothing.
@@ -17,3 +19,4 @@
 mod group_calls;
 mod many_calls;
 mod rank_calls;
+mod view_calls;

@@ -7,7 +7,7 @@ use Rattle.bale_subjects.specs.declared.unfit.Unfit.{Unfit as Unfitness}
 use Rattle.bale_subjects.specs.declared.refusal.BadText.{BadText as Bad}
 use Rattle.bale_subjects.specs.declared.refusal.Refusal.{Refusal}
 use Rattle.bale_subjects.specs.declared.refusal.Refusal.TheVariants.{Usage, ReadFault, BadText, Unfit, WriteFault, NoMemory}
-use Rattle.bale_answers.specs.Answer.{Answer, IsBad, IsUnfit, refused, answer_by, answer_for, answer_to, said}
+use Rattle.bale_answers.specs.Answer.{Answer, IsBad, IsUnfit, refusal_answer, answer_by, answer_for, answer_to, said}
 use Rattle.bale_subjects.specs.Reading.{TellsText, Told}
 use Rattle.rank_group.specs.declared.closed_round.ClosedRound.{ClosedRound}
 use Rattle.bale_cli.specs.Run.{HasNotFit, HasRun}
@@ -80,12 +80,12 @@ unfit_is u = refl
 
 -- where the text is bad by b, the serial answer has status 5 and tells of it
 answer_bad : (serial : Command → Bool) (job : Option Command) (text : List ℕ) (b : Bad) → IsBad job text b
-    → answer_to serial job text ≡ refused (BadText b)
+    → answer_to serial job text ≡ refusal_answer (BadText b)
 answer_bad serial job text b w = ap (λ j. answer_to serial j text) w.asked ∙ ap (answer_for (serial w.command) w.command) w.why
 
 -- where the command doesn't fit its subject, the serial answer has status 6 and says why
 answer_unfit : (serial : Command → Bool) (job : Option Command) (text : List ℕ) (u : Unfitness) → IsUnfit serial job text u
-    → answer_to serial job text ≡ refused (Unfit u)
+    → answer_to serial job text ≡ refusal_answer (Unfit u)
 answer_unfit serial job text u w =
     ap (λ j. answer_to serial j text) w.asked
     ∙ (ap (answer_for (serial w.command) w.command) w.read ∙ ap (answer_by (task_status w.command.task w.subject)) w.why)

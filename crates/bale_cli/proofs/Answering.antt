@@ -1,9 +1,9 @@
 -- What is known of an answer, by the way that it took: refused by the words, by the subject, or
 -- run.
-use Rattle.std.proofs.Common.{ℕ, ◌≡◌, ◌≢◌, ◌⊎◌, Bool, true, false, not, is_some, List, Option, None, Some, Result, Ok, Err, OnOk, OnErr, IfOk, IfErr, drop, refl, sym, ap, subst, ◌∙◌, inl, inr}
+use Rattle.std.proofs.Common.{ℕ, ◌≡◌, ◌≢◌, ◌⊎◌, Bool, true, false, not, is_some, List, Option, None, Some, Result, Ok, Err, OnErr, IfOk, IfErr, drop, refl, sym, ap, subst, ◌∙◌, inl, inr}
 use Rattle.std.proofs.lemmas.Bool.{false≢true}
 use Rattle.std.proofs.lemmas.Option.{none-some, same_Some}
-use Rattle.bale_types.specs.Stream.{after, IsFront}
+use Rattle.bale_types.specs.Stream.{taken_with, IsTakenPrefix}
 use Rattle.bale_items.specs.Counters.{RoseOrFull}
 use Rattle.bale_types.proofs.Moves.{front_same}
 use Rattle.bale_words.specs.declared.command.Command.{Command}
@@ -18,7 +18,7 @@ use Rattle.bale_subjects.specs.declared.unfit.Unfit.{Unfit}
 use Rattle.bale_answers.specs.Answer.{Asked}
 use Rattle.bale_subjects.specs.Reading.{reads, TellsText, Told, IsSubjectOf}
 use Rattle.bale_subjects.specs.Refusals.{IsOfText}
-use Rattle.bale_runs.specs.Asking.{TellsCommand}
+use Rattle.bale_runs.specs.Reports.{ReportsCommand}
 use Rattle.bale_runs.specs.RunEnds.{IsRunEnd}
 use Rattle.bale_subjects.specs.Fitness.{unfitness}
 use Rattle.bale_cli.specs.Outcomes.{Answered}
@@ -31,7 +31,7 @@ pub both_ok : {T E : Type 0} (r : Result T E) (P Q : T → Type 0) → IfOk r P 
 both_ok (Ok x) P Q p q = (p, q)
 both_ok (Err e) P Q p q = tt
 
-pub ok_where : {T E : Type 0} (r : Result T E) (P Q : Type 0) → (P → OnOk r Q) → IfOk r (λ x. P → Q)
+pub ok_where : {T E : Type 0} (r : Result T E) (P : Type 0) (Q : T → Type 0) → (P → IfOk r Q) → IfOk r (λ x. P → Q x)
 ok_where (Ok x) P Q f = f
 ok_where (Err e) P Q f = tt
 
@@ -55,8 +55,8 @@ same_Err r s e = ap (err_or r) e
 same_Ok : (a b : Subject) → ok a ≡ ok b → a ≡ b
 same_Ok a b e = ap (ok_or a) e
 
-front_kept : {K : Type 0} (taken : K → Option (List ℕ)) {out out' : K} → out' ≡ out → IsFront (taken out) (taken out')
-front_kept taken {out = out} e = subst (λ k. IsFront (taken out) (taken k)) (sym e) (front_same (taken out))
+front_kept : {K : Type 0} (taken : K → Option (List ℕ)) {out out' : K} → out' ≡ out → IsTakenPrefix (taken out) (taken out')
+front_kept taken {out = out} e = subst (λ k. IsTakenPrefix (taken out) (taken k)) (sym e) (front_same (taken out))
 
 -- a refusal of the words is of no other kind
 of_words : (r s : Refusal) → (r ≡ refusal.Usage) ⊎ (r ≡ refusal.NoMemory) → r ≡ s → (s ≡ refusal.Usage) ⊎ (s ≡ refusal.NoMemory)
@@ -160,7 +160,7 @@ module _ {S K : Type 0} {serial : Command → Bool} {turns : Command → Subject
       → IsSubjectOf c (left source) s → unfitness c s (serial c) ≡ None
       → read_faults source' ≡ read_faults source → (reads (Some c) ≡ false → source' ≡ source)
       → ((text : List ℕ) → left source ≡ Some text → reads (Some c) ≡ true → left source' ≡ Some (drop 16777217 text))
-      → IsRunEnd c s (TellsCommand (serial c) c s) taken write_faults out out' answered → IfOk answered (λ f. turns c s f.rounds)
+      → IsRunEnd c s (ReportsCommand (serial c) c s) taken write_faults out out' answered → IfOk answered (λ f. turns c s f.rounds)
       → Answered serial turns (Some c) left read_faults source source' taken write_faults out out' answered
   ran_answered (Ok f) c s ranges subject fits calm unread whole finish turned =
       let wrote = finish.ending.answer in
@@ -182,7 +182,7 @@ module _ {S K : Type 0} {serial : Command → Bool} {turns : Command → Subject
           bytes = wrote.bytes;
           answers = wrote.answers;
           wrote = (finish.ending.status, wrote.whole, wrote.front);
-          rounds_tell = finish.rounds;
+          rounds_report = finish.rounds;
           turned = turned;
         };
         low = finish.ending.low;

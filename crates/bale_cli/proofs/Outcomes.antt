@@ -1,6 +1,6 @@
 -- The promises of the top calls, from what is known of an answer and of how it is told.
 use Rattle.std.proofs.Common.{ℕ, zero, suc, ◌≡◌, ◌≢◌, ◌≤◌, ◌⊎◌, Bool, true, false, List, [], Option, None, Some, Result, Ok, Err, OnOk, OnErr, IfOk, IfErr, ◌<◌, drop, sym, ap, subst, ◌∙◌, arith, inl, inr, refl, IsOk}
-use Rattle.bale_types.specs.Stream.{after, IsFront}
+use Rattle.bale_types.specs.Stream.{taken_with, IsTakenPrefix}
 use Rattle.bale_items.specs.Counters.{RoseOrFull}
 use Rattle.bale_types.proofs.Moves.{after-nil, front_same}
 use Rattle.rank_group.specs.declared.closed_round.ClosedRound.{ClosedRound}
@@ -12,7 +12,7 @@ use Rattle.bale_answers.specs.Answer.{Answer, answer_to, said}
 use Rattle.bale_subjects.specs.Reading.{Told, reads}
 use Rattle.bale_subjects.specs.Refusals.{refusal_text, status_of}
 use Rattle.bale_words.specs.Words.{command_of}
-use Rattle.bale_runs.specs.Asking.{TellsCommand}
+use Rattle.bale_runs.specs.Reports.{ReportsCommand}
 use Rattle.bale_cli.specs.Outcomes.{Answered, IsOutcome}
 use Rattle.bale_cli.specs.Run.{HasNotFit, HasRun, IsRun, Says}
 use Rattle.bale_cli.proofs.Answering.{same_Err}
@@ -51,7 +51,7 @@ failed {Q = Q} d q = subst (λ w. OnErr w Q) d.is q
 -- an answer that was written has status 0 or 1, one that wasn't 4
 ends : {E : Type 0} {said_to : E → Option (List ℕ)} {err_faults : E → ℕ} {err err' : E} {status : ℕ} {rounds : List ClosedRound} (f : RunEnd) → IsOutcome (Ok f) said_to err_faults err err' status rounds
     → Did f.ending.written ((status ≡ f.ending.status) × (status ≤ 1) × (err' ≡ err))
-    ⊎ Failed f.ending.written ((status ≡ 4) × (¬ RoseOrFull (err_faults err) (err_faults err') → said_to err' ≡ after (said_to err) (refusal_text refusal.WriteFault)) × IsFront (said_to err') (after (said_to err) (refusal_text refusal.WriteFault)))
+    ⊎ Failed f.ending.written ((status ≡ 4) × (¬ RoseOrFull (err_faults err) (err_faults err') → said_to err' ≡ taken_with (said_to err) (refusal_text refusal.WriteFault)) × IsTakenPrefix (said_to err') (taken_with (said_to err) (refusal_text refusal.WriteFault)))
 ends f o = split f.ending.written o.written o.unwritten
 
 low_not : (status n : ℕ) → 1 < n → status ≤ 1 → status ≡ n → ⊥
@@ -144,7 +144,7 @@ module _ {serial : Command → Bool} {turns : Command → Subject → List Close
 
   has_run : (answered : Result RunEnd Refusal) → Answered serial turns job left read_faults source source' taken write_faults out out' answered → IsOutcome answered said_to err_faults err err' status rounds
       → (status ≡ 0) ⊎ (status ≡ 1) ⊎ (status ≡ 4)
-      → HasRun serial turns job (left source) (λ own bytes. (status ≢ 4 → (status ≡ own) × (taken out' ≡ after (taken out) bytes)) × IsFront (taken out') (after (taken out) bytes)) rounds
+      → HasRun serial turns job (left source) (λ own bytes. (status ≢ 4 → (status ≡ own) × (taken out' ≡ taken_with (taken out) bytes)) × IsTakenPrefix (taken out') (taken_with (taken out) bytes)) rounds
   has_run (Ok f) a o s =
       let r = a.ran in
       record {
@@ -156,10 +156,10 @@ module _ {serial : Command → Bool} {turns : Command → Subject → List Close
         bytes = r.bytes;
         answers = r.answers;
         wrote = elim (ends f o) [
-          | inl w ↦ (λ other. (w.fact.0 ∙ r.wrote.0, did w r.wrote.1), subst (IsFront (taken out')) (did w r.wrote.1) (front_same (taken out')))
+          | inl w ↦ (λ other. (w.fact.0 ∙ r.wrote.0, did w r.wrote.1), subst (IsTakenPrefix (taken out')) (did w r.wrote.1) (front_same (taken out')))
           | inr u ↦ (λ other. absurd (other u.fact.0), failed u r.wrote.2)
         ];
-        rounds_tell = subst (TellsCommand (serial r.command) r.command r.subject) (sym o.told) r.rounds_tell;
+        rounds_report = subst (ReportsCommand (serial r.command) r.command r.subject) (sym o.told) r.rounds_report;
         turned = subst (turns r.command r.subject) (sym o.told) r.turned;
       }
   has_run (Err r) a o s =
@@ -201,23 +201,23 @@ module _ {serial : Command → Bool} {turns : Command → Subject → List Close
       (λ u e. unfit_for text u (a.unfit u (ap (λ (x : Refusal). Err x) e)) (told (inr (o.refused.0 ∙ ap status_of e ∙ unfit_is u))))
 
   said_whole : (answered : Result RunEnd Refusal) → Answered serial turns job left read_faults source source' taken write_faults out out' answered → IsOutcome answered said_to err_faults err err' status rounds → (text : List ℕ) → ((status ≡ 5) ⊎ (status ≡ 6) → Told job (left source) text)
-      → ¬ RoseOrFull (err_faults err) (err_faults err') → said_to err' ≡ after (said_to err) (said status (answer_to serial job text))
+      → ¬ RoseOrFull (err_faults err) (err_faults err') → said_to err' ≡ taken_with (said_to err) (said status (answer_to serial job text))
   said_whole (Ok f) a o text told calm =
       elim (ends f o) [
-        | inl w ↦ ap said_to w.fact.2 ∙ (sym (after-nil (said_to err)) ∙ ap (after (said_to err)) (sym (said_none status (answer_to serial job text) w.fact.1)))
-        | inr u ↦ u.fact.1 calm ∙ ap (λ n. after (said_to err) (said n (answer_to serial job text))) (sym u.fact.0)
+        | inl w ↦ ap said_to w.fact.2 ∙ (sym (after-nil (said_to err)) ∙ ap (taken_with (said_to err)) (sym (said_none status (answer_to serial job text) w.fact.1)))
+        | inr u ↦ u.fact.1 calm ∙ ap (λ n. taken_with (said_to err) (said n (answer_to serial job text))) (sym u.fact.0)
       ]
-  said_whole (Err r) a o text told calm = o.refused.1 calm ∙ ap (after (said_to err)) (sym (said_of r a o text told))
+  said_whole (Err r) a o text told calm = o.refused.1 calm ∙ ap (taken_with (said_to err)) (sym (said_of r a o text told))
 
   said_front : (answered : Result RunEnd Refusal) → Answered serial turns job left read_faults source source' taken write_faults out out' answered → IsOutcome answered said_to err_faults err err' status rounds → (text : List ℕ) → ((status ≡ 5) ⊎ (status ≡ 6) → Told job (left source) text)
-      → IsFront (said_to err') (after (said_to err) (said status (answer_to serial job text)))
+      → IsTakenPrefix (said_to err') (taken_with (said_to err) (said status (answer_to serial job text)))
   said_front (Ok f) a o text told =
       elim (ends f o) [
         | inl w ↦
-            subst (IsFront (said_to err')) (ap said_to w.fact.2 ∙ (sym (after-nil (said_to err)) ∙ ap (after (said_to err)) (sym (said_none status (answer_to serial job text) w.fact.1)))) (front_same (said_to err'))
-        | inr u ↦ subst (λ n. IsFront (said_to err') (after (said_to err) (said n (answer_to serial job text)))) (sym u.fact.0) u.fact.2
+            subst (IsTakenPrefix (said_to err')) (ap said_to w.fact.2 ∙ (sym (after-nil (said_to err)) ∙ ap (taken_with (said_to err)) (sym (said_none status (answer_to serial job text) w.fact.1)))) (front_same (said_to err'))
+        | inr u ↦ subst (λ n. IsTakenPrefix (said_to err') (taken_with (said_to err) (said n (answer_to serial job text)))) (sym u.fact.0) u.fact.2
       ]
-  said_front (Err r) a o text told = subst (λ (all : List ℕ). IsFront (said_to err') (after (said_to err) all)) (sym (said_of r a o text told)) o.refused.2
+  said_front (Err r) a o text told = subst (λ (all : List ℕ). IsTakenPrefix (said_to err') (taken_with (said_to err) all)) (sym (said_of r a o text told)) o.refused.2
 
   silent : (answered : Result RunEnd Refusal) → Answered serial turns job left read_faults source source' taken write_faults out out' answered → IsOutcome answered said_to err_faults err err' status rounds → (status ≡ 0) ⊎ (status ≡ 1) → err' ≡ err
   silent (Ok f) a o low =

@@ -3,7 +3,7 @@
 use Rattle.std.specs.Prelude.{◌≡◌, ◌≢◌, ◌⊎◌, ◌≤◌, ℕ, Bool, true, false, List, [], Option, None, Some, Result, Err, drop}
 use Rattle.std.specs.Prelude.{OnOk, OnErr, IfOk, IfErr}
 use Rattle.std.specs.Result.{IsErrAnd}
-use Rattle.bale_types.specs.Stream.{after, HasCause, IsFront}
+use Rattle.bale_types.specs.Stream.{taken_with, HasCause, IsTakenPrefix}
 use Rattle.bale_items.specs.Counters.{RoseOrFull}
 use Rattle.rank_group.specs.declared.closed_round.ClosedRound.{ClosedRound}
 use Rattle.bale_words.specs.declared.command.Command.{Command}
@@ -37,12 +37,12 @@ pub record Answered {S K : Type 0} (serial : Command → Bool)
   pub unfit : (u : Unfit) → answered ≡ Err (refusal.Unfit u) → HasNotFit serial job (left source) (λ why. why ≡ u)
   pub kinds : IfErr answered (λ r. r ≢ refusal.WriteFault)
   pub ran : IfOk answered (λ f. HasRun serial turns job (left source) (λ own bytes. (f.ending.status ≡ own)
-      × OnOk f.ending.written (taken out' ≡ after (taken out) bytes)
-      × OnErr f.ending.written (IsFront (taken out') (after (taken out) bytes))) f.rounds)
+      × OnOk f.ending.written (taken out' ≡ taken_with (taken out) bytes)
+      × OnErr f.ending.written (IsTakenPrefix (taken out') (taken_with (taken out) bytes))) f.rounds)
   pub low : IfOk answered (λ f. f.ending.status ≤ 1)
   pub write_fault : IfOk answered (λ f. HasCause (write_faults out) (write_faults out') f.ending.written)
   pub no_write_fault : IfOk answered (λ f. OnOk f.ending.written (write_faults out' ≡ write_faults out))
-  pub held : IsFront (taken out) (taken out')
+  pub held : IsTakenPrefix (taken out) (taken out')
   pub unread : reads job ≡ false → source' ≡ source
   pub read_whole : (text : List ℕ) → left source ≡ Some text → reads job ≡ true
       → OnOk answered (left source' ≡ Some (drop 16777217 text))
@@ -60,10 +60,10 @@ pub record IsOutcome {E : Type 0} (answered : Result RunEnd Refusal) (taken : E 
   pub unwritten : IfOk answered
       (λ f. OnErr f.ending.written
       ((status ≡ 4)
-      × (¬ RoseOrFull (faults err) (faults err') → taken err' ≡ after (taken err) (refusal_text refusal.WriteFault))
-      × IsFront (taken err') (after (taken err) (refusal_text refusal.WriteFault))))
+      × (¬ RoseOrFull (faults err) (faults err') → taken err' ≡ taken_with (taken err) (refusal_text refusal.WriteFault))
+      × IsTakenPrefix (taken err') (taken_with (taken err) (refusal_text refusal.WriteFault))))
   pub refused : IfErr answered
       (λ r. (status ≡ status_of r)
-      × (¬ RoseOrFull (faults err) (faults err') → taken err' ≡ after (taken err) (refusal_text r))
-      × IsFront (taken err') (after (taken err) (refusal_text r)))
-  pub held : IsFront (taken err) (taken err')
+      × (¬ RoseOrFull (faults err) (faults err') → taken err' ≡ taken_with (taken err) (refusal_text r))
+      × IsTakenPrefix (taken err') (taken_with (taken err) (refusal_text r)))
+  pub held : IsTakenPrefix (taken err) (taken err')

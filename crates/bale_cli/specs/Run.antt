@@ -1,6 +1,6 @@
 -- What the two top calls promise alike.
 use Rattle.std.specs.Prelude.{◌≡◌, ◌≢◌, ◌⊎◌, ◌≤◌, ℕ, Bool, true, false, List, [], Option, None, Some, drop}
-use Rattle.bale_types.specs.Stream.{after, IsFront}
+use Rattle.bale_types.specs.Stream.{taken_with, IsTakenPrefix}
 use Rattle.bale_items.specs.Counters.{RoseOrFull}
 use Rattle.rank_group.specs.declared.closed_round.ClosedRound.{ClosedRound}
 use Rattle.bale_words.specs.declared.command.Command.{Command}
@@ -13,16 +13,17 @@ use Rattle.bale_subjects.specs.declared.unfit.Unfit.{Unfit}
 use Rattle.bale_subjects.specs.Fitness.{unfitness}
 use Rattle.bale_subjects.specs.Reading.{reads, Told, IsSubjectOf}
 use Rattle.bale_subjects.specs.Refusals.{refusal_text}
-use Rattle.bale_answers.specs.Answer.{serial_answer, said, shown, Asked}
+use Rattle.bale_answers.specs.Answer.{serial_answer, said, shown_text, Asked}
 use Rattle.bale_answers.specs.Tasks.{IsAnswer, task_status}
-use Rattle.bale_runs.specs.Asking.{FewestOfCommand, SweptOfCommand, TellsCommand, ToldOfCommand, TurnsOfCommand}
+use Rattle.bale_runs.specs.Asking.{FewestOfCommand, SweptOfCommand, TurnsOfCommand}
 use Rattle.bale_runs.specs.Jobs.{as_asked, on_one_thread}
+use Rattle.bale_runs.specs.Reports.{ReportsCommand, ToldOfEpochs}
 
 -- What a run with an answer ran: a command of the words on a subject that it fits, the text's if
 -- the source tells it. `bytes` are that command's answer, `P` says of its status and of the bytes
--- shown what out took, the rounds tell what was exchanged, and `turns` says how its ranks were
--- turned.
--- What such bytes mean, in the words of each application's field, is a law of bale_meaning.
+-- shown what out took, the rounds report what was exchanged, and `turns` says how its ranks
+-- were turned.
+-- What such bytes mean, in the words of each application's field, is a law of bale_answers.
 -- This holds of standard input too, which tells no text: status 0 on the words `histo` then says
 -- that some matrix was read, that the answer for it was written, and that its items travelled.
 pub record HasRun (serial : Command → Bool) (turns : Command → Subject → List ClosedRound → Type 0)
@@ -36,8 +37,8 @@ pub record HasRun (serial : Command → Bool) (turns : Command → Subject → L
   pub bytes : List ℕ
   pub answers : IsAnswer command.task subject bytes
   pub wrote : P (task_status command.task subject)
-      (shown command.travel.generated (task_status command.task subject) bytes)
-  pub rounds_tell : TellsCommand (serial command) command subject rounds
+      (shown_text command.travel.generated (task_status command.task subject) bytes)
+  pub rounds_report : ReportsCommand (serial command) command subject rounds
   pub turned : turns command subject rounds
 
 -- Why a run ended at 6: a command of the words doesn't fit its subject, which is the text's if the
@@ -55,7 +56,7 @@ pub record HasNotFit (serial : Command → Bool) (job : Option Command) (left : 
 -- err has taken a refusal's text, unless its own faults rose.
 abbrev pub Says : {E : Type 0} → (E → Option (List ℕ)) → (E → ℕ) → E → E → Refusal → Type 0
 Says told faults err err' r =
-    ¬ RoseOrFull (faults err) (faults err') → told err' ≡ after (told err) (refusal_text r)
+    ¬ RoseOrFull (faults err) (faults err') → told err' ≡ taken_with (told err) (refusal_text r)
 
 -- A run of the command that the words name, which ends with a status and tells its rounds. `serial`
 -- says of each command whether one thread turns all its ranks, and `turns` how they were turned
@@ -88,20 +89,19 @@ pub record IsRun {S K E : Type 0} (serial : Command → Bool)
   pub read_whole : (text : List ℕ) → left source ≡ Some text → reads (command_of words) ≡ true → status ≢ 3 → status ≢ 7
       → left source' ≡ Some (drop 16_777_217 text)
   -- At 0, 1 and 4 a command that fits its subject was run: at 0 and 1 out has taken the answer, at
-  -- 4 a front of it. What out held stays, so at 4 it has what it held and then a front of the
+  -- 4 a prefix of it. What out held stays, so at 4 it has what it held and then a prefix of the
   -- answer.
-  -- The rounds tell the canonical run of the application's programs for its matrix or lines, and
-  -- for ig over biconvey that of the sums and then the queries and the replies, over banks of the
-  -- grid, the capacity and the slots that the words name: plain ones for one thread, else ones of
-  -- slots.
+  -- The rounds report the application's table of rounds for its matrix or lines, and for ig over
+  -- biconvey that of the sums and then the queries and the replies, over banks of the grid, the
+  -- capacity and the slots that the words name: plain ones for one thread, else ones of slots.
   -- Over conveyors that aren't steady each epoch's entries travel in few parcels, by port_bank's
   -- few_parcels_law. At the other statuses out is as it was, and there are no rounds.
   pub has_run : (status ≡ 0) ⊎ (status ≡ 1) ⊎ (status ≡ 4) → HasRun serial turns
       (command_of words) (left source)
-      (λ own bytes. (status ≢ 4 → (status ≡ own) × (taken out' ≡ after (taken out) bytes))
-      × IsFront (taken out') (after (taken out) bytes)) rounds
+      (λ own bytes. (status ≢ 4 → (status ≡ own) × (taken out' ≡ taken_with (taken out) bytes))
+      × IsTakenPrefix (taken out') (taken_with (taken out) bytes)) rounds
   pub no_rounds : status ≢ 0 → status ≢ 1 → status ≢ 4 → rounds ≡ []
-  pub held : IsFront (taken out) (taken out')
+  pub held : IsTakenPrefix (taken out) (taken out')
   pub no_answer : status ≢ 0 → status ≢ 1 → status ≢ 4 → out' ≡ out
   -- At 5 a text was read, and err names a bad line; at 6 the command doesn't fit, and err says why.
   pub bad : status ≡ 5 → (reads (command_of words) ≡ true)
@@ -112,10 +112,10 @@ pub record IsRun {S K E : Type 0} (serial : Command → Bool)
   -- 0 and 1 err is as it was.
   pub said_whole : (text : List ℕ) → ((status ≡ 5) ⊎ (status ≡ 6) → Told (command_of words) (left source) text)
       → ¬ RoseOrFull (err_faults err) (err_faults err')
-      → told err' ≡ after (told err) (said status (serial_answer serial words text))
+      → told err' ≡ taken_with (told err) (said status (serial_answer serial words text))
   pub said_front : (text : List ℕ) → ((status ≡ 5) ⊎ (status ≡ 6) → Told (command_of words) (left source) text)
-      → IsFront (told err') (after (told err) (said status (serial_answer serial words text)))
-  pub said_held : IsFront (told err) (told err')
+      → IsTakenPrefix (told err') (taken_with (told err) (said status (serial_answer serial words text)))
+  pub said_held : IsTakenPrefix (told err) (told err')
   pub silent : (status ≡ 0) ⊎ (status ≡ 1) → err' ≡ err
 
 -- The turns of a run on one thread, from `before` to `after`, by what the words name and what the
@@ -134,6 +134,6 @@ abbrev pub TurnedInOrder : ℕ → ℕ → Command → Subject → List ClosedRo
 TurnedInOrder before after c s rounds =
     SweptOfCommand c s before after rounds × FewestOfCommand c s before after
 
--- On threads: the gate, of which `told` holds, was told of the turns of each rank.
+-- On threads: the gate, of which `told` holds, was told of a turn of each rank in each epoch.
 abbrev pub GateTold : (ℕ → ℕ → Bool) → Command → Subject → List ClosedRound → Type 0
-GateTold told c s rounds = as_asked c ≡ false → ToldOfCommand c s told
+GateTold told c s rounds = as_asked c ≡ false → ToldOfEpochs c.grid told rounds

@@ -10,6 +10,7 @@ use bale_runs::{RunEnd, drives_serially, run_command, run_serially};
 use bale_subjects::{Refusal, Subject, read_words, report, subject_for};
 use bale_types::{Sink, Source};
 use bale_words::Command;
+use mtx_text::OneThread;
 use rank_group::{Gate, Rounds, Steps};
 use std::alloc::Global;
 use std::sync::Wait;
@@ -138,7 +139,7 @@ fn answer_of<R: Threads + Wait + Sync, S: Source, K: Sink, G: Gate + Sync>(
         S.left S.faults source.old source.new K.taken K.faults out.old out.new result }
 {
     let serial = drives_serially(command);
-    match subject_for(alloc, command, source, serial) {
+    match subject_for(&OneThread, alloc, command, source, serial) {
         Ok(subject) => run_command(rt, alloc, command, &subject, out, gate),
         Err(refusal) => Err(refusal),
     }
@@ -177,7 +178,7 @@ fn answer_of_serially<S: Source, K: Sink, L: Ledger>(
     ensures turns { AreTurns (S.left source.old) (Some command.now) steps.old steps.new }
     ensures no_turns { IfErr result (λ r. r ≢ Refusal.NoMemory → steps.new ≡ steps.old) }
 {
-    match subject_for(alloc, command, source, true) {
+    match subject_for(&OneThread, alloc, command, source, true) {
         Ok(subject) => run_serially(alloc, command, &subject, out, steps),
         Err(refusal) => Err(refusal),
     }

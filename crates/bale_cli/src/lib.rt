@@ -12,7 +12,7 @@
 //! bale_subjects (what a command is asked of), and on bale_runs (what the rounds tell).
 //! `specs/Outcomes` is the way there.
 //!
-//! What the bytes of each answer mean, in the words of its field, is the law of bale_meaning:
+//! What the bytes of each answer mean, in the words of its field, is the law of bale_answers:
 //! `Means` in `specs/Tasks` of bale_answers has a line for each task.
 #![tactic(auto)]
 

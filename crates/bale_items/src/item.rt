@@ -1,6 +1,7 @@
 //! Items, the tags that they carry on their way, and the two together.
 
 /// What an application sends: three words, whose meaning is the application's own.
+#[repr(C)]
 #[derive(Clone, Copy, PartialEq, Eq, Default, Debug)]
 pub struct Item {
     pub a: u64,
@@ -10,6 +11,7 @@ pub struct Item {
 
 /// One digit for each hop of a route, up to three: what an entry must carry so that each relay and
 /// the reader know its sender and its destination.
+#[repr(C)]
 #[derive(Clone, Copy, PartialEq, Eq, Default, Debug)]
 pub struct Tag {
     pub d1: u8,
@@ -18,6 +20,7 @@ pub struct Tag {
 }
 
 /// An item on a link.
+#[repr(C)]
 #[derive(Clone, Copy, PartialEq, Eq, Default, Debug)]
 pub struct Entry {
     pub tag: Tag,

@@ -10,8 +10,8 @@ use Rattle.round_program.proofs.Injections.{same_runs}
 use Rattle.rank_group.specs.declared.closed_round.ClosedRound.{ClosedRound}
 use Rattle.rank_node.specs.Movers.{Manner}
 use Rattle.rank_group.specs.declared.drive.Finished.{Finished}
-use Rattle.rank_group.specs.Told.{Made, turns_within}
-use Rattle.rank_group.specs.Driven.{HasFinished, HasSwept, ToldOfTurns, WithinTurns}
+use Rattle.rank_group.specs.Transcript.{Made, turns_within}
+use Rattle.rank_group.specs.DrivePromises.{HasFinished, HasSwept, ToldOfTurns, WithinTurns}
 use Rattle.bale_words.specs.declared.task.Task.{Task}
 use Rattle.app_cases.specs.Any.{AnyState, any_rules}
 use Rattle.app_cases.proofs.Driving.{steps, are_cases, ended, rounds}
@@ -22,7 +22,7 @@ use Rattle.bale_words.specs.declared.command.Command.{Command}
 use Rattle.bale_runs.specs.RunEnds.{IsRunEnd}
 use Rattle.bale_subjects.specs.declared.subject.Subject.{Subject}
 use Rattle.bale_answers.specs.Tasks.{plan_of, way_of, starts_of}
-use Rattle.bale_runs.specs.Runs.{HaveRun, SweptInOrder, Tells, TellsTask, IsTaskRun, TurnsOfTask, BeyondTurns, FewestOfTask}
+use Rattle.bale_runs.specs.Runs.{HaveRunTask, SweptInOrder, Tells, TellsTask, IsTaskRun, TurnsOfTask, BeyondTurns, FewestOfTask}
 
 pub tells : {S : Type 0} {R : Rules S} {i : S → AnyState} {w : List ℕ → List ℕ} → Injects R any_rules i w → (starts : List S) (ps : List AnyState) (made : Made) (manner : Manner)
     (run : Finished AnyState) → ps ≡ map i starts → 0 < length ps → HasFinished any_rules ps made manner run → Tells R starts made manner run.rounds
@@ -34,7 +34,7 @@ tells {i = i} case starts ps made manner run put some h =
     record { closed = r.0; only = r.1; count = e.rounds; has_rounds = e.has_rounds; tells = r.2 e.rounds e.has_rounds }
 
 -- the programs of a task's run
-have_run : (t : Task) (s : Subject) (n : ℕ) (ps ends : List AnyState) → 1 ≤ n → n ≤ 64 → ps ≡ starts_of t n s → 0 < length ps → HaveEnded any_rules ps ends → HaveRun t s ends
+have_run : (t : Task) (s : Subject) (n : ℕ) (ps ends : List AnyState) → 1 ≤ n → n ≤ 64 → ps ≡ starts_of t n s → 0 < length ps → HaveEnded any_rules ps ends → HaveRunTask t s ends
 have_run t s n ps ends low high are some h =
     record {
       ranks = n;

@@ -8,14 +8,14 @@ use Rattle.list_laws.specs.Sums.{total}
 use Rattle.list_laws.proofs.Sums.{total_same, total_list}
 use Rattle.route_tensor.specs.Grid.{ranks}
 use Rattle.mtx_text.specs.Sparse.{Sparse, IsSparse}
-use Rattle.sparse_rows.specs.Owners.{Numbered, numbered, entry_owner, column_owner, own_entries}
+use Rattle.sparse_rows.specs.Owners.{Numbered, with_numbers, entry_owner, column_owner, own_entries}
 use Rattle.sparse_rows.proofs.Deals.{dealt_sum}
 use Rattle.round_program.specs.Canonical.{HasRounds, HaveEnded}
 use Rattle.round_program.specs.Replies.{HaveHeard}
 use Rattle.rank_node.specs.Movers.{manner_of}
 use Rattle.rank_node.specs.declared.via.Via.TheVariants as via
 use Rattle.rank_group.specs.declared.closed_round.ClosedRound.{ClosedRound}
-use Rattle.rank_group.specs.Told.{Made, turns_within}
+use Rattle.rank_group.specs.Transcript.{Made, turns_within}
 use Rattle.app_histo_ig.specs.Sums.{SumsState, sums_rules}
 use Rattle.app_histo_ig.specs.SumsRuns.{sums_begins, sums_starts, SumsEnded}
 use Rattle.app_histo_ig.specs.Asking.{AskingState, ig_talk}
@@ -23,7 +23,7 @@ use Rattle.app_histo_ig.specs.AskingRuns.{AreAskersOf}
 use Rattle.app_histo_ig.specs.ColumnAnswers.{IgHeard}
 use Rattle.app_histo_ig.proofs.SumsStarts.{one_round}
 use Rattle.app_cases.specs.Any.{AnyState, any_rules, sums_way}
-use Rattle.biconvey.specs.Worlds.{turns_of}
+use Rattle.biconvey.specs.RanksOverBanks.{bi_turns_of}
 use Rattle.bale_words.specs.declared.command.Command.{Command}
 use Rattle.bale_words.specs.declared.task.Task.{Task}
 use Rattle.bale_words.specs.declared.task.Task.TheVariants as task
@@ -86,10 +86,10 @@ one_each m p askers some are =
     (λ r s at. ap length (are.each r s at).asks ∙ length-map (own_entries p r m.entries) (λ (e : Numbered). (column_owner p e, e.1.j)))
     ∙ (ap (λ n. total n (λ r. length (own_entries p r m.entries))) are.size
     ∙ (total_same p (λ r. length (own_entries p r m.entries)) (λ r. sum_by (λ (e : Numbered). 1) (own_entries p r m.entries)) (λ r l. sym (ones (own_entries p r m.entries)))
-    ∙ (dealt_sum p (entry_owner p) (λ (e : Numbered). 1) (numbered m.entries) owned ∙ (ones (numbered m.entries) ∙ length-enumerate_from 0 m.entries))))
+    ∙ (dealt_sum p (entry_owner p) (λ (e : Numbered). 1) (with_numbers m.entries) owned ∙ (ones (with_numbers m.entries) ∙ length-enumerate_from 0 m.entries))))
   where
-    owned : All (λ (e : Numbered). entry_owner p e < p) (numbered m.entries)
-    owned k d l = mod-lt (get_or (numbered m.entries) k d).0 some
+    owned : All (λ (e : Numbered). entry_owner p e < p) (with_numbers m.entries)
+    owned k d l = mod-lt (get_or (with_numbers m.entries) k d).0 some
 
 -- the round of sums
 pub sums_turns : (m : Sparse) (steady : Bool) (dims : List ℕ) (before after : ℕ) (ps : List AnyState) → ps ≡ map sums_way.case (sums_starts (ranks dims) m) → 0 < length ps
@@ -104,16 +104,16 @@ more_turns before after sums queries h = omega (arith, h)
 pub turns_of_sums : (m : Sparse) (steady : Bool) (dims : List ℕ) (before after : ℕ)
     → after ≤ before + turns_within sums_rules (manner_of via.Convey steady) dims (sums_starts (ranks dims) m) 1 → TurnsOfAsking m steady dims before after
 turns_of_sums m steady dims before after h =
-    more_turns before after (turns_within sums_rules (manner_of via.Convey steady) dims (sums_starts (ranks dims) m) 1) (turns_of dims (length m.entries)) h
+    more_turns before after (turns_within sums_rules (manner_of via.Convey steady) dims (sums_starts (ranks dims) m) 1) (bi_turns_of dims (length m.entries)) h
 
 both_turns : (before between after sums queries : ℕ) → between ≤ before + sums → after ≤ between + queries → after ≤ before + (sums + queries)
 both_turns before between after sums queries h k = omega (arith, h, k)
 
 pub turns_of_both : (m : Sparse) (steady : Bool) (dims : List ℕ) (before between after : ℕ)
     → between ≤ before + turns_within sums_rules (manner_of via.Convey steady) dims (sums_starts (ranks dims) m) 1
-    → after ≤ between + turns_of dims (length m.entries) → TurnsOfAsking m steady dims before after
+    → after ≤ between + bi_turns_of dims (length m.entries) → TurnsOfAsking m steady dims before after
 turns_of_both m steady dims before between after h k =
-    both_turns before between after (turns_within sums_rules (manner_of via.Convey steady) dims (sums_starts (ranks dims) m) 1) (turns_of dims (length m.entries)) h k
+    both_turns before between after (turns_within sums_rules (manner_of via.Convey steady) dims (sums_starts (ranks dims) m) 1) (bi_turns_of dims (length m.entries)) h k
 
 -- each rank's turn in an epoch of sums, of votes and of the exchange
 pub three_each : (before between after ranks : ℕ) → before + 2 * ranks ≤ between → between + ranks ≤ after → before + 3 * ranks ≤ after

@@ -4,3 +4,4 @@ pub mod Exchanges
 pub mod Heard
 pub mod Orders
 pub mod Replied
+pub mod Reports

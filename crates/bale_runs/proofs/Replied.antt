@@ -10,14 +10,14 @@ use Rattle.list_laws.proofs.Lists.{find}
 use Rattle.route_tensor.specs.Grid.{ranks}
 use Rattle.mtx_text.specs.Sparse.{Sparse, IsSparse}
 use Rattle.sparse_rows.specs.Deals.{dealt}
-use Rattle.sparse_rows.specs.Owners.{Numbered, numbered, entry_owner, column_owner, own_entries}
+use Rattle.sparse_rows.specs.Owners.{Numbered, with_numbers, entry_owner, column_owner, own_entries}
 use Rattle.sparse_rows.proofs.Starts.{all_numbered}
 use Rattle.port_bank.specs.Round.{Round}
 use Rattle.round_program.specs.Canonical.{items_of}
 use Rattle.round_program.specs.Replies.{carrying, as_items, answers}
 use Rattle.rank_group.specs.declared.closed_round.ClosedRound.{ClosedRound}
-use Rattle.rank_group.specs.Rounds.{round_of}
-use Rattle.rank_group.specs.Told.{Made}
+use Rattle.rank_group.specs.Rounds.{round_inside}
+use Rattle.rank_group.specs.Transcript.{Made}
 use Rattle.app_histo_ig.specs.IgLines.{column_sum}
 use Rattle.app_histo_ig.specs.Asking.{AskingState, ig_talk}
 use Rattle.app_histo_ig.specs.AskingRuns.{IsAskerOf, AreAskersOf}
@@ -47,7 +47,7 @@ columns_in m p s d is =
     let own : List Numbered = own_entries p s m.entries in
     All-map (λ j. (j < m.cols) × (j % p ≡ d)) (λ (e : Numbered). e.1.j) (dealt (column_owner p) d own) (λ k e l. (
       All-filter (λ (x : Numbered). eqb (column_owner p x) d) (λ (x : Numbered). x.1.j < m.cols) own
-          (All-filter (λ (x : Numbered). eqb (entry_owner p x) s) (λ (x : Numbered). x.1.j < m.cols) (numbered m.entries) (all_numbered (λ (t : Triple). t.j < m.cols) 0 m.entries (λ i b h. (is.inside i b h).col))) k e l,
+          (All-filter (λ (x : Numbered). eqb (entry_owner p x) s) (λ (x : Numbered). x.1.j < m.cols) (with_numbers m.entries) (all_numbered (λ (t : Triple). t.j < m.cols) 0 m.entries (λ i b h. (is.inside i b h).col))) k e l,
       eqb-true (column_owner p (get_or (dealt (column_owner p) d own) k e)) d (filter_passes (λ (x : Numbered). eqb (column_owner p x) d) own k e l),
     ))
 
@@ -89,13 +89,13 @@ same_way made steady f g round same t =
     }
 
 pub told_replies : (m : Sparse) (made : Made) (steady : Bool) (rounds : List ClosedRound) (askers : List AskingState) → IsSparse m → AreAskersOf m (ranks made.dims) askers
-    → ((q : ClosedRound) × (r : ClosedRound) × (rounds ≡ q ∷ r ∷ []) × TellsExchange ig_talk askers made steady (round_of q) (round_of r))
+    → ((q : ClosedRound) × (r : ClosedRound) × (rounds ≡ q ∷ r ∷ []) × TellsExchange ig_talk askers made steady (round_inside q) (round_inside r))
     → TellsReplies m made steady rounds
 told_replies m made steady rounds askers is are x =
     record {
       queries = x.0;
       replies = x.1;
       two = x.2;
-      asking = same_way made steady (queries_by ig_talk askers) (queries_for m (ranks made.dims)) (round_of x.0) (λ s d from to. queries_are m (ranks made.dims) askers are s d from) x.3.asking;
-      replying = same_way made steady (replies_by ig_talk askers) (replies_for m (ranks made.dims)) (round_of x.1) (λ d s from to. replies_are m (ranks made.dims) askers is are d s from to) x.3.replying;
+      asking = same_way made steady (queries_by ig_talk askers) (queries_for m (ranks made.dims)) (round_inside x.0) (λ s d from to. queries_are m (ranks made.dims) askers are s d from) x.3.asking;
+      replying = same_way made steady (replies_by ig_talk askers) (replies_for m (ranks made.dims)) (round_inside x.1) (λ d s from to. replies_are m (ranks made.dims) askers is are d s from to) x.3.replying;
     }

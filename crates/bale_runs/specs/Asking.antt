@@ -12,9 +12,9 @@ use Rattle.rank_node.specs.Movers.{manner_of}
 use Rattle.rank_node.specs.declared.via.Via.TheVariants as via
 use Rattle.rank_group.specs.declared.closed_round.ClosedRound.{ClosedRound}
 use Rattle.rank_group.specs.declared.drive.Finished.{Finished}
-use Rattle.rank_group.specs.Rounds.{round_of}
-use Rattle.rank_group.specs.Told.{Made, turns_within}
-use Rattle.rank_group.specs.Driven.{ToldOfTurns}
+use Rattle.rank_group.specs.Rounds.{round_inside}
+use Rattle.rank_group.specs.Transcript.{Made, turns_within}
+use Rattle.rank_group.specs.DrivePromises.{ToldOfTurns}
 use Rattle.round_program.specs.Canonical.{HaveEnded}
 use Rattle.round_program.specs.Replies.{carrying}
 use Rattle.app_cases.specs.Any.{AnyState, any_rules, sums_way}
@@ -25,8 +25,8 @@ use Rattle.app_histo_ig.specs.Asking.{AskingState, ig_talk}
 use Rattle.app_histo_ig.specs.AskingRuns.{AreAskersOf}
 use Rattle.app_histo_ig.specs.ColumnAnswers.{IgHeard}
 use Rattle.biconvey.specs.Drives.{TellsWay}
-use Rattle.biconvey.specs.Driven.{HasSweptBoth}
-use Rattle.biconvey.specs.Worlds.{turns_of}
+use Rattle.biconvey.specs.DrivePromises.{HasSweptBoth}
+use Rattle.biconvey.specs.RanksOverBanks.{bi_turns_of}
 use Rattle.bale_words.specs.declared.command.Command.{Command}
 use Rattle.bale_subjects.specs.declared.subject.Subject.{Subject}
 use Rattle.bale_subjects.specs.declared.subject.Subject.TheVariants as subject
@@ -56,8 +56,8 @@ pub record TellsReplies (m : Sparse) (made : Made) (steady : Bool) (rounds : Lis
   pub queries : ClosedRound
   pub replies : ClosedRound
   pub two : rounds ≡ queries ∷ replies ∷ []
-  pub asking : TellsWay made steady (queries_for m (ranks made.dims)) (round_of queries)
-  pub replying : TellsWay made steady (replies_for m (ranks made.dims)) (round_of replies)
+  pub asking : TellsWay made steady (queries_for m (ranks made.dims)) (round_inside queries)
+  pub replying : TellsWay made steady (replies_for m (ranks made.dims)) (round_inside replies)
 
 -- The rounds of ig by queries and replies are three. The first tells the one round on conveyors in
 -- which the columns are summed, over a bank of the same make, and the rest the queries and the
@@ -77,7 +77,7 @@ pub record HasSummed (m : Sparse) (made : Made) (steady : Bool) (run : Finished 
   pub rounds : Tells sums_rules (sums_starts (ranks made.dims) m) made (manner_of via.Convey steady) run.rounds
 
 -- What the queries and the replies leave.
-pub record HasAsked (m : Sparse) (made : Made) (steady : Bool) (run : Finished AskingState) : Type 0 where
+pub record LeftByQueries (m : Sparse) (made : Made) (steady : Bool) (run : Finished AskingState) : Type 0 where
   -- Each asker has heard the sums of its entries' columns.
   pub heard : IgHeard m run.progs
   -- Two closed rounds tell both ways.
@@ -89,7 +89,7 @@ abbrev pub TurnsOfAsking : Sparse → Bool → List ℕ → ℕ → ℕ → Type
 TurnsOfAsking m steady dims before after =
     after ≤ before
     + (turns_within sums_rules (manner_of via.Convey steady) dims (sums_starts (ranks dims) m) 1
-    + turns_of dims (length m.entries))
+    + bi_turns_of dims (length m.entries))
 
 -- What the rounds of a command tell, by queries and replies or not. Lines have no columns to ask
 -- for.
@@ -97,10 +97,6 @@ abbrev pub TellsBy : Bool → Command → Subject → Made → List ClosedRound 
 TellsBy true c (subject.Matrix m) made rounds = TellsAsking m made c.travel.steady rounds
 TellsBy true c (subject.Lines lines) made rounds = ⊥
 TellsBy false c s made rounds = TellsTask c.task s made (manner_for c) rounds
-
--- The rounds tell the run of a command on its subject, on one thread or by threads.
-abbrev pub TellsCommand : Bool → Command → Subject → List ClosedRound → Type 0
-TellsCommand serial c s rounds = TellsBy (by_asking c) c s (made_for serial c) rounds
 
 abbrev pub TurnsBy : Bool → Command → Subject → ℕ → ℕ → Type 0
 TurnsBy true c (subject.Matrix m) before after = TurnsOfAsking m c.travel.steady c.grid before after
@@ -144,16 +140,16 @@ pub record SweptByAsking (m : Sparse) (made : Made) (steady : Bool) (before afte
       (manner_of via.Convey steady) before between sums
   pub asked : AskedInOrder m made steady between after rest
 
-abbrev pub SweptBy : Bool → Command → Subject → ℕ → ℕ → List ClosedRound → Type 0
-SweptBy true c (subject.Matrix m) before after rounds =
+abbrev pub RunSweptBy : Bool → Command → Subject → ℕ → ℕ → List ClosedRound → Type 0
+RunSweptBy true c (subject.Matrix m) before after rounds =
     SweptByAsking m (made_for true c) c.travel.steady before after rounds
-SweptBy true c (subject.Lines lines) before after rounds = ⊥
-SweptBy false c s before after rounds =
+RunSweptBy true c (subject.Lines lines) before after rounds = ⊥
+RunSweptBy false c s before after rounds =
     SweptInOrder (starts_of c.task (ranks c.grid) s) (made_for true c) (manner_for c) before after rounds
 
 -- The sweeps of a command on its subject, all ranks on one thread.
 abbrev pub SweptOfCommand : Command → Subject → ℕ → ℕ → List ClosedRound → Type 0
-SweptOfCommand c s before after rounds = SweptBy (by_asking c) c s before after rounds
+SweptOfCommand c s before after rounds = RunSweptBy (by_asking c) c s before after rounds
 
 -- `told` holds of the turns of each rank, by the rank's number and its own, counted from 0: by
 -- queries and replies of the two that the round of sums takes at least, else of two in each round.
@@ -161,6 +157,3 @@ abbrev pub ToldBy : Bool → Command → Subject → (ℕ → ℕ → Bool) → 
 ToldBy true c s told = (r m : ℕ) → r < ranks c.grid → m < 2 → told r m ≡ true
 ToldBy false c s told =
     ToldOfTurns (plan_of c.task s).rules ((plan_of c.task s).starts (ranks c.grid)) c.grid told
-
-abbrev pub ToldOfCommand : Command → Subject → (ℕ → ℕ → Bool) → Type 0
-ToldOfCommand c s told = ToldBy (by_asking c) c s told

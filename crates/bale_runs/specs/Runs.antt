@@ -6,11 +6,11 @@ use Rattle.route_tensor.specs.Grid.{ranks}
 use Rattle.round_program.specs.Rules.{Rules}
 use Rattle.round_program.specs.Canonical.{HasRounds, HaveEnded}
 use Rattle.rank_group.specs.declared.closed_round.ClosedRound.{ClosedRound}
-use Rattle.rank_group.specs.Rounds.{round_of}
+use Rattle.rank_group.specs.Rounds.{round_inside}
 use Rattle.rank_node.specs.Movers.{Manner}
 use Rattle.rank_group.specs.declared.drive.Finished.{Finished}
-use Rattle.rank_group.specs.Told.{Made, TellsRun}
-use Rattle.rank_group.specs.Driven.{HasSwept, WithinTurns}
+use Rattle.rank_group.specs.Transcript.{Made, TellsRun}
+use Rattle.rank_group.specs.DrivePromises.{HasSwept, WithinTurns}
 use Rattle.bale_words.specs.declared.command.Command.{Command}
 use Rattle.bale_words.specs.declared.task.Task.{Task}
 use Rattle.app_cases.specs.Any.{AnyState, any_rules}
@@ -24,7 +24,7 @@ made_for serial c = record { dims = c.grid; cap = c.travel.buffer; slots = c.tra
 
 -- The programs after the canonical run of those that the task begins with, on some number of ranks
 -- from 1 to 64.
-pub record HaveRun (t : Task) (s : Subject) (progs : List AnyState) : Type 0 where
+pub record HaveRunTask (t : Task) (s : Subject) (progs : List AnyState) : Type 0 where
   pub ranks : ℕ
   pub some : 1 ≤ ranks
   pub few : ranks ≤ 64
@@ -38,7 +38,7 @@ pub record Tells {S : Type 0} (R : Rules S) (starts : List S) (made : Made) (man
   pub only : rounds ≡ closed ∷ []
   pub count : ℕ
   pub has_rounds : HasRounds R starts count
-  pub tells : TellsRun R starts count made manner (round_of closed)
+  pub tells : TellsRun R starts count made manner (round_inside closed)
 
 -- The rounds tell the canonical run of a task's programs for its subject, over a bank that was made
 -- as said.
@@ -49,7 +49,7 @@ TellsTask t s made manner rounds = Tells (plan_of t s).rules ((plan_of t s).star
 -- What the drive of a task's programs for its subject leaves.
 pub record IsTaskRun (t : Task) (s : Subject) (made : Made) (manner : Manner) (run : Finished AnyState) : Type 0 where
   -- The programs are those after the run.
-  pub ended : HaveRun t s run.progs
+  pub ended : HaveRunTask t s run.progs
   -- The rounds tell it.
   pub rounds : TellsTask t s made manner run.rounds
 

@@ -3,8 +3,8 @@
 ghost use Rattle.std.specs.Prelude.{◌≡◌, ◌≤◌, ◌+◌, ◌*◌, ◌++◌, ℕ, true, false, List, map, length, OnOk, IfOk};
 ghost use Rattle.route_tensor.specs.Grid.{ranks};
 ghost use Rattle.rank_node.specs.Movers.{manner_of};
-ghost use Rattle.rank_group.specs.Told.{turns_within};
-ghost use Rattle.biconvey.specs.Worlds.{turns_of};
+ghost use Rattle.rank_group.specs.Transcript.{turns_within};
+ghost use Rattle.biconvey.specs.RanksOverBanks.{bi_turns_of};
 ghost use Rattle.round_program.specs.Canonical.{InRound, EndsWithin, HaveEnded};
 ghost use Rattle.app_cases.specs.Any.{any_rules, sums_way};
 ghost use Rattle.app_histo_ig.specs.Sums.{sums_rules};
@@ -12,8 +12,8 @@ ghost use Rattle.app_histo_ig.specs.SumsRuns.{sums_starts};
 ghost use Rattle.app_histo_ig.specs.AskingRuns.{AreAskersOf};
 ghost use Rattle.app_histo_ig.specs.ColumnAnswers.{IgHeard};
 ghost use Rattle.bale_words.specs.Ranges.{InRanges};
-ghost use Rattle.bale_runs.specs.Asking.{AskedInOrder, HasSummed, HasAsked, SweptBy, SweptByAsking, TellsBy, ToldBy, TurnsBy, TurnsOfAsking, FewestBy};
-ghost use Rattle.bale_runs.specs.RunEnds.{Fits, IsRunEnd};
+ghost use Rattle.bale_runs.specs.Asking.{AskedInOrder, HasSummed, LeftByQueries, RunSweptBy, SweptByAsking, TellsBy, ToldBy, TurnsBy, TurnsOfAsking, FewestBy};
+ghost use Rattle.bale_runs.specs.RunEnds.{CommandFits, IsRunEnd};
 ghost use Rattle.bale_runs.specs.Jobs.{by_asking};
 ghost use Rattle.bale_runs.specs.Runs.{made_for, SweptInOrder};
 
@@ -44,12 +44,12 @@ pub(crate) fn ask_serially<K: Sink, L: Ledger>(
     steps: &mut Steps<L>,
 ) -> Result<RunEnd, Refusal>
     requires asking { by_asking command.now ≡ true }
-    requires fit { Fits command.now subject.now true }
+    requires fit { CommandFits command.now subject.now true }
     ensures finish { IsRunEnd command.now subject.now (TellsBy true command.now subject.now
         (made_for true command.now)) K.taken K.faults out.old out.new result }
     ensures steps { TurnsBy true command.now subject.now steps.old steps.new }
     ensures fewest { IfOk result (λ f. FewestBy true command.now subject.now steps.old steps.new) }
-    ensures swept { IfOk result (λ f. SweptBy true command.now subject.now steps.old steps.new f.rounds) }
+    ensures swept { IfOk result (λ f. RunSweptBy true command.now subject.now steps.old steps.new f.rounds) }
 {
     match subject {
         Subject::Matrix(m) => ask_matrix_serially(alloc, command, m, out, steps),
@@ -67,7 +67,7 @@ pub(crate) fn ask_on_threads<R: Threads + Wait + Sync, K: Sink, G: Gate + Sync>(
     gate: &G,
 ) -> Result<RunEnd, Refusal>
     requires asking { by_asking command.now ≡ true }
-    requires fit { Fits command.now subject.now false }
+    requires fit { CommandFits command.now subject.now false }
     ensures finish { IsRunEnd command.now subject.now (TellsBy true command.now subject.now
         (made_for false command.now)) K.taken K.faults out.old out.new result }
     ensures told { OnOk result (ToldBy true command.now subject.now (G.told gate.now)) }
@@ -213,8 +213,8 @@ fn hear_serially<L: Ledger>(
 ) -> Result<Finished<IgAsker>, NoMemory>
     requires ranges { InRanges command.now }
     requires ended { HaveEnded any_rules (map sums_way.case (sums_starts (ranks command.now.grid) m.now)) added }
-    ensures asked { IfOk result (HasAsked m.now (made_for true command.now) command.now.travel.steady) }
-    ensures steps { steps.new ≤ steps.old + turns_of command.now.grid (length m.now.entries) }
+    ensures asked { IfOk result (LeftByQueries m.now (made_for true command.now) command.now.travel.steady) }
+    ensures steps { steps.new ≤ steps.old + bi_turns_of command.now.grid (length m.now.entries) }
     ensures fewest { OnOk result (steps.old + ranks command.now.grid ≤ steps.new) }
     ensures swept { IfOk result (λ run. AskedInOrder m.now (made_for true command.now) command.now.travel.steady
         steps.old steps.new run.rounds) }
@@ -244,7 +244,7 @@ fn hear_on_threads<R: Threads + Wait + Sync, G: Gate + Sync>(
 ) -> Result<Finished<IgAsker>, NoMemory>
     requires ranges { InRanges command.now }
     requires ended { HaveEnded any_rules (map sums_way.case (sums_starts (ranks command.now.grid) m.now)) added }
-    ensures { IfOk result (HasAsked m.now (made_for false command.now) command.now.travel.steady) }
+    ensures { IfOk result (LeftByQueries m.now (made_for false command.now) command.now.travel.steady) }
 {
     m.known();
     let grid = &command.grid;

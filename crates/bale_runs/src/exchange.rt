@@ -1,9 +1,10 @@
 //! The run of a command for its subject: the programs, driven, and then the answer, written.
 ghost use Rattle.std.specs.Prelude.{◌≡◌, ◌<◌, Bool, true, false, IfOk, OnOk};
-ghost use Rattle.bale_runs.specs.Asking.{FewestOfCommand, SweptOfCommand, TellsCommand, ToldBy, ToldOfCommand, TurnsOfCommand};
-ghost use Rattle.bale_runs.specs.RunEnds.{Fits, IsRunEnd};
+ghost use Rattle.bale_runs.specs.Asking.{FewestOfCommand, SweptOfCommand, ToldBy, TurnsOfCommand};
+ghost use Rattle.bale_runs.specs.Reports.{ReportsCommand, ToldOfEpochs};
+ghost use Rattle.bale_runs.specs.RunEnds.{CommandFits, IsKnown, IsRunEnd};
 ghost use Rattle.bale_runs.specs.Jobs.{as_asked, by_asking, via_of, manner_for};
-ghost use Rattle.bale_runs.specs.Runs.{made_for, HaveRun, SweptInOrder, TellsTask, IsTaskRun, TurnsOfTask, FewestOfTask};
+ghost use Rattle.bale_runs.specs.Runs.{made_for, HaveRunTask, SweptInOrder, TellsTask, IsTaskRun, TurnsOfTask, FewestOfTask};
 ghost use Rattle.route_tensor.specs.Grid.{ranks};
 ghost use Rattle.bale_answers.specs.Tasks.{starts_of};
 ghost use Rattle.bale_items.specs.Ledgers.{IsBlankOf};
@@ -47,13 +48,13 @@ pub fn run_command<R: Threads + Wait + Sync, K: Sink, G: Gate + Sync>(
     out: &mut K,
     gate: &G,
 ) -> Result<RunEnd, Refusal>
-    requires fit { Fits command.now subject.now (as_asked command.now) }
-    ensures finish { IsRunEnd command.now subject.now (TellsCommand (as_asked command.now) command.now subject.now)
+    requires fit { CommandFits command.now subject.now (as_asked command.now) }
+    ensures finish { IsRunEnd command.now subject.now (ReportsCommand (as_asked command.now) command.now subject.now)
         K.taken K.faults out.old out.new result }
 
-    // On threads the gate was told of the turns of each rank.
+    // On threads the gate was told of a turn of each rank in each epoch.
     ensures told { as_asked command.now ≡ false
-        → OnOk result (ToldOfCommand command.now subject.now (G.told gate.now)) }
+        → IfOk result (λ f. ToldOfEpochs command.now.grid (G.told gate.now) f.rounds) }
 {
     if drives_serially(command) {
         run_uncounted::<Brand, K>(alloc, command, subject, out, Blank::new(1))
@@ -78,8 +79,8 @@ fn run_uncounted<L: Ledger, K: Sink>(
     blank: Blank,
 ) -> Result<RunEnd, Refusal>
     requires blank { IsBlankOf L.name L.parts blank.name blank.parts }
-    requires fit { Fits command.now subject.now true }
-    ensures { IsRunEnd command.now subject.now (TellsCommand true command.now subject.now)
+    requires fit { CommandFits command.now subject.now true }
+    ensures { IsRunEnd command.now subject.now (ReportsCommand true command.now subject.now)
         K.taken K.faults out.old out.new result }
 {
     let mut steps = Steps::<L>::new(blank);
@@ -99,13 +100,15 @@ pub fn run_serially<K: Sink, L: Ledger>(
     out: &mut K,
     steps: &mut Steps<L>,
 ) -> Result<RunEnd, Refusal>
-    requires { Fits command.now subject.now true }
-    ensures finish { IsRunEnd command.now subject.now (TellsCommand true command.now subject.now)
+    requires { CommandFits command.now subject.now true }
+    ensures finish { IsRunEnd command.now subject.now (ReportsCommand true command.now subject.now)
         K.taken K.faults out.old out.new result }
     ensures steps { TurnsOfCommand command.now subject.now steps.old steps.new }
     ensures fewest { IfOk result (λ f. FewestOfCommand command.now subject.now steps.old steps.new) }
     ensures swept { IfOk result (λ f. SweptOfCommand command.now subject.now steps.old steps.new f.rounds) }
 {
+    command.grid.known();
+    known_subject(subject);
     if by_asking(command) {
         ask_serially(alloc, command, subject, out, steps)
     } else {
@@ -123,15 +126,26 @@ fn run_on_threads<R: Threads + Wait + Sync, K: Sink, G: Gate + Sync>(
     out: &mut K,
     gate: &G,
 ) -> Result<RunEnd, Refusal>
-    requires { Fits command.now subject.now false }
-    ensures finish { IsRunEnd command.now subject.now (TellsCommand false command.now subject.now)
+    requires { CommandFits command.now subject.now false }
+    ensures finish { IsRunEnd command.now subject.now (ReportsCommand false command.now subject.now)
         K.taken K.faults out.old out.new result }
-    ensures told { OnOk result (ToldOfCommand command.now subject.now (G.told gate.now)) }
+    ensures told { IfOk result (λ f. ToldOfEpochs command.now.grid (G.told gate.now) f.rounds) }
 {
+    command.grid.known();
+    known_subject(subject);
     if by_asking(command) {
         ask_on_threads(rt, alloc, command, subject, out, gate)
     } else {
         exchange_on_threads(rt, alloc, command, subject, out, gate)
+    }
+}
+
+/// Does nothing, and tells that a matrix keeps what every matrix keeps.
+fn known_subject(subject: &Subject)
+    ensures { IsKnown subject.now }
+{
+    if let Subject::Matrix(m) = subject {
+        m.known();
     }
 }
 
@@ -150,7 +164,7 @@ fn exchange_serially<K: Sink, L: Ledger>(
     out: &mut K,
     steps: &mut Steps<L>,
 ) -> Result<RunEnd, Refusal>
-    requires { Fits command.now subject.now true }
+    requires { CommandFits command.now subject.now true }
     ensures finish { IsRunEnd command.now subject.now (TellsTask command.now.task subject.now
         (made_for true command.now) (manner_for command.now)) K.taken K.faults out.old out.new result }
     ensures steps { TurnsOfTask command.now.task subject.now
@@ -173,7 +187,7 @@ fn exchange_on_threads<R: Threads + Wait + Sync, K: Sink, G: Gate + Sync>(
     out: &mut K,
     gate: &G,
 ) -> Result<RunEnd, Refusal>
-    requires { Fits command.now subject.now false }
+    requires { CommandFits command.now subject.now false }
     ensures finish { IsRunEnd command.now subject.now (TellsTask command.now.task subject.now
         (made_for false command.now) (manner_for command.now)) K.taken K.faults out.old out.new result }
     ensures told { OnOk result (ToldBy false command.now subject.now (G.told gate.now)) }
@@ -189,7 +203,7 @@ fn drive_serially<L: Ledger>(
     subject: &Subject,
     steps: &mut Steps<L>,
 ) -> Result<Finished<AnyProgram>, NoMemory>
-    requires { Fits command.now subject.now true }
+    requires { CommandFits command.now subject.now true }
     ensures run { IfOk result (IsTaskRun command.now.task subject.now (made_for true command.now)
         (manner_for command.now)) }
     ensures steps { TurnsOfTask command.now.task subject.now
@@ -230,7 +244,7 @@ fn drive_on_threads<R: Threads + Wait + Sync, G: Gate + Sync>(
     subject: &Subject,
     gate: &G,
 ) -> Result<Finished<AnyProgram>, NoMemory>
-    requires { Fits command.now subject.now false }
+    requires { CommandFits command.now subject.now false }
     ensures run { IfOk result (IsTaskRun command.now.task subject.now (made_for false command.now)
         (manner_for command.now)) }
     ensures told { OnOk result (ToldBy false command.now subject.now (G.told gate.now)) }
@@ -275,8 +289,8 @@ fn finish_run<K: Sink>(
     run: Finished<AnyProgram>,
     out: &mut K,
 ) -> Result<RunEnd, Refusal>
-    requires fit { (serial : Bool) × Fits command.now subject.now serial }
-    requires ended { HaveRun command.now.task subject.now run.progs }
+    requires fit { (serial : Bool) × CommandFits command.now subject.now serial }
+    requires ended { HaveRunTask command.now.task subject.now run.progs }
     ensures { IsRunEnd command.now subject.now (λ rounds. rounds ≡ run.rounds)
         K.taken K.faults out.old out.new result }
 {

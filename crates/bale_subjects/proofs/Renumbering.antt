@@ -7,7 +7,7 @@ use Rattle.std.proofs.lemmas.List.Sorted.{IsPermutation-refl}
 use Rattle.std.proofs.lemmas.List.Sums.{sum_by-cons}
 use Rattle.std.proofs.lemmas.Nat.{mod_below}
 use Rattle.mtx_text.specs.Permutations.{Permutes}
-use Rattle.mtx_text.specs.Seeds.{drawn, shuffled, step, word}
+use Rattle.mtx_text.specs.Seeds.{permutation_of, shuffle_of, step, word}
 use Rattle.mtx_text.proofs.Bands.{as_many, all_below}
 use Rattle.mtx_text.proofs.Shuffles.{permutes_swap}
 use Rattle.sparse_rows.proofs.Doubles.{times, one_if, all_once, none_twice as once_each}
@@ -101,15 +101,15 @@ new_permutes n None h = IsPermutation-refl (range_with_len 0 n)
 new_permutes n (Some numbers) h = permutes n (from_zero numbers) (and_parts (list_all (λ x. ltb 0 x) numbers) (has_each n (from_zero numbers)) h).1
 
 -- what is drawn from a seed is one
-shuffled_permutes : (n i : ℕ) (list : List ℕ) (state : ℕ) → i < n → Permutes n list → Permutes n (shuffled i list state).0
+shuffled_permutes : (n i : ℕ) (list : List ℕ) (state : ℕ) → i < n → Permutes n list → Permutes n (shuffle_of i list state).0
 shuffled_permutes n zero list state low h = h
 shuffled_permutes n (suc i) list state low h =
     shuffled_permutes n i (swap list (suc i) (word state % (i + 2))) (step state) (omega (arith, low))
     (permutes_swap n list (suc i) (word state % (i + 2)) low (omega (arith, low, mod_below (word state) (i + 2) (omega arith))) h)
 
-pub drawn_permutes : (n state : ℕ) → Permutes n (drawn n state).0
+pub drawn_permutes : (n state : ℕ) → Permutes n (permutation_of n state).0
 drawn_permutes zero state = IsPermutation-refl (range_with_len 0 0)
 drawn_permutes (suc k) state =
     let same : suc k - 1 ≡ k = omega arith in
-    subst (λ i. Permutes (suc k) (shuffled i (range_with_len 0 (suc k)) state).0) (sym same)
+    subst (λ i. Permutes (suc k) (shuffle_of i (range_with_len 0 (suc k)) state).0) (sym same)
     (shuffled_permutes (suc k) k (range_with_len 0 (suc k)) state (omega arith) (IsPermutation-refl (range_with_len 0 (suc k))))

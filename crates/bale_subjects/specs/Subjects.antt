@@ -5,7 +5,7 @@ use Rattle.mtx_text.specs.declared.refusal.ReadFault.{ReadFault}
 use Rattle.mtx_text.specs.declared.refusal.ReadFault.TheVariants as read_fault
 use Rattle.mtx_text.specs.Sparse.{Sparse}
 use Rattle.mtx_text.specs.Grammar.{matrix_of}
-use Rattle.mtx_text.specs.Generated.{generated}
+use Rattle.mtx_text.specs.Generated.{generated_matrix}
 use Rattle.app_tally.specs.declared.lines.LinesFault.{LinesFault}
 use Rattle.app_tally.specs.declared.lines.LinesFault.TheVariants as lines_fault
 use Rattle.app_tally.specs.Texts.{lines_of_text}
@@ -45,7 +45,7 @@ lines_refusal lines_fault.NoMemory = refusal.NoMemory
 -- The matrix that is asked of: the generated one, or that of the text.
 abbrev pub matrix_asked : Option Generated → List ℕ → Result Sparse BadLine
 matrix_asked None text = matrix_of text
-matrix_asked (Some g) text = Ok (generated g.rows g.entries g.seed)
+matrix_asked (Some g) text = Ok (generated_matrix g.rows g.entries g.seed)
 
 -- A matrix as a subject, or the refusal of its text.
 abbrev pub of_matrix : Result Sparse BadLine → Result Subject Refusal

@@ -2,7 +2,7 @@
 
 ghost use Rattle.std.specs.Prelude.{◌≡◌, ◌≢◌, ◌⊎◌, ℕ, true, false, is_some, List, map, drop, string_bytes, Some, None, OnOk, IfOk, IfErr, Ok, Err};
 ghost use Rattle.bale_types.specs.Stream.{Blames};
-ghost use Rattle.mtx_text.specs.Generated.{generated};
+ghost use Rattle.mtx_text.specs.Generated.{generated_matrix};
 ghost use Rattle.app_tally.specs.Texts.{lines_of_text};
 ghost use Rattle.bale_words.specs.Ranges.{InRanges, MayGenerate};
 ghost use Rattle.bale_words.specs.Words.{command_of};
@@ -19,7 +19,7 @@ use app_tally::read_lines;
 use bale_items::NoMemory;
 use bale_types::Source;
 use bale_words::{Command, Generated, Task, WordsFault, read_command};
-use mtx_text::{Matrix, gen_matrix, read_matrix};
+use mtx_text::{Execution, Matrix, gen_matrix, read_matrix_by};
 use std::alloc::Global;
 
 /// The command that the words give, with its numbers in their ranges.
@@ -40,17 +40,20 @@ pub fn read_words(alloc: Global, words: &[String]) -> Result<Command, Refusal>
 }
 
 /// The subject of a command that it fits, driven serially or by threads: for tally the lines of the
-/// text, else its matrix or the generated one, for which nothing is read.
+/// text, else its matrix or the generated one, for which nothing is read. The text of a matrix is
+/// parsed as `on` says.
 ///
 /// # Errors
 /// `ReadFault` where the source failed, `BadText` where its text isn't what the command is asked
 /// of, `Unfit` with the first test of fitness that fails, and `NoMemory`.
-pub fn subject_for<S: Source>(
+pub fn subject_for<X: Execution, S: Source>(
+    on: &X,
     alloc: Global,
     command: &Command,
     source: &mut S,
     serial: bool,
 ) -> Result<Subject, Refusal>
+    requires ready { X.ready }
     requires ranges { InRanges command.now }
     ensures subject { IfOk result (λ s. IsSubjectOf command.now (S.left source.old) s) }
     ensures fits { IfOk result (λ s. unfitness command.now s serial ≡ None) }
@@ -67,7 +70,7 @@ pub fn subject_for<S: Source>(
     ensures read_bad { (text : List ℕ) → S.left source.old ≡ Some text → reads (Some command.now) ≡ true
         → IfErr result (λ r. IsOfText r → S.left source.new ≡ Some (drop 16_777_217 text)) }
 {
-    let subject = read_subject(alloc, command, source)?;
+    let subject = read_subject(on, alloc, command, source)?;
     match unfitness(alloc, command, &subject, serial)? {
         Some(unfit) => Err(Refusal::Unfit(unfit)),
         None => Ok(subject),
@@ -75,11 +78,13 @@ pub fn subject_for<S: Source>(
 }
 
 /// The subject of a command.
-fn read_subject<S: Source>(
+fn read_subject<X: Execution, S: Source>(
+    on: &X,
     alloc: Global,
     command: &Command,
     source: &mut S,
 ) -> Result<Subject, Refusal>
+    requires ready { X.ready }
     requires ranges { InRanges command.now }
     ensures asked { (text : List ℕ) → Told (Some command.now) (S.left source.old) text
         → IsRead (subject_asked command.now text) result }
@@ -94,7 +99,7 @@ fn read_subject<S: Source>(
     if is_tally(&command.task) {
         read_lines_of(alloc, source)
     } else {
-        read_matrix_of(alloc, command.travel.generated, source)
+        read_matrix_of(on, alloc, command.travel.generated, source)
     }
 }
 
@@ -118,12 +123,14 @@ fn read_lines_of<S: Source>(alloc: Global, source: &mut S) -> Result<Subject, Re
 }
 
 /// The matrix of the text, or the generated one.
-fn read_matrix_of<S: Source>(
+fn read_matrix_of<X: Execution, S: Source>(
+    on: &X,
     alloc: Global,
     band: Option<Generated>,
     source: &mut S,
 ) -> Result<Subject, Refusal>
-    requires { MayGenerate band }
+    requires ready { X.ready }
+    requires band { MayGenerate band }
     ensures asked { (text : List ℕ) → TellsText band (S.left source.old) text
         → IsRead (of_matrix (matrix_asked band text)) result }
     ensures matrix { (t : _) → is_tally t ≡ false → IfOk result (λ s. suits t s ≡ true) }
@@ -135,7 +142,7 @@ fn read_matrix_of<S: Source>(
         → OnText result (S.left source.new ≡ Some (drop 16_777_217 text)) }
 {
     let matrix = match band {
-        None => read_matrix(alloc, source)?,
+        None => read_matrix_by(on, alloc, source)?,
         Some(band) => gen_matrix(alloc, band.rows, band.entries, band.seed)?,
     };
     Ok(Subject::Matrix(matrix))

@@ -1,8 +1,8 @@
 //! Why a run ended without an answer.
 ghost use Rattle.std.specs.Prelude.{◌≡◌, ◌≤◌, ◌++◌, [], length, codes, decimal};
-ghost use Rattle.bale_types.specs.Stream.{after, IsFront};
+ghost use Rattle.bale_types.specs.Stream.{taken_with, IsTakenPrefix};
 ghost use Rattle.bale_items.specs.Counters.{RoseOrFull};
-ghost use Rattle.bale_types.specs.Out.{appended};
+ghost use Rattle.bale_types.specs.Out.{appended_bytes};
 ghost use Rattle.bale_subjects.specs.Refusals.{bad_line_text, bad_text, refusal_text, status_of, unfit_text};
 
 use crate::unfit::Unfit;
@@ -100,9 +100,9 @@ impl Refusal {
 /// Says on `err` why there is no answer. A failing write changes nothing but what was said.
 pub fn report<E: Sink>(err: &mut E, refusal: Refusal)
     ensures said { ¬ RoseOrFull (E.faults err.old) (E.faults err.new) → E.taken err.new
-        ≡ after (E.taken err.old) (refusal_text refusal) }
-    ensures front { IsFront (E.taken err.new) (after (E.taken err.old) (refusal_text refusal)) }
-    ensures held { IsFront (E.taken err.old) (E.taken err.new) }
+        ≡ taken_with (E.taken err.old) (refusal_text refusal) }
+    ensures front { IsTakenPrefix (E.taken err.new) (taken_with (E.taken err.old) (refusal_text refusal)) }
+    ensures held { IsTakenPrefix (E.taken err.old) (E.taken err.new) }
     ensures never_falls { E.faults err.old ≤ E.faults err.new }
 {
     let line = line_of(refusal);
@@ -113,10 +113,10 @@ pub fn report<E: Sink>(err: &mut E, refusal: Refusal)
 /// Hands the bytes through to the sink.
 fn say<E: Sink>(out: &mut Out<'_, E>, bytes: &[u8])
     ensures said { ¬ RoseOrFull (E.faults out.old.sink.now) (E.faults out.new.sink.now)
-        → E.taken out.new.sink.now ≡ after (appended E.taken out.old) bytes.now }
-    ensures front { IsFront (E.taken out.new.sink.now) (after (appended E.taken out.old) bytes.now) }
+        → E.taken out.new.sink.now ≡ taken_with (appended_bytes E.taken out.old) bytes.now }
+    ensures front { IsTakenPrefix (E.taken out.new.sink.now) (taken_with (appended_bytes E.taken out.old) bytes.now) }
     ensures never_falls { E.faults out.old.sink.now ≤ E.faults out.new.sink.now }
-    ensures held { IsFront (E.taken out.old.sink.now) (E.taken out.new.sink.now) }
+    ensures held { IsTakenPrefix (E.taken out.old.sink.now) (E.taken out.new.sink.now) }
     ensures same_sink { out.new.sink.ghost_name ≡ out.old.sink.ghost_name }
 {
     if out.text(bytes).is_ok() {

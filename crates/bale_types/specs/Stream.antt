@@ -7,9 +7,9 @@ use Rattle.bale_items.specs.Counters.{RoseOrFull}
 -- what is taken once these bytes were appended
 -- after (Some taken) bytes = Some (taken ++ bytes)
 -- `1 1` and then `2` makes `1 1 2`
-abbrev pub after : Option (List ℕ) → List ℕ → Option (List ℕ)
-after None bytes = None
-after (Some taken) bytes = Some (taken ++ bytes)
+abbrev pub taken_with : Option (List ℕ) → List ℕ → Option (List ℕ)
+taken_with None bytes = None
+taken_with (Some taken) bytes = Some (taken ++ bytes)
 
 -- what was to come, where these bytes came and that is still left
 -- before bytes (Some left) = Some (bytes ++ left)
@@ -21,9 +21,9 @@ before bytes (Some left) = Some (bytes ++ left)
 -- the bytes of the buffer that a call moved
 -- moved (Ok count) buffer = take count buffer, and moved (Err e) buffer = []
 -- Ok 2 over `1 1 2` moved `1 1`, and a call that failed moved nothing
-abbrev pub moved : {E : Type 0} → Result ℕ E → List ℕ → List ℕ
-moved (Ok count) buffer = take count buffer
-moved (Err e) buffer = []
+abbrev pub moved_bytes : {E : Type 0} → Result ℕ E → List ℕ → List ℕ
+moved_bytes (Ok count) buffer = take count buffer
+moved_bytes (Err e) buffer = []
 
 -- what a write moved, where none that moved nothing is counted as one
 -- some_moved (Some count) = Some count, where 0 < count
@@ -67,12 +67,12 @@ pub record MovesSome {E : Type 0} (all : ℕ) (result : Result ℕ E) : Type 0 w
   pub some : IfOk result (λ count. 0 < count)
   pub bound : IfOk result (λ count. count ≤ all)
 
--- the sink has taken a front of all that should have come to it
--- IsFront taken all = for some rest, after taken rest = all
--- `1 1` is a front of `1 1 2`
-pub record IsFront (taken all : Option (List ℕ)) : Type 0 where
+-- the sink has taken a prefix of all that should have come to it
+-- IsTakenPrefix taken all = for some rest, after taken rest = all
+-- `1 1` is a prefix of `1 1 2`
+pub record IsTakenPrefix (taken all : Option (List ℕ)) : Type 0 where
   pub rest : List ℕ
-  pub whole : after taken rest ≡ all
+  pub whole : taken_with taken rest ≡ all
 
 -- what is left of a text, of which at most so many bytes were taken from the front
 -- end: the rest ends the text

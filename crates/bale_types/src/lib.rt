@@ -15,7 +15,7 @@
 //!
 //! An answer goes out line by line: a `Line` is put together in place, `Out::line` takes it, and
 //! the `Out` hands its buffer to the sink each time that it is full, and at `Out::flush`. After a
-//! failure a sink holds a front of what was appended, the rest still waits in the `Out`, and the
+//! failure a sink holds a prefix of what was appended, the rest still waits in the `Out`, and the
 //! sink's count of faults rose.
 //!
 //! The definitions, in the order in which to read them: `Stream` (sources and sinks), `Out`,

@@ -1,7 +1,7 @@
 //! A source and a sink in memory, which fail at the calls that their maker names: for tests, and
 //! for whoever has the bytes at hand.
 ghost use Rattle.std.specs.Prelude.{◌≡◌, ◌<◌, ◌≤◌, ◌-◌, ◌↔◌, ◌⊎◌, if◌then◌else◌, ℕ, List, Some, [], length, min, is_err, IfOk, IsErr, Contains};
-ghost use Rattle.bale_types.specs.Stream.{after, before, moved, CountsFaults, MovesSome};
+ghost use Rattle.bale_types.specs.Stream.{taken_with, before, moved_bytes, CountsFaults, MovesSome};
 ghost use Rattle.bale_items.specs.Counters.{next_count};
 
 use super::fault::Failed;
@@ -87,7 +87,7 @@ impl Source for MemSource {
     fn read(&mut self, buf: &mut [u8]) -> Result<usize, Failed>
         requires { 0 < length buf.old }
         ensures bound { IfOk result (λ count. count ≤ length buf.new) }
-        ensures bytes { Some self.old.left ≡ before (moved result buf.new) (Some self.new.left) }
+        ensures bytes { Some self.old.left ≡ before (moved_bytes result buf.new) (Some self.new.left) }
         ensures only_at_end { (text : List ℕ) → result ≡ Ok 0 → Some self.old.left ≡ Some text → text ≡ [] }
         ensures at_end { Some self.old.left ≡ Some [] → IfOk result (λ count. count ≡ 0) }
         ensures counts { CountsFaults self.old.faults self.new.faults result }
@@ -195,7 +195,7 @@ impl Sink for MemSink {
     fn write(&mut self, piece: &[u8]) -> Result<usize, Failed>
         requires { 0 < length piece.now }
         ensures some { MovesSome (length piece.now) result }
-        ensures bytes { Some self.new.taken ≡ after (Some self.old.taken) (moved result piece.now) }
+        ensures bytes { Some self.new.taken ≡ taken_with (Some self.old.taken) (moved_bytes result piece.now) }
         ensures counts { CountsFaults self.old.faults self.new.faults result }
         ensures calls { self.new.calls ≡ next_count self.old.calls }
         ensures fails { IsErr result ↔

@@ -1,13 +1,13 @@
 //! An output buffer in front of a sink, so that many small pieces make few writes.
 //!
 //! All that was appended is what the sink has taken, and then what the buffer holds: the word
-//! `appended` of the clauses. After a call that failed, the sink holds a front of what was
+//! `appended_bytes` of the clauses. After a call that failed, the sink holds a prefix of what was
 //! appended, and the rest still waits in the buffer: no byte is forgotten, so that a flush that
 //! answers Ok has handed on all of them, whatever failed before it. What a sink took stays taken.
 //! Nothing here takes memory.
 ghost use Rattle.std.specs.Prelude.{◌≡◌, ◌+◌, ◌%◌, ◌<◌, ◌≤◌, [], ◌∷◌, length, take, IfOk, OnOk, OnErr, IsOk};
 ghost use Rattle.std.specs.Fmt.{signed_decimal};
-ghost use Rattle.bale_types.specs.Stream.{after, CountsFaults, IsFront, MovesSome};
+ghost use Rattle.bale_types.specs.Stream.{taken_with, CountsFaults, IsTakenPrefix, MovesSome};
 ghost use Rattle.bale_types.specs.declared.out.TheConstants.{BUFFER};
 
 use super::fault::Failed;
@@ -32,11 +32,11 @@ pub struct Out<'a, K> {
 }
 
 impl<'a, K: Sink> Out<'a, K> {
-    ghost use Rattle.bale_types.specs.Out.{appended, Appends, HandsOn};
+    ghost use Rattle.bale_types.specs.Out.{appended_bytes, Appends, HandsOn};
 
     /// An empty buffer in front of `sink`.
     pub fn new(sink: &'a mut K) -> Out<'a, K>
-        ensures appended { appended K.taken result ≡ K.taken sink.entry.now }
+        ensures appended { appended_bytes K.taken result ≡ K.taken sink.entry.now }
         ensures taken { K.taken result.sink.now ≡ K.taken sink.entry.now }
         ensures faults { K.faults result.sink.now ≡ K.faults sink.entry.now }
         ensures empty { result.len ≡ 0 }
@@ -112,10 +112,10 @@ impl<'a, K: Sink> Out<'a, K> {
     ///
     /// `Failed` where the sink's faults rose in this call.
     pub fn flush(&mut self) -> Result<(), Failed>
-        ensures ok { OnOk result (K.taken self.new.sink.now ≡ appended K.taken self.old) }
+        ensures ok { OnOk result (K.taken self.new.sink.now ≡ appended_bytes K.taken self.old) }
         ensures emptied { OnOk result (self.new.len ≡ 0) }
-        ensures err { OnErr result (IsFront (K.taken self.new.sink.now) (appended K.taken self.old)) }
-        ensures kept { appended K.taken self.new ≡ appended K.taken self.old }
+        ensures err { OnErr result (IsTakenPrefix (K.taken self.new.sink.now) (appended_bytes K.taken self.old)) }
+        ensures kept { appended_bytes K.taken self.new ≡ appended_bytes K.taken self.old }
         ensures no_write { self.old.len ≡ 0 → self.new.sink.now ≡ self.old.sink.now }
         ensures no_failure { self.old.len ≡ 0 → IsOk result }
         ensures sink { HandsOn K.taken K.faults self.old self.new result }
@@ -132,10 +132,11 @@ impl<'a, K: Sink> Out<'a, K> {
         requires { 0 < length t.now }
         ensures some { MovesSome (length t.now) result }
         ensures ok { IfOk result (λ count.
-            appended K.taken self.new ≡ after (appended K.taken self.old) (take count t.now)) }
-        ensures kept { OnErr result (IsFront (appended K.taken self.old) (appended K.taken self.new)) }
+            appended_bytes K.taken self.new ≡ taken_with (appended_bytes K.taken self.old) (take count t.now)) }
+        ensures kept { OnErr result (IsTakenPrefix (appended_bytes K.taken self.old) (appended_bytes K.taken
+            self.new)) }
         ensures part { OnErr result
-            (IsFront (appended K.taken self.new) (after (appended K.taken self.old) t.now)) }
+            (IsTakenPrefix (appended_bytes K.taken self.new) (taken_with (appended_bytes K.taken self.old) t.now)) }
         ensures gathers { IfOk result (λ count.
             self.old.len + count < BUFFER → self.new.sink.now ≡ self.old.sink.now) }
         ensures waits { IfOk result (λ count. self.new.len ≡ (self.old.len + count) % BUFFER) }
@@ -151,7 +152,7 @@ impl<'a, K: Sink> Out<'a, K> {
 
     /// Hands a full buffer to the sink.
     fn flush_if_full(&mut self) -> Result<(), Failed>
-        ensures kept { appended K.taken self.new ≡ appended K.taken self.old }
+        ensures kept { appended_bytes K.taken self.new ≡ appended_bytes K.taken self.old }
         ensures handed { OnOk result (self.new.len ≡ self.old.len % BUFFER) }
         ensures gathers { self.old.len < BUFFER → self.new ≡ self.old }
         ensures full { OnErr result (self.old.len ≡ BUFFER) }
@@ -167,7 +168,8 @@ impl<'a, K: Sink> Out<'a, K> {
     #[inline(always)]
     fn lay<L: LineText>(&mut self, line: &L)
         requires { self.old.len + LINE_ROOM < BUFFER }
-        ensures appended { appended K.taken self.new ≡ after (appended K.taken self.old) (L.text line.now) }
+        ensures appended { appended_bytes K.taken self.new ≡ taken_with (appended_bytes K.taken self.old) (L.text
+            line.now) }
         ensures len { self.new.len ≡ self.old.len + length (L.text line.now) }
         ensures room { self.new.len < BUFFER }
         ensures sink { self.new.sink ≡ self.old.sink }
@@ -181,7 +183,8 @@ impl<'a, K: Sink> Out<'a, K> {
         requires room { self.old.len < BUFFER }
         ensures some { 0 < result }
         ensures bound { result ≤ length t.now }
-        ensures appended { appended K.taken self.new ≡ after (appended K.taken self.old) (take result t.now) }
+        ensures appended { appended_bytes K.taken self.new ≡ taken_with (appended_bytes K.taken self.old) (take
+            result t.now) }
         ensures len { self.new.len ≡ self.old.len + result }
         ensures sink { self.new.sink ≡ self.old.sink }
     {
@@ -200,9 +203,9 @@ fn hand_some<K: Sink>(sink: &mut K, buffer: &mut [u8; BUFFER], len: usize) -> Re
     requires { (0 < len) × (len ≤ BUFFER) }
     ensures fewer { IfOk result (λ left. left < len) }
     ensures ok { IfOk result (λ left.
-        after (K.taken sink.new) (take left buffer.new) ≡ after (K.taken sink.old) (take len buffer.old)) }
+        taken_with (K.taken sink.new) (take left buffer.new) ≡ taken_with (K.taken sink.old) (take len buffer.old)) }
     ensures err { OnErr result (K.taken sink.new ≡ K.taken sink.old) }
-    ensures grows { IsFront (K.taken sink.old) (K.taken sink.new) }
+    ensures grows { IsTakenPrefix (K.taken sink.old) (K.taken sink.new) }
     ensures same { OnErr result (buffer.new ≡ buffer.old) }
     ensures counts { CountsFaults (K.faults sink.old) (K.faults sink.new) result }
 {

@@ -6,7 +6,7 @@
 //! real files, pipes and devices.
 ghost use Rattle.std.specs.Prelude.{◌≡◌, ◌<◌, ◌≤◌, ℕ, List, Option, None, Some, Ok, [], length, is_err, IfOk, if◌then◌else◌};
 ghost use Rattle.std.specs.Result.{result_ok};
-ghost use Rattle.bale_types.specs.Stream.{moved, CountsFaults, MovesSome, some_moved};
+ghost use Rattle.bale_types.specs.Stream.{moved_bytes, CountsFaults, MovesSome, some_moved};
 ghost use Rattle.bale_items.specs.Counters.{next_count};
 
 use super::fault::Failed;

@@ -5,7 +5,7 @@
 //! and `faults`. A caller that reads or writes through these traits knows that a call which failed
 //! moved nothing, and that the object counted its failure, and none at a call that didn't fail.
 ghost use Rattle.std.specs.Prelude.{◌≡◌, ◌<◌, ◌≤◌, ℕ, List, Option, Some, [], length, IfOk};
-ghost use Rattle.bale_types.specs.Stream.{after, before, moved, CountsFaults, MovesSome};
+ghost use Rattle.bale_types.specs.Stream.{taken_with, before, moved_bytes, CountsFaults, MovesSome};
 
 use super::fault::Failed;
 
@@ -26,7 +26,7 @@ pub trait Source {
     fn read(&mut self, buf: &mut [u8]) -> Result<usize, Failed>
         requires { 0 < length buf.old }
         ensures bound { IfOk result (λ count. count ≤ length buf.new) }
-        ensures bytes { left self.old ≡ before (moved result buf.new) (left self.new) }
+        ensures bytes { left self.old ≡ before (moved_bytes result buf.new) (left self.new) }
         ensures only_at_end { (text : List ℕ) → result ≡ Ok 0 → left self.old ≡ Some text → text ≡ [] }
         ensures at_end { left self.old ≡ Some [] → IfOk result (λ count. count ≡ 0) }
         ensures counts { CountsFaults (faults self.old) (faults self.new) result };
@@ -48,6 +48,6 @@ pub trait Sink {
     fn write(&mut self, piece: &[u8]) -> Result<usize, Failed>
         requires { 0 < length piece.now }
         ensures some { MovesSome (length piece.now) result }
-        ensures bytes { taken self.new ≡ after (taken self.old) (moved result piece.now) }
+        ensures bytes { taken self.new ≡ taken_with (taken self.old) (moved_bytes result piece.now) }
         ensures counts { CountsFaults (faults self.old) (faults self.new) result };
 }

@@ -22,7 +22,7 @@ use Rattle.clap.specs.declared.builder.value_parser.Reading.TheVariants as readi
 use Rattle.clap.specs.declared.parser.matches.ValueSource.TheVariants.{CommandLine}
 use Rattle.clap.proofs.CutLemmas.{Lacks}
 use Rattle.clap.proofs.LexerLemmas.{name_and_value-at}
-use Rattle.bale_words.specs.Options.{Given, is_among, was_given, accepted, value_in, is_name, word_of}
+use Rattle.bale_words.specs.Options.{Given, is_among, was_given, are_accepted, value_in, is_name, word_of}
 use Rattle.bale_words.specs.Clap.{option_rule, app_named, command_words}
 
 -- an option as clap fills it in
@@ -175,20 +175,20 @@ still_new g rows (h ∷ hs) apart new =
       | inr n ↦ n
     ]
 
--- what `accepted` says of the first option
+-- what `are_accepted` says of the first option
 pub record IsFirst (names : List (List ℕ)) (g : Given) (gs : List Given) : Type 0 where
   pub known : is_among g.name names ≡ true
   pub apart : was_given g.name gs ≡ false
-  pub rest : accepted names gs ≡ true
+  pub rest : are_accepted names gs ≡ true
 
-pub first_of_accepted : (names : List (List ℕ)) (g : Given) (gs : List Given) → accepted names (g ∷ gs) ≡ true → IsFirst names g gs
+pub first_of_accepted : (names : List (List ℕ)) (g : Given) (gs : List Given) → are_accepted names (g ∷ gs) ≡ true → IsFirst names g gs
 first_of_accepted names g gs h =
-    let outer : ((is_among g.name names && not (was_given g.name gs)) ≡ true) × (accepted names gs ≡ true) = and_parts (is_among g.name names && not (was_given g.name gs)) (accepted names gs) h in
+    let outer : ((is_among g.name names && not (was_given g.name gs)) ≡ true) × (are_accepted names gs ≡ true) = and_parts (is_among g.name names && not (was_given g.name gs)) (are_accepted names gs) h in
     let inner : (is_among g.name names ≡ true) × (not (was_given g.name gs) ≡ true) = and_parts (is_among g.name names) (not (was_given g.name gs)) outer.0 in
     record { known = inner.0; apart = not-true _ inner.1; rest = outer.1 }
 
 -- the whole walk
-all_steps : (names : List (List ℕ)) (gs : List Given) (rows : List Row) → all_names names ≡ true → accepted names gs ≡ true → are_new rows gs ≡ true
+all_steps : (names : List (List ℕ)) (gs : List Given) (rows : List Row) → all_names names ≡ true → are_accepted names gs ≡ true → are_new rows gs ≡ true
     → fold (walked (map built_rule names) []) (after rows) (map word_of gs) ≡ after (rows ++ map given_row gs)
 all_steps names [] rows all ok new = ap after (sym (append-nil rows))
 all_steps names (g ∷ gs) rows all ok new =
@@ -198,7 +198,7 @@ all_steps names (g ∷ gs) rows all ok new =
     ∙ (all_steps names gs (rows ++ given_row g ∷ []) all first.rest (still_new g rows gs first.apart here.1)
     ∙ ap after (append_assoc rows (given_row g ∷ []) (map given_row gs)))
 
-no_walk_fault : (names : List (List ℕ)) (gs : List Given) (rows : List Row) → all_names names ≡ true → accepted names gs ≡ true → are_new rows gs ≡ true
+no_walk_fault : (names : List (List ℕ)) (gs : List Given) (rows : List Row) → all_names names ≡ true → are_accepted names gs ≡ true → are_new rows gs ≡ true
     → walk_fault (built_shape names) [] (after rows) (map word_of gs) ≡ []
 unfolding walk_fault
 no_walk_fault names [] rows all ok new = refl
@@ -235,13 +235,13 @@ none_required [] rows = refl
 none_required (n ∷ ns) rows = none_required ns rows
 
 -- the rows of a parse are those of the options that were given
-pub rows_are : (names : List (List ℕ)) (gs : List Given) → all_names names ≡ true → accepted names gs ≡ true → matches_of (app_named names) (command_words gs) ≡ map given_row gs
+pub rows_are : (names : List (List ℕ)) (gs : List Given) → all_names names ≡ true → are_accepted names gs ≡ true → matches_of (app_named names) (command_words gs) ≡ map given_row gs
 rows_are names gs all ok =
     ap (λ (a : App). rows_after a.top.rules (names_of a) (map word_of gs)) (built_is names)
     ∙ (ap (λ (w : Walk). finished (map built_rule names) w.held) (all_steps names gs [] all ok (all_new gs)) ∙ no_defaults names (map given_row gs))
 
 -- and it has no fault
-pub no_fault : (names : List (List ℕ)) (gs : List Given) → all_names names ≡ true → accepted names gs ≡ true → fault_of (app_named names) (command_words gs) ≡ []
+pub no_fault : (names : List (List ℕ)) (gs : List Given) → all_names names ≡ true → are_accepted names gs ≡ true → fault_of (app_named names) (command_words gs) ≡ []
 no_fault names gs all ok =
     let steps : walk (map built_rule names) [] nothing_held (map word_of gs) ≡ after (map given_row gs) = all_steps names gs [] all ok (all_new gs) in
     let faults : walk_fault (built_shape names) [] (walk_from nothing_held) (map word_of gs) ≡ [] = no_walk_fault names gs [] all ok (all_new gs) in

@@ -18,7 +18,7 @@ use Rattle.bale_words.specs.declared.command.Transport.TheVariants.{Convey}
 use Rattle.bale_words.specs.declared.command.Driving.TheVariants.{Threads}
 use Rattle.bale_words.specs.declared.travel.Travel.{Travel}
 use Rattle.bale_words.specs.Numbers.{number_in, number_of, within}
-use Rattle.bale_words.specs.Options.{Given, given_of, is_among, accepted, value_in}
+use Rattle.bale_words.specs.Options.{Given, given_of, is_among, are_accepted, value_in}
 use Rattle.bale_words.specs.Values.{slot_counts, most_entries, one_of, or_default, if_given, grid_of, slots_of, buffer_of, steady_of, driving_of, transport_of, generated_of, generated_by}
 use Rattle.bale_words.specs.Words.{application_of, names_of, task_in, travel_in, travel_of, search_of, permutations_of, command_in, command_by, command_with, command_of}
 use Rattle.bale_words.specs.declared.fault.WordsFault.{WordsFault}
@@ -128,7 +128,7 @@ task_is application.Sssp gs t e = search_is (value_in (codes "source") gs) (valu
 task_is _ gs t e = subst TaskInRanges (same_Some _ t e) tt
 
 -- an option that is none of the names wasn't given
-not_given : (names : List (List ℕ)) (name : List ℕ) (gs : List Given) → is_among name names ≡ false → accepted names gs ≡ true → value_in name gs ≡ None
+not_given : (names : List (List ℕ)) (name : List ℕ) (gs : List Given) → is_among name names ≡ false → are_accepted names gs ≡ true → value_in name gs ≡ None
 not_given names name [] out h = refl
 not_given names name (g ∷ gs) out h =
     let first : IsFirst names g gs = first_of_accepted names g gs h in
@@ -138,7 +138,7 @@ not_given names name (g ∷ gs) out h =
     ]
 
 -- a matrix isn't generated for tally
-no_band : (a : TaskName) (gs : List Given) (t : Task) (travel : Travel) → accepted (names_of a) gs ≡ true → task_in a gs ≡ Some t → travel_in a gs ≡ Some travel
+no_band : (a : TaskName) (gs : List Given) (t : Task) (travel : Travel) → are_accepted (names_of a) gs ≡ true → task_in a gs ≡ Some t → travel_in a gs ≡ Some travel
     → t ≡ task.Tally → travel.generated ≡ None
 no_band application.Permute gs t travel h e f is =
     last_some (λ p. task.Permute p) (permutations_of (value_in (codes "seed") gs) (value_in (codes "rperm") gs) (value_in (codes "cperm") gs)) t e
@@ -152,7 +152,7 @@ no_band application.Tally gs t travel h e f is =
     travel (not_given (names_of application.Tally) (codes "gen") gs refl h) f
 no_band _ gs t travel h e f is = absurd (let same = same_Some _ t e ∙ is in cc)
 
-in_is : (a : TaskName) (gs : List Given) (c : Command) → accepted (names_of a) gs ≡ true → command_in a gs ≡ Some c → InRanges c
+in_is : (a : TaskName) (gs : List Given) (c : Command) → are_accepted (names_of a) gs ≡ true → command_in a gs ≡ Some c → InRanges c
 in_is a gs c h e =
     option_and_then_some _ (or_default (4 ∷ []) grid_of (value_in (codes "grid") gs)) c e (λ grid f1 e1.
     option_and_then_some _ (travel_in a gs) c e1 (λ travel f2 e2.
@@ -165,9 +165,9 @@ in_is a gs c h e =
 
 by_is : (a : TaskName) (o : Option (List Given)) (c : Command) → command_by a o ≡ Some c → InRanges c
 by_is a None c e = absurd (none-some c e)
-by_is a (Some gs) c e = accepted_is (accepted (names_of a) gs) a gs c refl e
+by_is a (Some gs) c e = accepted_is (are_accepted (names_of a) gs) a gs c refl e
   where
-    accepted_is : (b : Bool) (a : TaskName) (gs : List Given) (c : Command) → accepted (names_of a) gs ≡ b → (if b then command_in a gs else None) ≡ Some c → InRanges c
+    accepted_is : (b : Bool) (a : TaskName) (gs : List Given) (c : Command) → are_accepted (names_of a) gs ≡ b → (if b then command_in a gs else None) ≡ Some c → InRanges c
     accepted_is true a gs c h e = in_is a gs c h e
     accepted_is false a gs c h e = absurd (none-some c e)
 

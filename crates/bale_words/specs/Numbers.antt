@@ -31,6 +31,6 @@ unfoldable pub numbers_in : ℕ → ℕ → ℕ → List ℕ → Option (List �
 numbers_in separator low high text = all_some (map (number_in low high) (slice_split (λ b. b == separator) text))
 
 -- The parts of what is left of a text, if anything is.
-abbrev pub parts_of : ℕ → Option (List ℕ) → List (List ℕ)
-parts_of separator None = []
-parts_of separator (Some text) = slice_split (λ b. b == separator) text
+abbrev pub text_parts : ℕ → Option (List ℕ) → List (List ℕ)
+text_parts separator None = []
+text_parts separator (Some text) = slice_split (λ b. b == separator) text

@@ -22,9 +22,9 @@ abbrev pub was_given : List ℕ → List Given → Bool
 was_given name gs = list_any (λ g. bytes_eq g.name name) gs
 
 -- Each option that was given has one of the names, and none is given twice.
-abbrev pub accepted : List (List ℕ) → List Given → Bool
-accepted names [] = true
-accepted names (g ∷ gs) = is_among g.name names && not (was_given g.name gs) && accepted names gs
+abbrev pub are_accepted : List (List ℕ) → List Given → Bool
+are_accepted names [] = true
+are_accepted names (g ∷ gs) = is_among g.name names && not (was_given g.name gs) && are_accepted names gs
 
 -- The value of an option, where it was given.
 abbrev pub value_in : List ℕ → List Given → Option (List ℕ)

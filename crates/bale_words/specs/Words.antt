@@ -12,7 +12,7 @@ use Rattle.bale_words.specs.declared.command.Transport.TheVariants.{Convey}
 use Rattle.bale_words.specs.declared.command.Driving.TheVariants.{Threads}
 use Rattle.bale_words.specs.declared.travel.Travel.{Travel}
 use Rattle.bale_words.specs.Numbers.{number_in, numbers_in}
-use Rattle.bale_words.specs.Options.{Given, given_of, accepted, value_in}
+use Rattle.bale_words.specs.Options.{Given, given_of, are_accepted, value_in}
 use Rattle.bale_words.specs.Values.{◌>>=◌, is_text, or_default, if_given, grid_of, slots_of, buffer_of, steady_of}
 use Rattle.bale_words.specs.Values.{driving_of, transport_of, generated_of}
 
@@ -106,7 +106,7 @@ command_in a gs = do
 -- The options are the application's own, and none is given twice.
 abbrev pub command_by : TaskName → Option (List Given) → Option Command
 command_by a None = None
-command_by a (Some gs) = if accepted (names_of a) gs then command_in a gs else None
+command_by a (Some gs) = if are_accepted (names_of a) gs then command_in a gs else None
 
 abbrev pub command_with : Option TaskName → List (List ℕ) → Option Command
 command_with None words = None

@@ -3,7 +3,7 @@
 ghost use Rattle.std.specs.Prelude.{ℕ, ◌≡◌, ◌<◌, ◌≤◌, ◌∷◌, List, length, min, IfSome, ◌==◌};
 ghost use Rattle.std.specs.Option.{option_map};
 ghost use Rattle.std.specs.List.{slice_split};
-ghost use Rattle.bale_words.specs.Numbers.{number_of, number_in, numbers_in, parts_of};
+ghost use Rattle.bale_words.specs.Numbers.{number_of, number_in, numbers_in, text_parts};
 ghost use Rattle.bale_words.specs.Reading.{Reads};
 
 use crate::fault::WordsFault;
@@ -102,7 +102,7 @@ pub(crate) fn numbers_between(
 /// What stands before the first separator, and what stands behind it if there is one.
 #[tactic(auto, using(crate::proofs::Parts::none_more))]
 pub(crate) fn first_part(separator: u8, text: &[u8]) -> (&[u8], Option<&[u8]>)
-    ensures parts { slice_split (λ b. b == separator) text.now ≡ result.0.now ∷ parts_of separator
+    ensures parts { slice_split (λ b. b == separator) text.now ≡ result.0.now ∷ text_parts separator
         (option_map (λ s. s.now) result.1) }
     ensures shorter { IfSome result.1 (λ rest. length rest.now < length text.now) }
 {

@@ -2,7 +2,7 @@
 
 ghost use Rattle.std.specs.Prelude.{ℕ, ◌≡◌, ◌++◌, ◌∷◌, List, Option, Some, None, map, string_bytes, IfOk, OnOk, OnErr, Ok, Err};
 ghost use Rattle.std.specs.Option.{option_map};
-ghost use Rattle.bale_words.specs.Options.{Given, with_first, given_of, given_from, has_hyphen, accepted, is_among, was_given};
+ghost use Rattle.bale_words.specs.Options.{Given, with_first, given_of, given_from, has_hyphen, are_accepted, is_among, was_given};
 ghost use Rattle.bale_words.specs.Pairs.{given_pairs};
 ghost use Rattle.clap.specs.Lexer.{strip_byte, name_and_value, long_of};
 
@@ -114,7 +114,7 @@ fn split_value(text: &str) -> (&str, Option<&str>)
 
 /// Whether each option has one of the names, and none is given twice.
 pub(crate) fn all_accepted(names: &[&str], pairs: &[Pair<'_>]) -> bool
-    ensures { result ≡ accepted (map (λ s. s.now) names.now) (given_pairs pairs.now) }
+    ensures { result ≡ are_accepted (map (λ s. s.now) names.now) (given_pairs pairs.now) }
 {
     for (i, pair) in pairs.iter().enumerate() {
         if !is_one_of(names, pair.name) || comes_in(&pairs[i + 1..], pair.name) {

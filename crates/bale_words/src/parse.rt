@@ -3,7 +3,7 @@
 ghost use Rattle.std.specs.Prelude.{ℕ, ◌≡◌, ◌++◌, ◌∷◌, [], List, map, string_bytes, true, IfOk, IfErr, Ok};
 ghost use Rattle.std.specs.List.{list_all};
 ghost use Rattle.clap.specs.Words.{app_of, first_value, found_of, kind_of};
-ghost use Rattle.bale_words.specs.Options.{Given, accepted, value_in, is_name};
+ghost use Rattle.bale_words.specs.Options.{Given, are_accepted, value_in, is_name};
 ghost use Rattle.bale_words.specs.Clap.{app_named, command_words};
 ghost use Rattle.bale_words.specs.Pairs.{given_pairs};
 
@@ -48,10 +48,10 @@ pub(crate) fn parse<'a>(
 ) -> Result<ArgMatches<'a>, Error>
     requires { list_all is_name (map (λ s. s.now) names.now) ≡ true }
     ensures ok { (gs : List Given) → map string_bytes words.entry.now ≡ command_words gs
-        → accepted (map (λ s. s.now) names.entry.now) gs ≡ true
+        → are_accepted (map (λ s. s.now) names.entry.now) gs ≡ true
         → IfOk result (λ m. (n : List ℕ) → first_value (found_of m) n ≡ value_in n gs) }
     ensures err { (gs : List Given) → map string_bytes words.entry.now ≡ command_words gs
-        → accepted (map (λ s. s.now) names.entry.now) gs ≡ true
+        → are_accepted (map (λ s. s.now) names.entry.now) gs ≡ true
         → IfErr result (λ e. kind_of e ≡ ErrorKind.OutOfMemory) }
 {
     let command = command_of(alloc, names)?;

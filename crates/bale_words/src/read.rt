@@ -4,7 +4,7 @@ ghost use Rattle.std.specs.Prelude.{ℕ, ◌≡◌, List, Some, None, map, strin
 ghost use Rattle.std.specs.List.{list_all};
 ghost use Rattle.std.specs.Option.{option_map};
 ghost use Rattle.clap.specs.Words.{first_value, found_of};
-ghost use Rattle.bale_words.specs.Options.{Given, given_of, accepted, value_in, is_name};
+ghost use Rattle.bale_words.specs.Options.{Given, given_of, are_accepted, value_in, is_name};
 ghost use Rattle.bale_words.specs.Clap.{command_words};
 ghost use Rattle.bale_words.specs.Ranges.{InRanges};
 ghost use Rattle.bale_words.specs.Reading.{Reads};
@@ -67,7 +67,7 @@ fn read_values(
 ) -> Result<Command, WordsFault>
     requires { list_all is_name (map (λ s. s.now) names.now) ≡ true }
     ensures { (gs : List Given) → map string_bytes words.now ≡ command_words gs
-        → accepted (map (λ s. s.now) names.now) gs ≡ true → Reads (command_in application gs) result }
+        → are_accepted (map (λ s. s.now) names.now) gs ≡ true → Reads (command_in application gs) result }
 {
     match parse(alloc, names, words) {
         Ok(matches) => read_matches(alloc, application, &matches),

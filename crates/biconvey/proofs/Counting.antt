@@ -6,7 +6,7 @@ use Rattle.std.proofs.Math.Nat.{mul-add, mul-le-mul_left}
 use Rattle.bale_items.specs.declared.item.Entry.{Entry}
 use Rattle.bale_items.specs.declared.item.Item.{Item}
 use Rattle.item_buffer.specs.Contents.{Shipped}
-use Rattle.list_laws.specs.Lists.{Begins}
+use Rattle.list_laws.specs.Lists.{IsPrefix}
 use Rattle.list_laws.specs.Sums.{total}
 use Rattle.list_laws.proofs.Sums.{total_le, total_same, total_add, total_const, total_swap, total_list}
 use Rattle.list_laws.proofs.Lists.{find, within, get_once, get_map}
@@ -36,9 +36,9 @@ use Rattle.rank_group.proofs.Counted.{pushed_in, all_links, log_short}
 use Rattle.rank_group.proofs.Pushed.{flow_pushed}
 use Rattle.round_program.specs.Replies.{carrying, asks_of}
 use Rattle.query_node.specs.States.{BiState, Sides}
-use Rattle.query_node.specs.Ranks.{AllRanks}
-use Rattle.biconvey.specs.Ways.{entries_of, move_of, moves, IsWay}
-use Rattle.biconvey.specs.Worlds.{World, all_moves, queries_in}
+use Rattle.query_node.specs.Ranks.{AllBiRanks}
+use Rattle.biconvey.specs.Ways.{bi_parcel_entries, bi_move_of, bi_moves, AreConveyorsOver}
+use Rattle.biconvey.specs.RanksOverBanks.{BiWorld, all_moves, queries_in}
 use Rattle.port_bank.proofs.Marks.{at_most}
 use Rattle.query_node.proofs.Taken.{items_begin}
 use Rattle.query_node.proofs.Offering.{asked_below}
@@ -87,7 +87,7 @@ pub record InFirst (dims : List ℕ) (cs : List State) (sent got : Logs) (r : �
   pub first : c.epoch ≡ 0
   pub agrees : AgreesWith c (starting_at dims r sent) (ending_at dims r got)
 
-module _ (dims : List ℕ) (cap slots : ℕ) (steady : Bool) (cs : List State) (sent got : Logs) (w : IsWay dims cap slots steady cs sent got) (some : 0 < cap)
+module _ (dims : List ℕ) (cap slots : ℕ) (steady : Bool) (cs : List State) (sent got : Logs) (w : AreConveyorsOver dims cap slots steady cs sent got) (some : 0 < cap)
     (each : (r : ℕ) (c : State) → slice_get cs r ≡ Some c → InFirst dims cs sent got r c) where
   keeps : Keeps dims sent got
   keeps = record { grid = w.lawful.grid; fronts = λ l below. (w.lawful.links_keep l below).begins; relays = w.lawful.relays }
@@ -109,34 +109,34 @@ module _ (dims : List ℕ) (cap slots : ℕ) (steady : Bool) (cs : List State) (
   whole : (l : ℕ) → l < links dims → segment 0 (sent l) ≡ sent l
   whole l below = let c = closed_at l below in whole_segment (sent l) c.0 c.1 c.2
 
-  fair_in : (l : ℕ) → l < links dims → All (λ (x : Entry). IsFair dims (hop_at dims l) x.tag) (entries_of (segment 0 (sent l)))
+  fair_in : (l : ℕ) → l < links dims → All (λ (x : Entry). IsFair dims (hop_at dims l) x.tag) (bi_parcel_entries (segment 0 (sent l)))
   fair_in l below = all_flat (λ (x : Entry). IsFair dims (hop_at dims l) x.tag) (λ (p : Shipped). p.entries) (segment 0 (sent l)) (subst (All (HasFairTags dims (hop_at dims l))) (sym (whole l below)) (fair l below))
 
-  sent_all : total (links dims) (λ l. length (entries_of (sent l))) ≤ length dims * pushed_in dims sent 0
+  sent_all : total (links dims) (λ l. length (bi_parcel_entries (sent l))) ≤ length dims * pushed_in dims sent 0
   sent_all =
-      let a = total_same (links dims) (λ l. length (entries_of (sent l))) (λ l. length (entries_of (segment 0 (sent l)))) (λ l below. ap (λ (log : List Shipped). length (entries_of log)) (sym (whole l below))) in
+      let a = total_same (links dims) (λ l. length (bi_parcel_entries (sent l))) (λ l. length (bi_parcel_entries (segment 0 (sent l)))) (λ l below. ap (λ (log : List Shipped). length (bi_parcel_entries log)) (sym (whole l below))) in
       let b = all_links dims sent got keeps fair 0 fair_in in
       omega (arith, a, b)
 
-  pub moves_few : moves dims cs sent got ≤ 3 * (length dims * pushed_in dims sent 0) + links dims * 2
+  pub moves_few : bi_moves dims cs sent got ≤ 3 * (length dims * pushed_in dims sent 0) + links dims * 2
   moves_few =
-      let a = total_le (links dims) (move_of dims cs sent got) (λ l. 3 * length (entries_of (sent l)) + 2) one in
-      let b = total_add (links dims) (λ l. 3 * length (entries_of (sent l))) (λ l. 2) in
-      let c = total_times (links dims) 3 (λ l. length (entries_of (sent l))) in
+      let a = total_le (links dims) (bi_move_of dims cs sent got) (λ l. 3 * length (bi_parcel_entries (sent l)) + 2) one in
+      let b = total_add (links dims) (λ l. 3 * length (bi_parcel_entries (sent l))) (λ l. 2) in
+      let c = total_times (links dims) 3 (λ l. length (bi_parcel_entries (sent l))) in
       let d = total_const (links dims) 2 in
       omega (arith, a, b, c, d, sent_all) where
-        one : (l : ℕ) → l < links dims → move_of dims cs sent got l ≤ 3 * length (entries_of (sent l)) + 2
+        one : (l : ℕ) → l < links dims → bi_move_of dims cs sent got l ≤ 3 * length (bi_parcel_entries (sent l)) + 2
         one l below =
-            let front : Begins (got l) (sent l) = (w.lawful.links_keep l below).begins in
+            let front : IsPrefix (got l) (sent l) = (w.lawful.links_keep l below).begins in
             let g = begins_shorter (got l) (sent l) front in
-            let e = begins_shorter (entries_of (got l)) (entries_of (sent l)) (begins_flat_map (λ (p : Shipped). p.entries) (got l) (sent l) front) in
+            let e = begins_shorter (bi_parcel_entries (got l)) (bi_parcel_entries (sent l)) (begins_flat_map (λ (p : Shipped). p.entries) (got l) (sent l) front) in
             let s = log_short steady cap (sent l) some (w.shape l) in
             let c = closed_at l below in
             let f = at_most 0 c.0 in
             omega (arith, g, e, s, f, c.1)
 
 -- all ranks as a function of their number
-module _ {S : Type 0} (T : Talk S) (laws : TalkLaws T) (law : ClosesLaw) (dims : List ℕ) (cap slots : ℕ) (steady : Bool) (starts : ℕ → S) (ns : List (BiState S)) (s : Sides) (w : World T dims cap slots steady starts ns s) where
+module _ {S : Type 0} (T : Talk S) (laws : TalkLaws T) (law : ClosesLaw) (dims : List ℕ) (cap slots : ℕ) (steady : Bool) (starts : ℕ → S) (ns : List (BiState S)) (s : Sides) (w : BiWorld T dims cap slots steady starts ns s) where
   pub size : length ns ≡ ranks dims
   size = sym (length-map ns (λ (n : BiState S). n.queries)) ∙ w.queries.all
 
@@ -149,7 +149,7 @@ module _ {S : Type 0} (T : Talk S) (laws : TalkLaws T) (law : ClosesLaw) (dims :
   pub at : (r : ℕ) → r < ranks dims → slice_get ns r ≡ Some (nth r)
   at r low = slice_get-get_or ns r first.0 (omega (arith, low, size))
 
-  pub all_ranks : AllRanks T dims cap slots starts nth s
+  pub all_ranks : AllBiRanks T dims cap slots starts nth s
   all_ranks = record {
     grid = w.queries.lawful.grid;
     queries_keep = w.queries.lawful.links_keep;

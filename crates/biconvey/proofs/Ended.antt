@@ -12,7 +12,7 @@ use Rattle.std.proofs.lemmas.List.Sums.{sum_by-cons}
 use Rattle.route_tensor.specs.Ends.{reader_at}
 use Rattle.route_tensor.proofs.Coordinates.{ranks_some}
 use Rattle.port_bank.specs.Logs.{Logs, starting_at, ending_at}
-use Rattle.port_bank.specs.Plain.{Bank, Channel, unused, IsBank, sent_of, got_of, empty_bank, closed}
+use Rattle.port_bank.specs.Plain.{Bank, Channel, unused_channel, IsBank, sent_of, got_of, empty_bank, round_of_bank}
 use Rattle.port_bank.specs.Port.{IsSlots}
 use Rattle.port_bank.specs.Round.{Round, IsRound, logs_of}
 use Rattle.port_bank.proofs.Closing.{none_sent, none_got, channel-empty}
@@ -20,14 +20,14 @@ use Rattle.hop_core.specs.State.{State}
 use Rattle.hop_core.specs.declared.phase.Phase.TheVariants.{Working}
 use Rattle.convey.specs.Buffers.{in_of, is_complete}
 use Rattle.convey.specs.Law.{ClosesLaw}
-use Rattle.rank_group.specs.Told.{Made}
+use Rattle.rank_group.specs.Transcript.{Made}
 use Rattle.round_program.specs.Talks.{Talk, TalkLaws}
 use Rattle.round_program.specs.Replies.{HaveHeard}
 use Rattle.query_node.specs.States.{BiState, IsBiNode}
-use Rattle.query_node.specs.Ranks.{AllRanks}
-use Rattle.biconvey.specs.Ways.{conveyor_in, inbox, IsWay}
-use Rattle.biconvey.specs.Worlds.{AreBanks, World, is_over, queries_in, sides_of, turns_of}
-use Rattle.biconvey.specs.Drives.{AreAskers, TellsExchange, AreFresh, askers_of}
+use Rattle.query_node.specs.Ranks.{AllBiRanks}
+use Rattle.biconvey.specs.Ways.{conveyor_in, bi_inbox, AreConveyorsOver}
+use Rattle.biconvey.specs.RanksOverBanks.{AreBanks, BiWorld, is_over, queries_in, sides_of, bi_turns_of}
+use Rattle.biconvey.specs.Drives.{AreAskers, TellsExchange, AreFreshBiRanks, askers_of}
 use Rattle.biconvey.proofs.Swept.{queries_lawful}
 use Rattle.biconvey.proofs.Counting.{size, nth, at, all_ranks}
 use Rattle.biconvey.proofs.Finished.{starts_of, IsClosed, heard_all, told_both}
@@ -37,7 +37,7 @@ unfolding IsSlots
 slots_some zero is = absurd (true≢false (sym is))
 slots_some (suc n) is = omega arith
 
-no_unread : (dims : List ℕ) (cs : List State) → ((r : ℕ) (c : State) → slice_get cs r ≡ Some c → (l : ℕ) → (in_of c l).parcel.untaken ≡ []) → (l : ℕ) → inbox dims cs l ≡ 0
+no_unread : (dims : List ℕ) (cs : List State) → ((r : ℕ) (c : State) → slice_get cs r ≡ Some c → (l : ℕ) → (in_of c l).parcel.untaken ≡ []) → (l : ℕ) → bi_inbox dims cs l ≡ 0
 no_unread dims cs each l = by (slice_get cs (reader_at dims l)) refl where
   by : (o : Option State) → slice_get cs (reader_at dims l) ≡ o → length (in_of (conveyor_in (slice_get cs (reader_at dims l))) l).parcel.untaken ≡ 0
   by None e = ap (λ o. length (in_of (conveyor_in o) l).parcel.untaken) e
@@ -47,8 +47,8 @@ none_at : (dims : List ℕ) (slots l : ℕ) → sent_of (empty_bank dims slots) 
 none_at dims slots l = ap (λ c. c.sent) (channel-empty _ l)
 
 -- all ranks as an exchange begins, over its banks
-pub begun : {S : Type 0} (T : Talk S) (cap : ℕ) (dims : List ℕ) (slots : ℕ) (steady : Bool) (askers : List S) (s : S) (ns : List (BiState S)) → AreFresh T dims steady askers ns → AreAskers T (ranks dims) askers → 0 < cap → IsBank cap (empty_bank dims slots)
-    → World T dims cap slots steady (starts_of askers s) ns (sides_of (empty_bank dims slots) (empty_bank dims slots))
+pub begun : {S : Type 0} (T : Talk S) (cap : ℕ) (dims : List ℕ) (slots : ℕ) (steady : Bool) (askers : List S) (s : S) (ns : List (BiState S)) → AreFreshBiRanks T dims steady askers ns → AreAskers T (ranks dims) askers → 0 < cap → IsBank cap (empty_bank dims slots)
+    → BiWorld T dims cap slots steady (starts_of askers s) ns (sides_of (empty_bank dims slots) (empty_bank dims slots))
 begun {S} T cap dims slots steady askers s ns fresh all some is =
     let b : Bank = empty_bank dims slots in
     let two : AreBanks cap dims slots b b = record { queries = is; replies = is; queries_dims = refl; replies_dims = refl; queries_slots = refl; replies_slots = refl } in
@@ -56,7 +56,7 @@ begun {S} T cap dims slots steady askers s ns fresh all some is =
     let size : length ns ≡ ranks dims = sym (length-map ns (λ (n : BiState S). n.asker)) ∙ (ap length fresh.same ∙ all.size) in
     let no_sent : (r : ℕ) → ◌≡◌ {A = Logs} (starting_at dims r (sent_of b)) (λ l. []) = λ r i l. none_sent dims slots r l i in
     let no_got : (r : ℕ) → ◌≡◌ {A = Logs} (ending_at dims r (got_of b)) (λ l. []) = λ r i l. none_got dims slots r l i in
-    let way : (f : BiState S → State) → ((r : ℕ) (n : BiState S) → slice_get ns r ≡ Some n → ((f n).steady ≡ steady) × ((l : ℕ) → (in_of (f n) l).parcel.untaken ≡ [])) → IsWay dims cap slots steady (map f ns) (sent_of b) (got_of b) = λ f each.
+    let way : (f : BiState S → State) → ((r : ℕ) (n : BiState S) → slice_get ns r ≡ Some n → ((f n).steady ≡ steady) × ((l : ℕ) → (in_of (f n) l).parcel.untaken ≡ [])) → AreConveyorsOver dims cap slots steady (map f ns) (sent_of b) (got_of b) = λ f each.
     record {
       lawful = law;
       all = length-map ns f ∙ size;
@@ -88,19 +88,19 @@ begun {S} T cap dims slots steady askers s ns fresh all some is =
           (x.0, x.1, get_once (map f ns) r (f x.0) c (get_map f ns r x.0 x.1) from)
 
 -- how many queries there are
-pub same_count : {S : Type 0} (T : Talk S) (dims : List ℕ) (steady : Bool) (askers : List S) (ns : List (BiState S)) → AreFresh T dims steady askers ns → queries_in T ns ≡ sum_by (λ s. length (T.queries s)) askers
+pub same_count : {S : Type 0} (T : Talk S) (dims : List ℕ) (steady : Bool) (askers : List S) (ns : List (BiState S)) → AreFreshBiRanks T dims steady askers ns → queries_in T ns ≡ sum_by (λ s. length (T.queries s)) askers
 same_count {S} T dims steady askers ns fresh = by ns ∙ ap (sum_by (λ s. length (T.queries s))) fresh.same where
   by : (xs : List (BiState S)) → queries_in T xs ≡ sum_by (λ s. length (T.queries s)) (askers_of xs)
   by [] = refl
   by (x ∷ xs) = sum_by-cons (λ (n : BiState S). length (T.queries n.asker)) x xs ∙ (ap (λ k. length (T.queries x.asker) + k) (by xs) ∙ sym (sum_by-cons (λ s. length (T.queries s)) x.asker (askers_of xs)))
 
-logs_map : (f : Channel → List Shipped) (channels : List Channel) → f unused ≡ [] → (l : ℕ) → logs_of (map f channels) l ≡ f (get_or channels l unused)
+logs_map : (f : Channel → List Shipped) (channels : List Channel) → f unused_channel ≡ [] → (l : ℕ) → logs_of (map f channels) l ≡ f (get_or channels l unused_channel)
 logs_map f [] e l = sym e
 logs_map f (c ∷ channels) e zero = refl
 logs_map f (c ∷ channels) e (suc l) = logs_map f channels e l
 
 module _ {S : Type 0} (T : Talk S) (laws : TalkLaws T) (law : ClosesLaw) (cap : ℕ) (dims : List ℕ) (slots : ℕ) (steady : Bool) (askers : List S) (s : S) (ns : List (BiState S)) (q r : Bank)
-    (all : AreAskers T (ranks dims) askers) (banks : AreBanks cap dims slots q r) (w : World T dims cap slots steady (starts_of askers s) ns (sides_of q r)) (over : (k : ℕ) (n : BiState S) → slice_get ns k ≡ Some n → is_over n ≡ true) where
+    (all : AreAskers T (ranks dims) askers) (banks : AreBanks cap dims slots q r) (w : BiWorld T dims cap slots steady (starts_of askers s) ns (sides_of q r)) (over : (k : ℕ) (n : BiState S) → slice_get ns k ≡ Some n → is_over n ≡ true) where
   abbrev starts : ℕ → S
   starts = starts_of askers s
 
@@ -110,7 +110,7 @@ module _ {S : Type 0} (T : Talk S) (laws : TalkLaws T) (law : ClosesLaw) (cap : 
   node_at : (k : ℕ) → k < ranks dims → slice_get ns k ≡ Some (node k)
   node_at k low = at T laws law dims cap slots steady (starts_of askers s) ns (sides_of q r) w k low
 
-  every : AllRanks T dims cap slots starts node (sides_of q r)
+  every : AllBiRanks T dims cap slots starts node (sides_of q r)
   every = all_ranks T laws law dims cap slots steady (starts_of askers s) ns (sides_of q r) w
 
   all_of : length ns ≡ ranks dims
@@ -123,7 +123,7 @@ module _ {S : Type 0} (T : Talk S) (laws : TalkLaws T) (law : ClosesLaw) (cap : 
   made_of : (b : Bank) → b.dims ≡ dims → b.slots ≡ slots → ◌≡◌ {A = Made} (record { dims = b.dims; cap = cap; slots = b.slots; by_slots = false }) (record { dims = dims; cap = cap; slots = slots; by_slots = false })
   made_of b ed es = ap (λ ds. record { dims = ds; cap = cap; slots = b.slots; by_slots = false }) ed ∙ ap (λ k. record { dims = dims; cap = cap; slots = k; by_slots = false }) es
 
-  plain_closed : (b : Bank) (c : Round) → b.dims ≡ dims → b.slots ≡ slots → c ≡ closed cap b → IsRound c → IsClosed (record { dims = dims; cap = cap; slots = slots; by_slots = false }) (sent_of b) (got_of b) c
+  plain_closed : (b : Bank) (c : Round) → b.dims ≡ dims → b.slots ≡ slots → c ≡ round_of_bank cap b → IsRound c → IsClosed (record { dims = dims; cap = cap; slots = slots; by_slots = false }) (sent_of b) (got_of b) c
   plain_closed b c ed es is in_order = subst (IsClosed (record { dims = dims; cap = cap; slots = slots; by_slots = false }) (sent_of b) (got_of b)) (sym is) (record {
     bank = made_of b ed es;
     sent = λ i l. sym (logs_map (λ c. c.sent) b.channels refl l) i;
@@ -132,14 +132,14 @@ module _ {S : Type 0} (T : Talk S) (laws : TalkLaws T) (law : ClosesLaw) (cap : 
   })
 
   -- both closed banks tell the exchange
-  pub told : (cq cr : Round) → cq ≡ closed cap q → IsRound cq → cr ≡ closed cap r → IsRound cr → TellsExchange T askers (record { dims = dims; cap = cap; slots = slots; by_slots = false }) steady cq cr
+  pub told : (cq cr : Round) → cq ≡ round_of_bank cap q → IsRound cq → cr ≡ round_of_bank cap r → IsRound cr → TellsExchange T askers (record { dims = dims; cap = cap; slots = slots; by_slots = false }) steady cq cr
   told cq cr is_q order_q is_r order_r =
       told_both T laws law cap dims slots steady askers s ns node (sides_of q r) all all_of node_at every over false cq cr
       (plain_closed q cq banks.queries_dims banks.queries_slots is_q order_q) (plain_closed r cr banks.replies_dims banks.replies_slots is_r order_r)
       (λ l below. w.queries.shape l) (λ l below. w.replies.shape l)
 
 -- what a drive needs, and what it leaves
-module _ {S : Type 0} (T : Talk S) (cap : ℕ) (dims : List ℕ) (slots : ℕ) (steady : Bool) (askers : List S) (ns : List (BiState S)) (q r : Bank) (fresh : AreFresh T dims steady askers ns) (all : AreAskers T (ranks dims) askers) (some : 0 < cap)
+module _ {S : Type 0} (T : Talk S) (cap : ℕ) (dims : List ℕ) (slots : ℕ) (steady : Bool) (askers : List S) (ns : List (BiState S)) (q r : Bank) (fresh : AreFreshBiRanks T dims steady askers ns) (all : AreAskers T (ranks dims) askers) (some : 0 < cap)
     (eq : q ≡ empty_bank dims slots) (er : r ≡ empty_bank dims slots) (is : IsBank cap (empty_bank dims slots)) where
   pub first : (s : S) × (slice_get askers 0 ≡ Some s)
   first = find askers 0 (let positive = ranks_some dims is.grid.positive in omega (arith, positive, all.size))
@@ -152,15 +152,15 @@ module _ {S : Type 0} (T : Talk S) (cap : ℕ) (dims : List ℕ) (slots : ℕ) (
       subst (λ (x : Bank). AreBanks cap x.dims x.slots x r) (sym eq) (subst (λ (y : Bank). AreBanks cap dims slots (empty_bank dims slots) y) (sym er)
       (record { queries = is; replies = is; queries_dims = refl; replies_dims = refl; queries_slots = refl; replies_slots = refl }))
 
-  pub world_first : World T q.dims cap q.slots steady begins ns (sides_of q r)
+  pub world_first : BiWorld T q.dims cap q.slots steady begins ns (sides_of q r)
   world_first =
-      subst (λ (x : Bank). World T x.dims cap x.slots steady begins ns (sides_of x r)) (sym eq)
-      (subst (λ (y : Bank). World T dims cap slots steady begins ns (sides_of (empty_bank dims slots) y)) (sym er) (begun T cap dims slots steady askers first.0 ns fresh all some is))
+      subst (λ (x : Bank). BiWorld T x.dims cap x.slots steady begins ns (sides_of x r)) (sym eq)
+      (subst (λ (y : Bank). BiWorld T dims cap slots steady begins ns (sides_of (empty_bank dims slots) y)) (sym er) (begun T cap dims slots steady askers first.0 ns fresh all some is))
 
-  pub steps_at : (steps steps' : ℕ) → ((steady : Bool) (starts : ℕ → S) → World T q.dims cap q.slots steady starts ns (sides_of q r) → steps' ≤ steps + turns_of q.dims (queries_in T ns)) → steps' ≤ steps + turns_of dims (sum_by (λ s. length (T.queries s)) askers)
+  pub steps_at : (steps steps' : ℕ) → ((steady : Bool) (starts : ℕ → S) → BiWorld T q.dims cap q.slots steady starts ns (sides_of q r) → steps' ≤ steps + bi_turns_of q.dims (queries_in T ns)) → steps' ≤ steps + bi_turns_of dims (sum_by (λ s. length (T.queries s)) askers)
   steps_at steps steps' told =
-      subst (λ ds. steps' ≤ steps + turns_of ds (sum_by (λ s. length (T.queries s)) askers)) (ap (λ (x : Bank). x.dims) eq)
-      (subst (λ k. steps' ≤ steps + turns_of q.dims k) (same_count T dims steady askers ns fresh) (told steady begins world_first))
+      subst (λ ds. steps' ≤ steps + bi_turns_of ds (sum_by (λ s. length (T.queries s)) askers)) (ap (λ (x : Bank). x.dims) eq)
+      (subst (λ k. steps' ≤ steps + bi_turns_of q.dims k) (same_count T dims steady askers ns fresh) (told steady begins world_first))
 
   -- no rank is over as an exchange begins, so each is turned
   none_over : list_all is_over ns ≡ false
@@ -172,8 +172,8 @@ module _ {S : Type 0} (T : Talk S) (cap : ℕ) (dims : List ℕ) (slots : ℕ) (
   pub fewest_at : (steps steps' : ℕ) → (list_all is_over ns ≡ false → steps + ranks q.dims ≤ steps') → steps + ranks dims ≤ steps'
   fewest_at steps steps' told = subst (λ ds. steps + ranks ds ≤ steps') (ap (λ (x : Bank). x.dims) eq) (told none_over)
 
-  pub world_last : (ns' : List (BiState S)) (q' r' : Bank) → ((steady : Bool) (starts : ℕ → S) → World T q.dims cap q.slots steady starts ns (sides_of q r) → World T q.dims cap q.slots steady starts ns' (sides_of q' r')) → World T dims cap slots steady begins ns' (sides_of q' r')
-  world_last ns' q' r' told = subst (λ (x : Bank). World T x.dims cap x.slots steady begins ns' (sides_of q' r')) eq (told steady begins world_first)
+  pub world_last : (ns' : List (BiState S)) (q' r' : Bank) → ((steady : Bool) (starts : ℕ → S) → BiWorld T q.dims cap q.slots steady starts ns (sides_of q r) → BiWorld T q.dims cap q.slots steady starts ns' (sides_of q' r')) → BiWorld T dims cap slots steady begins ns' (sides_of q' r')
+  world_last ns' q' r' told = subst (λ (x : Bank). BiWorld T x.dims cap x.slots steady begins ns' (sides_of q' r')) eq (told steady begins world_first)
 
   pub banks_last : (q' r' : Bank) → AreBanks cap q.dims q.slots q' r' → AreBanks cap dims slots q' r'
   banks_last q' r' b = subst (λ (x : Bank). AreBanks cap x.dims x.slots q' r') eq b

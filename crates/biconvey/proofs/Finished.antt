@@ -15,12 +15,12 @@ use Rattle.hop_core.specs.State.{State}
 use Rattle.convey.specs.Buffers.{buffers_of, is_complete}
 use Rattle.convey.specs.Law.{ClosesLaw}
 use Rattle.convey.specs.Parts.{part_of}
-use Rattle.rank_group.specs.Told.{Made}
+use Rattle.rank_group.specs.Transcript.{Made}
 use Rattle.round_program.specs.Talks.{Talk, TalkLaws}
 use Rattle.round_program.specs.Replies.{answers, answered_from, HaveHeard}
 use Rattle.query_node.specs.States.{BiState, Sides}
-use Rattle.query_node.specs.Ranks.{AllRanks, AllComplete}
-use Rattle.biconvey.specs.Worlds.{is_over}
+use Rattle.query_node.specs.Ranks.{AllBiRanks, AllComplete}
+use Rattle.biconvey.specs.RanksOverBanks.{is_over}
 use Rattle.biconvey.specs.Drives.{AreAskers, queries_of, answers_of, queries_by, replies_by, TellsWay, TellsExchange, askers_of}
 use Rattle.query_node.proofs.Closing.{all_asked, replied_of, queries_close, all_answered, ask_over}
 use Rattle.biconvey.proofs.Driven.{over_phases}
@@ -55,7 +55,7 @@ pub record IsClosed (made : Made) (a g : Logs) (c : Round) : Type 0 where
 
 module _ {S : Type 0} (T : Talk S) (laws : TalkLaws T) (law : ClosesLaw) (cap : ℕ) (dims : List ℕ) (slots : ℕ) (steady : Bool) (askers : List S) (s : S) (ns : List (BiState S)) (node : ℕ → BiState S) (sides : Sides)
     (all : AreAskers T (ranks dims) askers) (count : length ns ≡ ranks dims) (node_at : (k : ℕ) → k < ranks dims → slice_get ns k ≡ Some (node k))
-    (every : AllRanks T dims cap slots (starts_of askers s) node sides) (over : (k : ℕ) (n : BiState S) → slice_get ns k ≡ Some n → is_over n ≡ true) where
+    (every : AllBiRanks T dims cap slots (starts_of askers s) node sides) (over : (k : ℕ) (n : BiState S) → slice_get ns k ≡ Some n → is_over n ≡ true) where
   abbrev starts : ℕ → S
   starts = starts_of askers s
 

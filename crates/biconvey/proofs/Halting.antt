@@ -7,7 +7,7 @@ use Rattle.route_tensor.specs.Link.{links}
 use Rattle.route_tensor.specs.Ends.{hop_at, sender_at, reader_at}
 use Rattle.route_tensor.proofs.Ends.{number_ends}
 use Rattle.port_bank.specs.Logs.{Logs, lasts, starting_at, ending_at, EndsLast, lasts_in}
-use Rattle.list_laws.specs.Lists.{Begins}
+use Rattle.list_laws.specs.Lists.{IsPrefix}
 use Rattle.port_bank.proofs.Segments.{lasts_begins}
 use Rattle.port_bank.proofs.Marks.{all_got, mark_of, at_most}
 use Rattle.hop_core.specs.Link.{In, is_wanted}
@@ -40,7 +40,7 @@ record HasNext (dims : List ℕ) (l : ℕ) (sent got : Logs) : Type 0 where
   hop : hop_at dims link ≡ hop_at dims l + 1
   busy : IsBusy sent got link
 
-module _ (dims : List ℕ) (olds news : ℕ → State) (sent got : Logs) (g : IsGrid dims) (fronts : (l : ℕ) → l < links dims → Begins (got l) (sent l))
+module _ (dims : List ℕ) (olds news : ℕ → State) (sent got : Logs) (g : IsGrid dims) (fronts : (l : ℕ) → l < links dims → IsPrefix (got l) (sent l))
     (each : (r : ℕ) → r < ranks dims → IsHalted dims r (olds r) (news r) sent got) where
   -- all was got where the reader has the last parcel
   arrived_all : (l : ℕ) → l < links dims → 0 < lasts (got l) → length (got l) ≡ length (sent l)

@@ -8,12 +8,12 @@ use Rattle.convey.specs.Buffers.{in_of}
 use Rattle.round_program.specs.Talks.{Talk}
 use Rattle.rank_group.proofs.Making.{at_end, shift, first_of, none_of}
 use Rattle.query_node.specs.States.{BiState, IsBiNode}
-use Rattle.biconvey.specs.Drives.{AreAskers, IsFresh, AreFresh, askers_of}
+use Rattle.biconvey.specs.Drives.{AreAskers, IsFreshBiRank, AreFreshBiRanks, askers_of}
 
 -- ranks for the askers so far
 pub record Making {S : Type 0} (T : Talk S) (dims : List ℕ) (steady : Bool) (starts rest : List S) (ns : List (BiState S)) : Type 0 where
   pub left : starts ≡ askers_of ns ++ rest
-  pub each : (r : ℕ) (n : BiState S) → slice_get ns r ≡ Some n → IsFresh T dims steady r n
+  pub each : (r : ℕ) (n : BiState S) → slice_get ns r ≡ Some n → IsFreshBiRank T dims steady r n
 
 module _ {S : Type 0} (T : Talk S) (dims : List ℕ) (steady : Bool) (starts rest : List S) (ns : List (BiState S)) (f : Making T dims steady starts rest ns) where
   -- the next asker is that of the next rank
@@ -26,7 +26,7 @@ module _ {S : Type 0} (T : Talk S) (dims : List ℕ) (steady : Bool) (starts res
       → IsBiNode T q n (λ l. []) (λ l. []) (λ l. []) (λ l. []) → n.asker ≡ q → n.queries.dims ≡ dims → n.queries.rank ≡ T.rank q → n.queries.phase ≡ Working → (n.queries.steady ≡ steady) × (n.replies.steady ≡ steady)
       → ((l : ℕ) → ((in_of n.queries l).parcel.untaken ≡ []) × ((in_of n.replies l).parcel.untaken ≡ [])) → Making T dims steady starts rest' ns'
   making_more p rest' ns' q n all at gone more node np nd nr working steadies unread =
-      let made : IsFresh T dims steady (length ns) n = record {
+      let made : IsFreshBiRank T dims steady (length ns) n = record {
         same_dims = nd;
         same_rank = nr ∙ (all.each (length ns) q (next_asker q at)).0;
         same_steady = steadies;
@@ -43,11 +43,11 @@ module _ {S : Type 0} (T : Talk S) (dims : List ℕ) (steady : Bool) (starts res
           | inr past ↦
               let same : r ≡ length ns = omega (arith, past, within ns' r m now, ap length more, size) in
               let is : n ≡ m = get_once (ns ++ n ∷ []) (length ns) n m (get_last ns n) (ap (λ xs. slice_get xs (length ns)) (sym more) ∙ subst (λ i. slice_get ns' i ≡ Some m) same now) in
-              subst (λ i. IsFresh T dims steady i m) (sym same) (subst (λ y. IsFresh T dims steady (length ns) y) is made)
+              subst (λ i. IsFreshBiRank T dims steady i m) (sym same) (subst (λ y. IsFreshBiRank T dims steady (length ns) y) is made)
         ];
       }
 
-  pub making_all : slice_get rest 0 ≡ None → AreFresh T dims steady starts ns
+  pub making_all : slice_get rest 0 ≡ None → AreFreshBiRanks T dims steady starts ns
   making_all none = record { same = sym (f.left ∙ (ap (λ ys. askers_of ns ++ ys) (none_of rest none) ∙ append-nil (askers_of ns))); each = f.each }
 
 pub making_none : {S : Type 0} (T : Talk S) (dims : List ℕ) (steady : Bool) (starts : List S) → Making T dims steady starts starts []

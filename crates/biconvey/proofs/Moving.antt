@@ -10,18 +10,18 @@ use Rattle.hop_core.specs.State.{State}
 use Rattle.convey.specs.Buffers.{in_of}
 use Rattle.convey.proofs.OneRank.{starting-own}
 use Rattle.rank_group.proofs.Growing.{Grows, inbox_same, inboxes_on}
-use Rattle.biconvey.specs.Ways.{conveyor_in, inbox, moves, Lawful, IsWay, AfterTurn}
+use Rattle.biconvey.specs.Ways.{conveyor_in, bi_inbox, bi_moves, BiBankLawful, AreConveyorsOver, AfterBiAdvance}
 
 module _ (dims : List ℕ) (cap slots : ℕ) (steady : Bool) (r : ℕ) (c c' : State) (cs cs' : List State) (sent got sent' got' : Logs)
-    (w : IsWay dims cap slots steady cs sent got) (at : slice_get cs r ≡ Some c) (at' : slice_get cs' r ≡ Some c') (others : (k : ℕ) → k ≢ r → slice_get cs' k ≡ slice_get cs k) (size : length cs' ≡ length cs)
-    (t : AfterTurn dims cap r c c' sent got sent' got') (law : Lawful dims cap slots sent' got') where
-  was_at : (l : ℕ) → reader_at dims l ≡ r → inbox dims cs l ≡ length (in_of c l).parcel.untaken
+    (w : AreConveyorsOver dims cap slots steady cs sent got) (at : slice_get cs r ≡ Some c) (at' : slice_get cs' r ≡ Some c') (others : (k : ℕ) → k ≢ r → slice_get cs' k ≡ slice_get cs k) (size : length cs' ≡ length cs)
+    (t : AfterBiAdvance dims cap r c c' sent got sent' got') (law : BiBankLawful dims cap slots sent' got') where
+  was_at : (l : ℕ) → reader_at dims l ≡ r → bi_inbox dims cs l ≡ length (in_of c l).parcel.untaken
   was_at l here = ap (λ k. length (in_of (conveyor_in (slice_get cs k)) l).parcel.untaken) here ∙ ap (λ o. length (in_of (conveyor_in o) l).parcel.untaken) at
 
-  now_at : (l : ℕ) → reader_at dims l ≡ r → inbox dims cs' l ≡ length (in_of c' l).parcel.untaken
+  now_at : (l : ℕ) → reader_at dims l ≡ r → bi_inbox dims cs' l ≡ length (in_of c' l).parcel.untaken
   now_at l here = ap (λ k. length (in_of (conveyor_in (slice_get cs' k)) l).parcel.untaken) here ∙ ap (λ o. length (in_of (conveyor_in o) l).parcel.untaken) at'
 
-  pub grows : Grows dims r sent got sent' got' (inbox dims cs) (inbox dims cs')
+  pub grows : Grows dims r sent got sent' got' (bi_inbox dims cs) (bi_inbox dims cs')
   grows = record {
     sent_elsewhere = t.sent_elsewhere;
     got_elsewhere = t.got_elsewhere;
@@ -33,11 +33,11 @@ module _ (dims : List ℕ) (cap slots : ℕ) (steady : Bool) (r : ℕ) (c c' : S
     past = λ l past. ((law.none_past l past).0 ∙ sym (w.lawful.none_past l past).0, (law.none_past l past).1 ∙ sym (w.lawful.none_past l past).1);
   }
 
-  pub inbox_kept : moves dims cs' sent' got' ≤ moves dims cs sent got → (l : ℕ) → l < links dims → reader_at dims l ≡ r → length (in_of c l).parcel.untaken ≤ length (in_of c' l).parcel.untaken
-  inbox_kept light l below to = omega (arith, was_at l to, now_at l to, inbox_same dims r sent got sent' got' (inbox dims cs) (inbox dims cs') grows light l below)
+  pub inbox_kept : bi_moves dims cs' sent' got' ≤ bi_moves dims cs sent got → (l : ℕ) → l < links dims → reader_at dims l ≡ r → length (in_of c l).parcel.untaken ≤ length (in_of c' l).parcel.untaken
+  inbox_kept light l below to = omega (arith, was_at l to, now_at l to, inbox_same dims r sent got sent' got' (bi_inbox dims cs) (bi_inbox dims cs') grows light l below)
 
   -- the way after the turn
-  pub way_on : IsWay dims cap slots steady cs' sent' got'
+  pub way_on : AreConveyorsOver dims cap slots steady cs' sent' got'
   way_on = record {
     lawful = law;
     all = size ∙ w.all;
@@ -55,5 +55,5 @@ module _ (dims : List ℕ) (cap slots : ℕ) (steady : Bool) (r : ℕ) (c c' : S
           let same : sent' l ≡ sent l = sym (ap (λ b. cond b [] (sent' l)) (ne_eqb (sender_at dims l) r apart)) ∙ (e ∙ ap (λ b. cond b [] (sent l)) (ne_eqb (sender_at dims l) r apart)) in
           subst (IsConveyorShape steady cap) (sym same) (w.shape l)
     ];
-    inboxes = inboxes_on dims r sent got sent' got' (inbox dims cs) (inbox dims cs') grows;
+    inboxes = inboxes_on dims r sent got sent' got' (bi_inbox dims cs) (bi_inbox dims cs') grows;
   }

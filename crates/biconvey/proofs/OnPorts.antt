@@ -1,19 +1,19 @@
 -- A rank at its two ports stays on its way by a turn.
 use Rattle.std.proofs.Common.{◌≡◌, ℕ, ◌+◌, Bool, true, false, ◌||◌, refl, sym, ap, subst, ◌∙◌, arith}
 use Rattle.port_bank.specs.Shapes.{IsConveyorShape}
-use Rattle.link_slots.specs.Seen.{Identity, Manning, named, posted_on, collected_from}
+use Rattle.link_slots.specs.SeatView.{Identity, Manning, table_name, posted_on, collected_from}
 use Rattle.link_slots.proofs.Ported.{one_bank}
 use Rattle.round_program.specs.Talks.{Talk}
 use Rattle.query_node.specs.States.{BiState, IsBiNode}
-use Rattle.rank_group.specs.Noted.{HasSame}
-use Rattle.biconvey.specs.Seats.{SeatedState, HasWay, SameSeat, Ran}
+use Rattle.rank_group.specs.TurnNotes.{HasSame}
+use Rattle.biconvey.specs.Seats.{BiSeatedState, HasBiWay, SameSeat, BiRan}
 
 -- a seat by what no turn changes
-pub one_seat : (old new : Manning) → named new.id ≡ named old.id → new.shape.dims ≡ old.shape.dims → new.shape.slots ≡ old.shape.slots → new.rank ≡ old.rank → SameSeat old new
+pub one_seat : (old new : Manning) → table_name new.id ≡ table_name old.id → new.shape.dims ≡ old.shape.dims → new.shape.slots ≡ old.shape.slots → new.rank ≡ old.rank → SameSeat old new
 one_seat old new e ed es er = let i = one_bank new.id old.id e in record { bank = λ k. record { id = i k; shape = record { dims = ed k; slots = es k } }; number = er }
 
 -- a rank that was turned is still on some way
-pub has_way : {S : Type 0} (T : Talk S) (cap : ℕ) (told : ℕ → ℕ → Bool) (x y : SeatedState S) → HasWay T cap x → Ran T cap told x y → HasWay T cap y
+pub has_way : {S : Type 0} (T : Talk S) (cap : ℕ) (told : ℕ → ℕ → Bool) (x y : BiSeatedState S) → HasBiWay T cap x → BiRan T cap told x y → HasBiWay T cap y
 has_way T cap told x y w ran = record { steady = w.steady; start = w.start; way = ran.kept w.steady w.start w.way }
 
 -- by a port that noted no move since it began to watch, which it still knows
@@ -34,7 +34,7 @@ pub turned : {S : Type 0} (T : Talk S) (cap : ℕ) (told : ℕ → ℕ → Bool)
     → ((start : S) → IsBiNode T start n (posted_on q) (collected_from q) (posted_on p) (collected_from p) → IsBiNode T start n' (posted_on q') (collected_from q') (posted_on p') (collected_from p'))
     → ((l : ℕ) → IsConveyorShape n.queries.steady cap (posted_on q l) → IsConveyorShape n.queries.steady cap (posted_on q' l))
     → ((l : ℕ) → IsConveyorShape n.replies.steady cap (posted_on p l) → IsConveyorShape n.replies.steady cap (posted_on p' l))
-    → Ran T cap told (record { node = n; queries = q; replies = p; turns = turns }) (record { node = n'; queries = q'; replies = p'; turns = turns + 1 })
+    → BiRan T cap told (record { node = n; queries = q; replies = p; turns = turns }) (record { node = n'; queries = q'; replies = p'; turns = turns + 1 })
 turned {S} T cap told n n' q q' p p' turns heard same_q same_p dims rank steady_q steady_p kept shape_q shape_p =
     record {
       queries = same_q;

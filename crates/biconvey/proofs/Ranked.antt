@@ -2,7 +2,7 @@
 use Rattle.std.proofs.Common.{◌≡◌, ℕ, ◌+◌, ◌<◌, ◌≤◌, List, ◌++◌, length, sym, ap, subst, ◌∙◌}
 use Rattle.std.specs.List.{flat_map}
 use Rattle.item_buffer.specs.Contents.{Shipped}
-use Rattle.list_laws.specs.Lists.{Begins}
+use Rattle.list_laws.specs.Lists.{IsPrefix}
 use Rattle.route_tensor.specs.Link.{links}
 use Rattle.route_tensor.specs.Ends.{sender_at, reader_at}
 use Rattle.port_bank.specs.Logs.{starting_at, ending_at}
@@ -12,9 +12,9 @@ use Rattle.port_bank.specs.Plain.{Bank, sent_of, got_of, others_of, crowded_of, 
 use Rattle.convey.specs.Buffers.{in_of}
 use Rattle.round_program.specs.Talks.{Talk}
 use Rattle.query_node.specs.States.{BiState, Sides, IsBiNode}
-use Rattle.query_node.specs.Still.{IsStuck}
-use Rattle.query_node.specs.Ranks.{HasRank}
-use Rattle.biconvey.specs.Worlds.{AfterRank, sides_of}
+use Rattle.query_node.specs.Still.{IsStuckBoth}
+use Rattle.query_node.specs.Ranks.{HasBiRank}
+use Rattle.biconvey.specs.RanksOverBanks.{AfterBiRank, sides_of}
 
 -- what a turn tells over the port of rank a of the bank q and that of rank b of the bank r; the
 -- ports after it are those of a' and b'
@@ -25,10 +25,10 @@ pub record PortTurns {S : Type 0} (T : Talk S) (cap : ℕ) (n n' : BiState S) (q
   pub rank : n'.queries.rank ≡ n.queries.rank
   pub steady : n'.queries.steady ≡ n.queries.steady
   pub steady_replies : n'.replies.steady ≡ n.replies.steady
-  pub queries_sent : (l : ℕ) → Begins (starting_at q.dims a (sent_of q) l) (starting_at q'.dims a' (sent_of q') l)
-  pub queries_got : (l : ℕ) → Begins (ending_at q.dims a (got_of q) l) (ending_at q'.dims a' (got_of q') l)
-  pub replies_sent : (l : ℕ) → Begins (starting_at r.dims b (sent_of r) l) (starting_at r'.dims b' (sent_of r') l)
-  pub replies_got : (l : ℕ) → Begins (ending_at r.dims b (got_of r) l) (ending_at r'.dims b' (got_of r') l)
+  pub queries_sent : (l : ℕ) → IsPrefix (starting_at q.dims a (sent_of q) l) (starting_at q'.dims a' (sent_of q') l)
+  pub queries_got : (l : ℕ) → IsPrefix (ending_at q.dims a (got_of q) l) (ending_at q'.dims a' (got_of q') l)
+  pub replies_sent : (l : ℕ) → IsPrefix (starting_at r.dims b (sent_of r) l) (starting_at r'.dims b' (sent_of r') l)
+  pub replies_got : (l : ℕ) → IsPrefix (ending_at r.dims b (got_of r) l) (ending_at r'.dims b' (got_of r') l)
   pub queries_once : (l : ℕ) → l < links n.queries.dims → sender_at n.queries.dims l ≡ n.queries.rank → length (starting_at q'.dims a' (sent_of q') l) ≤ length (starting_at q.dims a (sent_of q) l) + 1
   pub queries_shape : (l : ℕ) → IsConveyorShape n.queries.steady cap (starting_at q.dims a (sent_of q) l) → IsConveyorShape n.queries.steady cap (starting_at q'.dims a' (sent_of q') l)
   pub replies_once : (l : ℕ) → l < links n.replies.dims → sender_at n.replies.dims l ≡ n.replies.rank → length (starting_at r'.dims b' (sent_of r') l) ≤ length (starting_at r.dims b (sent_of r) l) + 1
@@ -42,7 +42,7 @@ pub record PortTurns {S : Type 0} (T : Talk S) (cap : ℕ) (n n' : BiState S) (q
   pub stuck : (start : S) → IsBiNode T start n (starting_at q.dims a (sent_of q)) (ending_at q.dims a (got_of q)) (starting_at r.dims b (sent_of r)) (ending_at r.dims b (got_of r))
       → ((l : ℕ) → starting_at q'.dims a' (sent_of q') l ≡ starting_at q.dims a (sent_of q) l) → ((l : ℕ) → ending_at q'.dims a' (got_of q') l ≡ ending_at q.dims a (got_of q) l)
       → ((l : ℕ) → starting_at r'.dims b' (sent_of r') l ≡ starting_at r.dims b (sent_of r) l) → ((l : ℕ) → ending_at r'.dims b' (got_of r') l ≡ ending_at r.dims b (got_of r) l)
-      → IsStuck n n'
+      → IsStuckBoth n n'
       (record { asking = starting_at q.dims a (sent_of q); asked = ending_at q.dims a (got_of q); replying = starting_at r.dims b (sent_of r); replied = ending_at r.dims b (got_of r) })
       (record { asking = starting_at q'.dims a' (sent_of q'); asked = ending_at q'.dims a' (got_of q'); replying = starting_at r'.dims b' (sent_of r'); replied = ending_at r'.dims b' (got_of r') })
       (record { crowded = crowded_of a' q'; idle = idle_of a' q'; replies_crowded = crowded_of b' r'; replies_idle = idle_of b' r' })
@@ -56,7 +56,7 @@ is_at dims slots b ed es = ap (λ d. record { dims = d; slots = b.slots; channel
 pub after_turn : {S : Type 0} (T : Talk S) (dims : List ℕ) (cap slots number : ℕ) (n n' : BiState S) (q : Bank) (a : ℕ) (q' : Bank) (a' : ℕ) (r : Bank) (b : ℕ) (r' : Bank) (b' : ℕ)
     → q.dims ≡ dims → q.slots ≡ slots → r.dims ≡ dims → r.slots ≡ slots → q'.dims ≡ q.dims → q'.slots ≡ q.slots → r'.dims ≡ r.dims → r'.slots ≡ r.slots → a ≡ number → a' ≡ a → b ≡ number → b' ≡ b
     → n.queries.dims ≡ dims → n.queries.rank ≡ number → n.replies.dims ≡ dims → n.replies.rank ≡ number → PortTurns T cap n n' q a q' a' r b r' b'
-    → AfterRank T dims cap slots number n n' (sides_of q r) (sides_of q' r')
+    → AfterBiRank T dims cap slots number n n' (sides_of q r) (sides_of q' r')
 after_turn T dims cap slots number n n' q a q' a' r b r' b' qd qs rd rs qd' qs' rd' rs' ea ea' eb eb' nd nr md mr told =
     let t : PortTurns T cap n n' (at dims slots q) number (at dims slots q') number (at dims slots r) number (at dims slots r') number =
     subst (λ (x : Bank). PortTurns T cap n n' (at dims slots q) number (at dims slots q') number (at dims slots r) number x number) (is_at dims slots r' (rd' ∙ rd) (rs' ∙ rs))
@@ -94,7 +94,7 @@ after_turn T dims cap slots number n n' q a q' a' r b r' b' qd qs rd rs qd' qs' 
     }
 
 -- what a turn needs of the ports
-pub port_needs : {S : Type 0} (T : Talk S) (dims : List ℕ) (number : ℕ) (start : S) (n : BiState S) (q r pq pr : Bank) (a b : ℕ) → q.dims ≡ dims → r.dims ≡ dims → pq ≡ q → pr ≡ r → a ≡ number → b ≡ number → HasRank T dims number start n (sides_of q r)
+pub port_needs : {S : Type 0} (T : Talk S) (dims : List ℕ) (number : ℕ) (start : S) (n : BiState S) (q r pq pr : Bank) (a b : ℕ) → q.dims ≡ dims → r.dims ≡ dims → pq ≡ q → pr ≡ r → a ≡ number → b ≡ number → HasBiRank T dims number start n (sides_of q r)
     → IsBiNode T start n (starting_at pq.dims a (sent_of pq)) (ending_at pq.dims a (got_of pq)) (starting_at pr.dims b (sent_of pr)) (ending_at pr.dims b (got_of pr))
 port_needs T dims number start n q r pq pr a b qd rd eq er ea eb h =
     subst (λ (x : Bank). IsBiNode T start n (starting_at x.dims a (sent_of x)) (ending_at x.dims a (got_of x)) (starting_at pr.dims b (sent_of pr)) (ending_at pr.dims b (got_of pr))) (sym eq)

@@ -10,38 +10,38 @@ use Rattle.port_bank.specs.Logs.{Logs, starting_at, ending_at}
 use Rattle.convey.proofs.OneRank.{starting-own}
 use Rattle.route_tensor.specs.Link.{links}
 use Rattle.route_tensor.specs.Ends.{sender_at}
-use Rattle.port_bank.specs.Plain.{Bank, IsBank, unused, channel_at, sent_of, got_of}
+use Rattle.port_bank.specs.Plain.{Bank, IsBank, unused_channel, channel_at, sent_of, got_of}
 use Rattle.port_bank.proofs.Owners.{sent_elsewhere, got_elsewhere}
 use Rattle.hop_core.specs.State.{State}
 use Rattle.round_program.specs.Talks.{Talk}
 use Rattle.query_node.specs.States.{BiState, Sides, IsBiNode}
-use Rattle.query_node.specs.Still.{IsStuck}
-use Rattle.query_node.specs.Ranks.{HasRank, sides_at}
-use Rattle.biconvey.specs.Ways.{inbox, moves, Lawful, AfterTurn}
-use Rattle.biconvey.specs.Worlds.{AreBanks, AfterRank, PostedWithin, Rests, World, all_moves, SweptTo, sides_of, known_at}
+use Rattle.query_node.specs.Still.{IsStuckBoth}
+use Rattle.query_node.specs.Ranks.{HasBiRank, sides_at}
+use Rattle.biconvey.specs.Ways.{bi_inbox, bi_moves, BiBankLawful, AfterBiAdvance}
+use Rattle.biconvey.specs.RanksOverBanks.{AreBanks, AfterBiRank, PostedWithin, BiRests, BiWorld, all_moves, BiSweptTo, sides_of, known_at}
 use Rattle.rank_group.proofs.Growing.{Grows, moves_on, sent_same, got_same}
 use Rattle.biconvey.proofs.Moving.{grows, inbox_kept, way_on}
 
-lawful : (cap : ℕ) (b : Bank) (dims : List ℕ) (slots : ℕ) → IsBank cap b → b.dims ≡ dims → b.slots ≡ slots → Lawful dims cap slots (sent_of b) (got_of b)
+lawful : (cap : ℕ) (b : Bank) (dims : List ℕ) (slots : ℕ) → IsBank cap b → b.dims ≡ dims → b.slots ≡ slots → BiBankLawful dims cap slots (sent_of b) (got_of b)
 lawful cap b dims slots is ed es =
-    subst (λ d. Lawful d cap slots (sent_of b) (got_of b)) ed
-    (subst (λ k. Lawful b.dims cap k (sent_of b) (got_of b)) es
+    subst (λ d. BiBankLawful d cap slots (sent_of b) (got_of b)) ed
+    (subst (λ k. BiBankLawful b.dims cap k (sent_of b) (got_of b)) es
     (record {
       grid = is.grid;
       links_keep = is.each_link;
-      none_past = λ l past. let e : channel_at b l ≡ unused = get_or_past b.channels l unused (omega (arith, past, is.number)) in (ap (λ c. c.sent) e, ap (λ c. c.got) e);
+      none_past = λ l past. let e : channel_at b l ≡ unused_channel = get_or_past b.channels l unused_channel (omega (arith, past, is.number)) in (ap (λ c. c.sent) e, ap (λ c. c.got) e);
       relays = is.each_rank;
     }))
 
-pub queries_lawful : (cap : ℕ) (dims : List ℕ) (slots : ℕ) (q r : Bank) → AreBanks cap dims slots q r → Lawful dims cap slots (sent_of q) (got_of q)
+pub queries_lawful : (cap : ℕ) (dims : List ℕ) (slots : ℕ) (q r : Bank) → AreBanks cap dims slots q r → BiBankLawful dims cap slots (sent_of q) (got_of q)
 queries_lawful cap dims slots q r b = lawful cap q dims slots b.queries b.queries_dims b.queries_slots
 
-pub replies_lawful : (cap : ℕ) (dims : List ℕ) (slots : ℕ) (q r : Bank) → AreBanks cap dims slots q r → Lawful dims cap slots (sent_of r) (got_of r)
+pub replies_lawful : (cap : ℕ) (dims : List ℕ) (slots : ℕ) (q r : Bank) → AreBanks cap dims slots q r → BiBankLawful dims cap slots (sent_of r) (got_of r)
 replies_lawful cap dims slots q r b = lawful cap r dims slots b.replies b.replies_dims b.replies_slots
 
 -- a rank whose own lists are as they were
 other_rank : {S : Type 0} (T : Talk S) (dims : List ℕ) (r : ℕ) (start : S) (n : BiState S) (s s' : Sides) → starting_at dims r s'.asking ≡ starting_at dims r s.asking → ending_at dims r s'.asked ≡ ending_at dims r s.asked
-    → starting_at dims r s'.replying ≡ starting_at dims r s.replying → ending_at dims r s'.replied ≡ ending_at dims r s.replied → HasRank T dims r start n s → HasRank T dims r start n s'
+    → starting_at dims r s'.replying ≡ starting_at dims r s.replying → ending_at dims r s'.replied ≡ ending_at dims r s.replied → HasBiRank T dims r start n s → HasBiRank T dims r start n s'
 other_rank T dims r start n s s' a b c d h = record {
   same_dims = h.same_dims;
   same_rank = h.same_rank;
@@ -53,8 +53,8 @@ other_rank T dims r start n s s' a b c d h = record {
 }
 
 module _ {S : Type 0} (T : Talk S) (dims : List ℕ) (cap slots : ℕ) (steady : Bool) (starts : ℕ → S) (r : ℕ) (n n' : BiState S) (ns ns' : List (BiState S)) (s s' : Sides)
-    (w : World T dims cap slots steady starts ns s) (at : slice_get ns r ≡ Some n) (at' : slice_get ns' r ≡ Some n') (others : (k : ℕ) → k ≢ r → slice_get ns' k ≡ slice_get ns k) (long : length ns' ≡ length ns)
-    (t : AfterRank T dims cap slots r n n' s s') (lq : Lawful dims cap slots s'.asking s'.asked) (lr : Lawful dims cap slots s'.replying s'.replied) where
+    (w : BiWorld T dims cap slots steady starts ns s) (at : slice_get ns r ≡ Some n) (at' : slice_get ns' r ≡ Some n') (others : (k : ℕ) → k ≢ r → slice_get ns' k ≡ slice_get ns k) (long : length ns' ≡ length ns)
+    (t : AfterBiRank T dims cap slots r n n' s s') (lq : BiBankLawful dims cap slots s'.asking s'.asked) (lr : BiBankLawful dims cap slots s'.replying s'.replied) where
   others_in : (f : BiState S → State) (k : ℕ) → k ≢ r → slice_get (map f ns') k ≡ slice_get (map f ns) k
   others_in f k apart = slice_get-map f ns' k ∙ (ap (option_map f) (others k apart) ∙ sym (slice_get-map f ns k))
 
@@ -67,38 +67,38 @@ module _ {S : Type 0} (T : Talk S) (dims : List ℕ) (cap slots : ℕ) (steady :
   abbrev answers : BiState S → State
   answers x = x.replies
 
-  grows_q : Grows dims r s.asking s.asked s'.asking s'.asked (inbox dims (map asks ns)) (inbox dims (map asks ns'))
+  grows_q : Grows dims r s.asking s.asked s'.asking s'.asked (bi_inbox dims (map asks ns)) (bi_inbox dims (map asks ns'))
   grows_q = grows dims cap slots steady r n.queries n'.queries (map asks ns) (map asks ns') s.asking s.asked s'.asking s'.asked w.queries (get_map asks ns r n at) (get_map asks ns' r n' at') (others_in asks) (long_in asks) t.queries lq
 
-  grows_r : Grows dims r s.replying s.replied s'.replying s'.replied (inbox dims (map answers ns)) (inbox dims (map answers ns'))
+  grows_r : Grows dims r s.replying s.replied s'.replying s'.replied (bi_inbox dims (map answers ns)) (bi_inbox dims (map answers ns'))
   grows_r = grows dims cap slots steady r n.replies n'.replies (map answers ns) (map answers ns') s.replying s.replied s'.replying s'.replied w.replies (get_map answers ns r n at) (get_map answers ns' r n' at') (others_in answers) (long_in answers) t.replies lr
 
-  more_q : moves dims (map asks ns) s.asking s.asked ≤ moves dims (map asks ns') s'.asking s'.asked
-  more_q = moves_on dims r s.asking s.asked s'.asking s'.asked (inbox dims (map asks ns)) (inbox dims (map asks ns')) grows_q
+  more_q : bi_moves dims (map asks ns) s.asking s.asked ≤ bi_moves dims (map asks ns') s'.asking s'.asked
+  more_q = moves_on dims r s.asking s.asked s'.asking s'.asked (bi_inbox dims (map asks ns)) (bi_inbox dims (map asks ns')) grows_q
 
-  more_r : moves dims (map answers ns) s.replying s.replied ≤ moves dims (map answers ns') s'.replying s'.replied
-  more_r = moves_on dims r s.replying s.replied s'.replying s'.replied (inbox dims (map answers ns)) (inbox dims (map answers ns')) grows_r
+  more_r : bi_moves dims (map answers ns) s.replying s.replied ≤ bi_moves dims (map answers ns') s'.replying s'.replied
+  more_r = moves_on dims r s.replying s.replied s'.replying s'.replied (bi_inbox dims (map answers ns)) (bi_inbox dims (map answers ns')) grows_r
 
   pub all_on : all_moves dims ns s ≤ all_moves dims ns' s'
   all_on = let a = more_q in let b = more_r in omega (arith, a, b)
 
-  light_q : all_moves dims ns' s' ≤ all_moves dims ns s → moves dims (map asks ns') s'.asking s'.asked ≤ moves dims (map asks ns) s.asking s.asked
+  light_q : all_moves dims ns' s' ≤ all_moves dims ns s → bi_moves dims (map asks ns') s'.asking s'.asked ≤ bi_moves dims (map asks ns) s.asking s.asked
   light_q light = let a = more_q in let b = more_r in omega (arith, a, b, light)
 
-  light_r : all_moves dims ns' s' ≤ all_moves dims ns s → moves dims (map answers ns') s'.replying s'.replied ≤ moves dims (map answers ns) s.replying s.replied
+  light_r : all_moves dims ns' s' ≤ all_moves dims ns s → bi_moves dims (map answers ns') s'.replying s'.replied ≤ bi_moves dims (map answers ns) s.replying s.replied
   light_r light = let a = more_q in let b = more_r in omega (arith, a, b, light)
 
   -- where nothing moved the lists are as before
   pub same_sides : all_moves dims ns' s' ≤ all_moves dims ns s → s' ≡ s
   same_sides light =
-      let a = sent_same dims r s.asking s.asked s'.asking s'.asked (inbox dims (map asks ns)) (inbox dims (map asks ns')) grows_q (light_q light) in
-      let b = got_same dims r s.asking s.asked s'.asking s'.asked (inbox dims (map asks ns)) (inbox dims (map asks ns')) grows_q (light_q light) in
-      let c = sent_same dims r s.replying s.replied s'.replying s'.replied (inbox dims (map answers ns)) (inbox dims (map answers ns')) grows_r (light_r light) in
-      let d = got_same dims r s.replying s.replied s'.replying s'.replied (inbox dims (map answers ns)) (inbox dims (map answers ns')) grows_r (light_r light) in
+      let a = sent_same dims r s.asking s.asked s'.asking s'.asked (bi_inbox dims (map asks ns)) (bi_inbox dims (map asks ns')) grows_q (light_q light) in
+      let b = got_same dims r s.asking s.asked s'.asking s'.asked (bi_inbox dims (map asks ns)) (bi_inbox dims (map asks ns')) grows_q (light_q light) in
+      let c = sent_same dims r s.replying s.replied s'.replying s'.replied (bi_inbox dims (map answers ns)) (bi_inbox dims (map answers ns')) grows_r (light_r light) in
+      let d = got_same dims r s.replying s.replied s'.replying s'.replied (bi_inbox dims (map answers ns)) (bi_inbox dims (map answers ns')) grows_r (light_r light) in
       λ i. record { asking = a i; asked = b i; replying = c i; replied = d i }
 
   -- all ranks after the turn
-  pub world_on : World T dims cap slots steady starts ns' s'
+  pub world_on : BiWorld T dims cap slots steady starts ns' s'
   world_on = record {
     queries = way_on dims cap slots steady r n.queries n'.queries (map asks ns) (map asks ns') s.asking s.asked s'.asking s'.asked w.queries (get_map asks ns r n at) (get_map asks ns' r n' at') (others_in asks) (long_in asks) t.queries lq;
     replies = way_on dims cap slots steady r n.replies n'.replies (map answers ns) (map answers ns') s.replying s.replied s'.replying s'.replied w.replies (get_map answers ns r n at) (get_map answers ns' r n' at') (others_in answers) (long_in answers) t.replies lr;
@@ -107,7 +107,7 @@ module _ {S : Type 0} (T : Talk S) (dims : List ℕ) (cap slots : ℕ) (steady :
     each = λ k x now. elim (cases_eq k r) [
       | inl here ↦
           let e : n' ≡ x = get_once ns' r n' x at' (subst (λ q. slice_get ns' q ≡ Some x) here now) in
-          subst (λ q. HasRank T dims q (starts q) x s') (sym here) (subst (λ y. HasRank T dims r (starts r) y s') e (t.kept (starts r) (w.each r n at)))
+          subst (λ q. HasBiRank T dims q (starts q) x s') (sym here) (subst (λ y. HasBiRank T dims r (starts r) y s') e (t.kept (starts r) (w.each r n at)))
       | inr apart ↦
           other_rank T dims k (starts k) x s s' (sent_elsewhere dims r k s.asking s'.asking apart t.queries.sent_elsewhere) (got_elsewhere dims r k s.asked s'.asked apart t.queries.got_elsewhere)
           (sent_elsewhere dims r k s.replying s'.replying apart t.replies.sent_elsewhere) (got_elsewhere dims r k s.replied s'.replied apart t.replies.got_elsewhere) (w.each k x (sym (others k apart) ∙ now))
@@ -115,35 +115,35 @@ module _ {S : Type 0} (T : Talk S) (dims : List ℕ) (cap slots : ℕ) (steady :
   }
 
   -- the rank that was turned, where nothing moved
-  pub rests_here : all_moves dims ns' s' ≤ all_moves dims ns s → Rests T dims slots r n' s'
+  pub rests_here : all_moves dims ns' s' ≤ all_moves dims ns s → BiRests T dims slots r n' s'
   rests_here light =
       let same = same_sides light in
       let h = w.each r n at in record {
         before = n;
         start = starts r;
-        has = subst (HasRank T dims r (starts r) n) (sym same) h;
+        has = subst (HasBiRank T dims r (starts r) n) (sym same) h;
         kept_queries = inbox_kept dims cap slots steady r n.queries n'.queries (map asks ns) (map asks ns') s.asking s.asked s'.asking s'.asked w.queries (get_map asks ns r n at) (get_map asks ns' r n' at') (others_in asks) (long_in asks) t.queries lq (light_q light);
         kept_replies = inbox_kept dims cap slots steady r n.replies n'.replies (map answers ns) (map answers ns') s.replying s.replied s'.replying s'.replied w.replies (get_map answers ns r n at) (get_map answers ns' r n' at') (others_in answers) (long_in answers) t.replies lr (light_r light);
-        stuck = subst (λ (x : Sides). IsStuck n n' (sides_at dims r x) (sides_at dims r s') (known_at dims slots r s')) (sym same) (t.stuck (starts r) h same);
+        stuck = subst (λ (x : Sides). IsStuckBoth n n' (sides_at dims r x) (sides_at dims r s') (known_at dims slots r s')) (sym same) (t.stuck (starts r) h same);
       }
 
   -- the ranks that rested go on resting
-  pub rests_on : all_moves dims ns' s' ≤ all_moves dims ns s → (k : ℕ) (x : BiState S) → Rests T dims slots k x s → Rests T dims slots k x s'
-  rests_on light k x rest = subst (Rests T dims slots k x) (sym (same_sides light)) rest
+  pub rests_on : all_moves dims ns' s' ≤ all_moves dims ns s → (k : ℕ) (x : BiState S) → BiRests T dims slots k x s → BiRests T dims slots k x s'
+  rests_on light k x rest = subst (BiRests T dims slots k x) (sym (same_sides light)) rest
 
-pub swept_none : {S : Type 0} (T : Talk S) (dims : List ℕ) (cap slots : ℕ) (steady : Bool) (starts : ℕ → S) (order : List ℕ) (ns : List (BiState S)) (s : Sides) → World T dims cap slots steady starts ns s → SweptTo T dims cap slots steady starts order 0 ns s ns s
+pub swept_none : {S : Type 0} (T : Talk S) (dims : List ℕ) (cap slots : ℕ) (steady : Bool) (starts : ℕ → S) (order : List ℕ) (ns : List (BiState S)) (s : Sides) → BiWorld T dims cap slots steady starts ns s → BiSweptTo T dims cap slots steady starts order 0 ns s ns s
 swept_none T dims cap slots steady starts order ns s w = record { world = w; grown = omega arith; rests = λ light j r low at. absurd (omega (arith, low)) }
 
 pub swept_more : {S : Type 0} (T : Talk S) (dims : List ℕ) (cap slots : ℕ) (steady : Bool) (starts : ℕ → S) (order : List ℕ) (i r : ℕ) (ns0 ns ns' : List (BiState S)) (s0 s s' : Sides)
-    → slice_get order i ≡ Some r → r < ranks dims → length ns' ≡ length ns → ((k : ℕ) → k ≢ r → slice_get ns' k ≡ slice_get ns k) → Lawful dims cap slots s'.asking s'.asked → Lawful dims cap slots s'.replying s'.replied
-    → ((n n' : BiState S) → slice_get ns r ≡ Some n → slice_get ns' r ≡ Some n' → AfterRank T dims cap slots r n n' s s')
-    → SweptTo T dims cap slots steady starts order i ns0 s0 ns s → SweptTo T dims cap slots steady starts order (i + 1) ns0 s0 ns' s'
+    → slice_get order i ≡ Some r → r < ranks dims → length ns' ≡ length ns → ((k : ℕ) → k ≢ r → slice_get ns' k ≡ slice_get ns k) → BiBankLawful dims cap slots s'.asking s'.asked → BiBankLawful dims cap slots s'.replying s'.replied
+    → ((n n' : BiState S) → slice_get ns r ≡ Some n → slice_get ns' r ≡ Some n' → AfterBiRank T dims cap slots r n n' s s')
+    → BiSweptTo T dims cap slots steady starts order i ns0 s0 ns s → BiSweptTo T dims cap slots steady starts order (i + 1) ns0 s0 ns' s'
 swept_more {S} T dims cap slots steady starts order i r ns0 ns ns' s0 s s' here low long others lq lr turned v =
     let w = v.world in
     let all : length ns ≡ ranks dims = sym (length-map ns (λ (n : BiState S). n.queries)) ∙ w.queries.all in
     let n : (n : BiState S) × (slice_get ns r ≡ Some n) = find ns r (omega (arith, low, all)) in
     let n' : (n' : BiState S) × (slice_get ns' r ≡ Some n') = find ns' r (omega (arith, low, all, long)) in
-    let t : AfterRank T dims cap slots r n.0 n'.0 s s' = turned n.0 n'.0 n.1 n'.1 in
+    let t : AfterBiRank T dims cap slots r n.0 n'.0 s s' = turned n.0 n'.0 n.1 n'.1 in
     let more = all_on T dims cap slots steady starts r n.0 n'.0 ns ns' s s' w n.1 n'.1 others long t lq lr in
     record {
       world = world_on T dims cap slots steady starts r n.0 n'.0 ns ns' s s' w n.1 n'.1 others long t lq lr;
@@ -154,7 +154,7 @@ swept_more {S} T dims cap slots steady starts order i r ns0 ns ns' s0 s s' here 
           elim (cases_eq k r) [
             | inl same ↦
                 let e : n'.0 ≡ x = get_once ns' r n'.0 x n'.1 (subst (λ q. slice_get ns' q ≡ Some x) same now) in
-                subst (λ q. Rests T dims slots q x s') (sym same) (subst (λ y. Rests T dims slots r y s') e (rests_here T dims cap slots steady starts r n.0 n'.0 ns ns' s s' w n.1 n'.1 others long t lq lr level))
+                subst (λ q. BiRests T dims slots q x s') (sym same) (subst (λ y. BiRests T dims slots r y s') e (rests_here T dims cap slots steady starts r n.0 n'.0 ns ns' s s' w n.1 n'.1 others long t lq lr level))
             | inr apart ↦
                 let before : j < i = omega (arith, below, not_last j apart at) in
                 rests_on T dims cap slots steady starts r n.0 n'.0 ns ns' s s' w n.1 n'.1 others long t lq lr level k x (v.rests level0 j k before at x (sym (others k apart) ∙ now))
@@ -164,7 +164,7 @@ swept_more {S} T dims cap slots steady starts order i r ns0 ns ns' s0 s s' here 
       not_last j {k} apart at e = apart (get_once order i k r (subst (λ q. slice_get order q ≡ Some k) e at) here)
 
 -- a turn posts at most one parcel on a link
-posted_once : (dims : List ℕ) (cap r : ℕ) (c c' : State) (sent got sent' got' : Logs) → AfterTurn dims cap r c c' sent got sent' got' → (l : ℕ) → l < links dims → length (sent' l) ≤ length (sent l) + 1
+posted_once : (dims : List ℕ) (cap r : ℕ) (c c' : State) (sent got sent' got' : Logs) → AfterBiAdvance dims cap r c c' sent got sent' got' → (l : ℕ) → l < links dims → length (sent' l) ≤ length (sent l) + 1
 posted_once dims cap r c c' sent got sent' got' t l below = elim (cases_eq (sender_at dims l) r) [
   | inl here ↦ let once = t.once l below here in omega (arith, once, ap length (starting-own dims r sent l here), ap length (starting-own dims r sent' l here))
   | inr apart ↦
@@ -178,16 +178,16 @@ pub record Sweeping {S : Type 0} (T : Talk S) (cap : ℕ) (dims : List ℕ) (slo
   pub most_steps : steps ≤ steps0 + i
   pub fewest_steps : steps0 + i ≤ steps
   pub posted : PostedWithin dims s0 steps0 (sides_of q r) steps
-  pub swept : (steady : Bool) (starts : ℕ → S) → World T dims cap slots steady starts ns0 s0 → SweptTo T dims cap slots steady starts order i ns0 s0 ns (sides_of q r)
+  pub swept : (steady : Bool) (starts : ℕ → S) → BiWorld T dims cap slots steady starts ns0 s0 → BiSweptTo T dims cap slots steady starts order i ns0 s0 ns (sides_of q r)
 
 pub sweeping_more : {S : Type 0} (T : Talk S) (cap : ℕ) (dims : List ℕ) (slots : ℕ) (order : List ℕ) (ns0 : List (BiState S)) (s0 : Sides) (steps0 i k : ℕ) (ns ns' : List (BiState S)) (q r q' r' : Bank) (steps steps' : ℕ)
     → Sweeping T cap dims slots order ns0 s0 steps0 i ns q r steps → length ns ≡ ranks dims → slice_get order i ≡ Some k → k < ranks dims → AreBanks cap dims slots q' r' → steps' ≡ steps + 1 → length ns' ≡ length ns → ((j : ℕ) → j ≢ k → slice_get ns' j ≡ slice_get ns j)
-    → ((n n' : BiState S) → slice_get ns k ≡ Some n → slice_get ns' k ≡ Some n' → AfterRank T dims cap slots k n n' (sides_of q r) (sides_of q' r'))
+    → ((n n' : BiState S) → slice_get ns k ≡ Some n → slice_get ns' k ≡ Some n' → AfterBiRank T dims cap slots k n n' (sides_of q r) (sides_of q' r'))
     → Sweeping T cap dims slots order ns0 s0 steps0 (i + 1) ns' q' r' steps'
 sweeping_more {S} T cap dims slots order ns0 s0 steps0 i k ns ns' q r q' r' steps steps' v all here low banks count long others turned =
     let n : (n : BiState S) × (slice_get ns k ≡ Some n) = find ns k (omega (arith, low, all)) in
     let n' : (n' : BiState S) × (slice_get ns' k ≡ Some n') = find ns' k (omega (arith, low, all, long)) in
-    let t : AfterRank T dims cap slots k n.0 n'.0 (sides_of q r) (sides_of q' r') = turned n.0 n'.0 n.1 n'.1 in
+    let t : AfterBiRank T dims cap slots k n.0 n'.0 (sides_of q r) (sides_of q' r') = turned n.0 n'.0 n.1 n'.1 in
     record {
       banks = banks;
       most_steps = omega (arith, count, v.most_steps);
@@ -203,14 +203,14 @@ sweeping_more {S} T cap dims slots order ns0 s0 steps0 i k ns ns' q r q' r' step
     }
 
 -- what a turn tells of banks of the grid and slots with which a sweep began
-pub same_turn : {S : Type 0} (T : Talk S) (cap : ℕ) (dims dims' : List ℕ) (slots slots' k : ℕ) (n n' : BiState S) (s s' : Sides) → dims' ≡ dims → slots' ≡ slots → AfterRank T dims' cap slots' k n n' s s' → AfterRank T dims cap slots k n n' s s'
-same_turn T cap dims dims' slots slots' k n n' s s' ed es t = subst (λ d. AfterRank T d cap slots k n n' s s') ed (subst (λ m. AfterRank T dims' cap m k n n' s s') es t)
+pub same_turn : {S : Type 0} (T : Talk S) (cap : ℕ) (dims dims' : List ℕ) (slots slots' k : ℕ) (n n' : BiState S) (s s' : Sides) → dims' ≡ dims → slots' ≡ slots → AfterBiRank T dims' cap slots' k n n' s s' → AfterBiRank T dims cap slots k n n' s s'
+same_turn T cap dims dims' slots slots' k n n' s s' ed es t = subst (λ d. AfterBiRank T d cap slots k n n' s s') ed (subst (λ m. AfterBiRank T dims' cap m k n n' s s') es t)
 
 pub same_banks : (cap : ℕ) (dims dims' : List ℕ) (slots slots' : ℕ) (q r : Bank) → dims' ≡ dims → slots' ≡ slots → AreBanks cap dims' slots' q r → AreBanks cap dims slots q r
 same_banks cap dims dims' slots slots' q r ed es b = subst (λ d. AreBanks cap d slots q r) ed (subst (λ m. AreBanks cap dims' m q r) es b)
 
-pub same_world : {S : Type 0} (T : Talk S) (cap : ℕ) (dims dims' : List ℕ) (slots slots' : ℕ) (steady : Bool) (starts : ℕ → S) (ns : List (BiState S)) (s : Sides) → dims' ≡ dims → slots' ≡ slots → World T dims' cap slots' steady starts ns s → World T dims cap slots steady starts ns s
-same_world T cap dims dims' slots slots' steady starts ns s ed es w = subst (λ d. World T d cap slots steady starts ns s) ed (subst (λ m. World T dims' cap m steady starts ns s) es w)
+pub same_world : {S : Type 0} (T : Talk S) (cap : ℕ) (dims dims' : List ℕ) (slots slots' : ℕ) (steady : Bool) (starts : ℕ → S) (ns : List (BiState S)) (s : Sides) → dims' ≡ dims → slots' ≡ slots → BiWorld T dims' cap slots' steady starts ns s → BiWorld T dims cap slots steady starts ns s
+same_world T cap dims dims' slots slots' steady starts ns s ed es w = subst (λ d. BiWorld T d cap slots steady starts ns s) ed (subst (λ m. BiWorld T dims' cap m steady starts ns s) es w)
 
 pub order_at : (order : List ℕ) (i : ℕ) → i < length order → slice_get order i ≡ Some (get_or order i 0)
 order_at order i low = let f : (x : ℕ) × (slice_get order i ≡ Some x) = find order i low in f.1 ∙ ap Some (sym (get_or_from_slice_get order i f.0 0 f.1))

@@ -6,9 +6,9 @@ use Rattle.route_tensor.specs.Grid.{ranks, IsGrid}
 use Rattle.route_tensor.specs.Link.{links}
 use Rattle.route_tensor.specs.Ends.{sender_at, reader_at}
 use Rattle.port_bank.specs.Logs.{Logs, lasts, segment, starting_at, ending_at, EndsLast, lasts_in}
-use Rattle.port_bank.specs.Flow.{hop_link, flow, items_of}
+use Rattle.port_bank.specs.Flow.{hop_link, flow, passing_items}
 use Rattle.port_bank.specs.Link.{LinkLaw}
-use Rattle.port_bank.specs.Round.{Round, CloseLaw, logs_of, pushed, pulled}
+use Rattle.port_bank.specs.Round.{Round, CloseLaw, logs_of, pushed_items, pulled_items}
 use Rattle.port_bank.specs.Shapes.{IsConveyorShape}
 use Rattle.port_bank.proofs.Routes.{numbered}
 use Rattle.route_tensor.specs.Pair.{belongs}
@@ -18,7 +18,7 @@ use Rattle.convey.specs.Conveyors.{AgreesWith}
 use Rattle.convey.specs.Law.{IsSound}
 use Rattle.convey.specs.Parts.{part_of, pushed_to}
 use Rattle.convey.proofs.OneRank.{OneRank, one_rank_of, first_link, last_link, starting-own, ending-own}
-use Rattle.rank_group.specs.Told.{Made}
+use Rattle.rank_group.specs.Transcript.{Made}
 use Rattle.biconvey.specs.Drives.{TellsWay}
 use Rattle.port_bank.proofs.Marks.{none_after, all_got}
 
@@ -79,7 +79,7 @@ module _ (round : Round) (cap slots : ℕ) (steady : Bool) (cs : ℕ → State) 
   collected l below = let o = out l below in all_got (got l) (sent l) (keep l below).begins o.by_last (got_all l below ∙ sym o.ended)
 
   -- what a rank pushed is what it sent on hop 1
-  pushed_part : (s d : ℕ) → s < ranks dims → d < ranks dims → pushed round 0 s d ≡ (part_of (buffers_of (cs s)) (starting_at dims s sent) (ending_at dims s got)).pushed 0 d
+  pushed_part : (s d : ℕ) → s < ranks dims → d < ranks dims → pushed_items round 0 s d ≡ (part_of (buffers_of (cs s)) (starting_at dims s sent) (ending_at dims s got)).pushed 0 d
   pushed_part s d from to =
       let t = each s from in
       let c : State = cs s in
@@ -92,7 +92,7 @@ module _ (round : Round) (cap slots : ℕ) (steady : Bool) (cs : ℕ → State) 
       ap (λ b. cond b (pushed_to (buffers_of c) (starting_at dims s sent) 0 d) []) (lt-ltb d (ranks c.dims) to') in
       sym (part ∙ sends)
 
-  all_came : (e s d : ℕ) → s < ranks dims → d < ranks dims → pulled round e d s ≡ pushed round e s d
+  all_came : (e s d : ℕ) → s < ranks dims → d < ranks dims → pulled_items round e d s ≡ pushed_items round e s d
   all_came e s d from to =
       let first : ℕ = hop_link dims s d 1 in
       let last : ℕ = hop_link dims s d (length dims) in
@@ -105,7 +105,7 @@ module _ (round : Round) (cap slots : ℕ) (steady : Bool) (cs : ℕ → State) 
             let b = out last in_last in
             let sent_none : segment e (sent first) ≡ [] = none_after e (sent first) a.by_last (omega (arith, past, a.ended)) in
             let got_none : segment e (got last) ≡ [] = ap (segment e) (collected last in_last) ∙ none_after e (sent last) b.by_last (omega (arith, past, b.ended)) in
-            ap (items_of (belongs dims s d (length dims))) got_none ∙ sym (ap (items_of (belongs dims s d 1)) sent_none)
+            ap (passing_items (belongs dims s d (length dims))) got_none ∙ sym (ap (passing_items (belongs dims s d 1)) sent_none)
       ]
 
   pub tells_way : (made : Made) (items : ℕ → ℕ → List Item) → record { dims = round.dims; cap = round.cap; slots = round.slots; by_slots = round.by_slots } ≡ made → round.cap ≡ cap

@@ -13,20 +13,20 @@ use Rattle.port_bank.specs.Logs.{Logs, starting_at, ending_at}
 use Rattle.port_bank.specs.Round.{Round, IsRound, logs_of}
 use Rattle.port_bank.specs.Shapes.{IsConveyorShape}
 use Rattle.port_bank.proofs.Routes.{numbered}
-use Rattle.link_slots.specs.Closed.{slot_round, AllThere}
-use Rattle.link_slots.specs.Seen.{Identity, Manning, posted_on, collected_from}
+use Rattle.link_slots.specs.ClosedBank.{slot_round, AllThere}
+use Rattle.link_slots.specs.SeatView.{Identity, Manning, posted_on, collected_from}
 use Rattle.link_slots.specs.Shape.{Shape}
 use Rattle.convey.specs.Law.{ClosesLaw}
 use Rattle.convey.proofs.OneRank.{starting-own}
 use Rattle.rank_crews.specs.Runs.{AllRan}
-use Rattle.rank_group.specs.Told.{Made}
+use Rattle.rank_group.specs.Transcript.{Made}
 use Rattle.round_program.specs.Talks.{Talk, TalkLaws}
 use Rattle.round_program.specs.Replies.{HaveHeard}
 use Rattle.query_node.specs.States.{BiState, Sides, IsBiNode}
-use Rattle.query_node.specs.Ranks.{HasRank, AllRanks}
-use Rattle.biconvey.specs.Worlds.{is_over}
-use Rattle.biconvey.specs.Drives.{AreAskers, TellsExchange, AreFresh, askers_of}
-use Rattle.biconvey.specs.Seats.{SeatedState, bank_at, IsOnWay, Ran, IsSeated, AreSeated}
+use Rattle.query_node.specs.Ranks.{HasBiRank, AllBiRanks}
+use Rattle.biconvey.specs.RanksOverBanks.{is_over}
+use Rattle.biconvey.specs.Drives.{AreAskers, TellsExchange, AreFreshBiRanks, askers_of}
+use Rattle.biconvey.specs.Seats.{BiSeatedState, bank_at, IsOnBiWay, BiRan, IsSeatedBiRank, AreSeatedBiRanks}
 use Rattle.biconvey.proofs.Finished.{starts_of, IsClosed, heard_all, told_both}
 
 some_is : {X : Type 0} {o : Option X} {x : X} → o ≡ Some x → IsSome o
@@ -40,31 +40,31 @@ pub record IsLeft (cap : ℕ) (shape : Shape) (lists : _) (c : Round) : Type 0 w
   pub got : (s : Manning) → get_or lists s.rank None ≡ Some s.lists → ending_at shape.dims s.rank (logs_of c.got) ≡ collected_from s
 
 module _ {S : Type 0} (T : Talk S) (cap : ℕ) (b p : Identity) (same : p.shape ≡ b.shape) (steady : Bool) (askers : List S) (all : AreAskers T (ranks b.shape.dims) askers)
-    (ns : List (BiState S)) (fresh : AreFresh T b.shape.dims steady askers ns) (xs ys : List (SeatedState S)) (firsts : map (λ x. x.node) xs ≡ ns) (seated : AreSeated T cap steady b p xs) (heard : ℕ → ℕ → Bool) (ran : AllRan (λ x y. Ran T cap heard x y) xs ys) where
+    (ns : List (BiState S)) (fresh : AreFreshBiRanks T b.shape.dims steady askers ns) (xs ys : List (BiSeatedState S)) (firsts : map (λ x. x.node) xs ≡ ns) (seated : AreSeatedBiRanks T cap steady b p xs) (heard : ℕ → ℕ → Bool) (ran : AllRan (λ x y. BiRan T cap heard x y) xs ys) where
   abbrev dims : List ℕ
   dims = b.shape.dims
 
   as_many : length ys ≡ ranks dims
-  as_many = ran.all ∙ (sym (length-map xs (λ (x : SeatedState S). x.node)) ∙ (ap length firsts ∙ (sym (length-map ns (λ (n : BiState S). n.asker)) ∙ (ap length fresh.same ∙ all.size))))
+  as_many = ran.all ∙ (sym (length-map xs (λ (x : BiSeatedState S). x.node)) ∙ (ap length firsts ∙ (sym (length-map ns (λ (n : BiState S). n.asker)) ∙ (ap length fresh.same ∙ all.size))))
 
   -- a rank, and how its exchange went
-  record Came (r : ℕ) (y : SeatedState S) : Type 0 where
+  record Came (r : ℕ) (y : BiSeatedState S) : Type 0 where
     start : S
     began : slice_get askers r ≡ Some start
-    way : IsOnWay T cap steady start y
+    way : IsOnBiWay T cap steady start y
     queries_bank : bank_at y.queries ≡ b
     replies_bank : bank_at y.replies ≡ p
     numbers : (y.queries.rank ≡ r) × (y.replies.rank ≡ r)
     turns : (m : ℕ) → m < y.turns → heard r m ≡ true
 
-  came : (r : ℕ) (y : SeatedState S) → slice_get ys r ≡ Some y → Came r y
+  came : (r : ℕ) (y : BiSeatedState S) → slice_get ys r ≡ Some y → Came r y
   came r y at =
-      let x : (x : SeatedState S) × (slice_get xs r ≡ Some x) = find xs r (let a = ran.all in omega (arith, within ys r y at, a)) in
-      let s : IsSeated T cap steady b p r x.0 = seated r x.0 x.1 in
-      let t : Ran T cap heard x.0 y = ran.each r x.0 y x.1 at in
+      let x : (x : BiSeatedState S) × (slice_get xs r ≡ Some x) = find xs r (let a = ran.all in omega (arith, within ys r y at, a)) in
+      let s : IsSeatedBiRank T cap steady b p r x.0 = seated r x.0 x.1 in
+      let t : BiRan T cap heard x.0 y = ran.each r x.0 y x.1 at in
       record {
         start = x.0.node.asker;
-        began = ap (λ ss. slice_get ss r) (sym fresh.same) ∙ (ap (λ ms. slice_get (askers_of ms) r) (sym firsts) ∙ get_map (λ (n : BiState S). n.asker) (map (λ x. x.node) xs) r x.0.node (get_map (λ (x : SeatedState S). x.node) xs r x.0 x.1));
+        began = ap (λ ss. slice_get ss r) (sym fresh.same) ∙ (ap (λ ms. slice_get (askers_of ms) r) (sym firsts) ∙ get_map (λ (n : BiState S). n.asker) (map (λ x. x.node) xs) r x.0.node (get_map (λ (x : BiSeatedState S). x.node) xs r x.0 x.1));
         way = t.kept steady x.0.node.asker s.way;
         queries_bank = t.queries.bank ∙ s.queries_bank;
         replies_bank = t.replies.bank ∙ s.replies_bank;
@@ -75,22 +75,22 @@ module _ {S : Type 0} (T : Talk S) (cap : ℕ) (b p : Identity) (same : p.shape 
   -- the gate was told of the first turn of each
   pub all_told : All (λ y. is_over y.node ≡ true) ys → (r : ℕ) → r < ranks dims → heard r 0 ≡ true
   all_told over r low =
-      let y : (y : SeatedState S) × (slice_get ys r ≡ Some y) = find ys r (omega (arith, low, as_many)) in
+      let y : (y : BiSeatedState S) × (slice_get ys r ≡ Some y) = find ys r (omega (arith, low, as_many)) in
       let c : Came r y.0 = came r y.0 y.1 in
-      c.turns 0 (c.way.some (all_get (λ (z : SeatedState S). is_over z.node ≡ true) ys r y.0 over y.1))
+      c.turns 0 (c.way.some (all_get (λ (z : BiSeatedState S). is_over z.node ≡ true) ys r y.0 over y.1))
 
   -- where each sat
   pub sat_at : All (λ y. (bank_at y.queries ≡ b) × (bank_at y.replies ≡ p)) ys
-  sat_at = all_from_gets (λ (y : SeatedState S). (bank_at y.queries ≡ b) × (bank_at y.replies ≡ p)) ys (λ r y at. let c = came r y at in (c.queries_bank, c.replies_bank))
+  sat_at = all_from_gets (λ (y : BiSeatedState S). (bank_at y.queries ≡ b) × (bank_at y.replies ≡ p)) ys (λ r y at. let c = came r y at in (c.queries_bank, c.replies_bank))
 
   pub numbered_at : EachAt (λ r y. (y.queries.rank ≡ r) × (y.replies.rank ≡ r)) ys
-  numbered_at = each_from_gets (λ r (y : SeatedState S). (y.queries.rank ≡ r) × (y.replies.rank ≡ r)) ys (λ r y at. (came r y at).numbers)
+  numbered_at = each_from_gets (λ r (y : BiSeatedState S). (y.queries.rank ≡ r) × (y.replies.rank ≡ r)) ys (λ r y at. (came r y at).numbers)
 
   -- the lists of each were gathered
-  pub all_there : (seat : SeatedState S → Manning) (lists : _) → EachAt (λ r y. get_or lists r None ≡ Some (seat y).lists) ys → AllThere b.shape lists
+  pub all_there : (seat : BiSeatedState S → Manning) (lists : _) → EachAt (λ r y. get_or lists r None ≡ Some (seat y).lists) ys → AllThere b.shape lists
   all_there seat lists there r low =
-      let y : (y : SeatedState S) × (slice_get ys r ≡ Some y) = find ys r (omega (arith, low, as_many)) in
-      some_is (each_get (λ k (z : SeatedState S). get_or lists k None ≡ Some (seat z).lists) ys r y.0 there y.1)
+      let y : (y : BiSeatedState S) × (slice_get ys r ≡ Some y) = find ys r (omega (arith, low, as_many)) in
+      some_is (each_get (λ k (z : BiSeatedState S). get_or lists k None ≡ Some (seat z).lists) ys r y.0 there y.1)
 
   module _ (laws : TalkLaws T) (law : ClosesLaw) (over : All (λ y. is_over y.node ≡ true) ys) (lists_q lists_p : _)
       (there_q : EachAt (λ r y. get_or lists_q r None ≡ Some y.queries.lists) ys) (there_p : EachAt (λ r y. get_or lists_p r None ≡ Some y.replies.lists) ys)
@@ -114,10 +114,10 @@ module _ {S : Type 0} (T : Talk S) (cap : ℕ) (b p : Identity) (same : p.shape 
     sides = record { asking = logs_of q.sent; asked = logs_of q.got; replying = logs_of r.sent; replied = logs_of r.got }
 
     -- one rank, for numbers past the last
-    any : (y : SeatedState S) × (slice_get ys 0 ≡ Some y)
+    any : (y : BiSeatedState S) × (slice_get ys 0 ≡ Some y)
     any = find ys 0 (let positive = ranks_some dims in_order_q.grid.positive in omega (arith, as_many, positive))
 
-    abbrev nth : ℕ → SeatedState S
+    abbrev nth : ℕ → BiSeatedState S
     nth k = get_or ys k any.0
 
     nth_at : (k : ℕ) → k < ranks dims → slice_get ys k ≡ Some (nth k)
@@ -134,31 +134,31 @@ module _ {S : Type 0} (T : Talk S) (cap : ℕ) (b p : Identity) (same : p.shape 
     sent_q k low =
         let c = came k (nth k) (nth_at k low) in
         subst (λ n. starting_at dims n (logs_of q.sent) ≡ posted_on (nth k).queries) c.numbers.0
-        (left_q.sent (nth k).queries (subst (λ n. get_or lists_q n None ≡ Some (nth k).queries.lists) (sym c.numbers.0) (each_get (λ n (z : SeatedState S). get_or lists_q n None ≡ Some z.queries.lists) ys k (nth k) there_q (nth_at k low))))
+        (left_q.sent (nth k).queries (subst (λ n. get_or lists_q n None ≡ Some (nth k).queries.lists) (sym c.numbers.0) (each_get (λ n (z : BiSeatedState S). get_or lists_q n None ≡ Some z.queries.lists) ys k (nth k) there_q (nth_at k low))))
 
     got_q : (k : ℕ) → k < ranks dims → ending_at dims k (logs_of q.got) ≡ collected_from (nth k).queries
     got_q k low =
         let c = came k (nth k) (nth_at k low) in
         subst (λ n. ending_at dims n (logs_of q.got) ≡ collected_from (nth k).queries) c.numbers.0
-        (left_q.got (nth k).queries (subst (λ n. get_or lists_q n None ≡ Some (nth k).queries.lists) (sym c.numbers.0) (each_get (λ n (z : SeatedState S). get_or lists_q n None ≡ Some z.queries.lists) ys k (nth k) there_q (nth_at k low))))
+        (left_q.got (nth k).queries (subst (λ n. get_or lists_q n None ≡ Some (nth k).queries.lists) (sym c.numbers.0) (each_get (λ n (z : BiSeatedState S). get_or lists_q n None ≡ Some z.queries.lists) ys k (nth k) there_q (nth_at k low))))
 
     sent_r : (k : ℕ) → k < ranks dims → starting_at dims k (logs_of r.sent) ≡ posted_on (nth k).replies
     sent_r k low =
         let c = came k (nth k) (nth_at k low) in
         subst (λ n. starting_at dims n (logs_of r.sent) ≡ posted_on (nth k).replies) c.numbers.1
-        (left_r.sent (nth k).replies (subst (λ n. get_or lists_p n None ≡ Some (nth k).replies.lists) (sym c.numbers.1) (each_get (λ n (z : SeatedState S). get_or lists_p n None ≡ Some z.replies.lists) ys k (nth k) there_p (nth_at k low))))
+        (left_r.sent (nth k).replies (subst (λ n. get_or lists_p n None ≡ Some (nth k).replies.lists) (sym c.numbers.1) (each_get (λ n (z : BiSeatedState S). get_or lists_p n None ≡ Some z.replies.lists) ys k (nth k) there_p (nth_at k low))))
 
     got_r : (k : ℕ) → k < ranks dims → ending_at dims k (logs_of r.got) ≡ collected_from (nth k).replies
     got_r k low =
         let c = came k (nth k) (nth_at k low) in
         subst (λ n. ending_at dims n (logs_of r.got) ≡ collected_from (nth k).replies) c.numbers.1
-        (left_r.got (nth k).replies (subst (λ n. get_or lists_p n None ≡ Some (nth k).replies.lists) (sym c.numbers.1) (each_get (λ n (z : SeatedState S). get_or lists_p n None ≡ Some z.replies.lists) ys k (nth k) there_p (nth_at k low))))
+        (left_r.got (nth k).replies (subst (λ n. get_or lists_p n None ≡ Some (nth k).replies.lists) (sym c.numbers.1) (each_get (λ n (z : BiSeatedState S). get_or lists_p n None ≡ Some z.replies.lists) ys k (nth k) there_p (nth_at k low))))
 
-    has_rank : (k : ℕ) → k < ranks dims → HasRank T dims k (starts_of askers first k) (nth k).node sides
+    has_rank : (k : ℕ) → k < ranks dims → HasBiRank T dims k (starts_of askers first k) (nth k).node sides
     has_rank k low =
-        let y : SeatedState S = nth k in
+        let y : BiSeatedState S = nth k in
         let c = came k y (nth_at k low) in
-        let w : IsOnWay T cap steady c.start y = c.way in
+        let w : IsOnBiWay T cap steady c.start y = c.way in
         let mine : starts_of askers first k ≡ c.start = get_or_from_slice_get askers k c.start first c.began in
         record {
           same_dims = w.queries.same_dims ∙ ap (λ (a : Identity). a.shape.dims) c.queries_bank;
@@ -172,7 +172,7 @@ module _ {S : Type 0} (T : Talk S) (cap : ℕ) (b p : Identity) (same : p.shape 
         }
 
     -- they are the ranks of an exchange over the closed rounds' logs
-    every : AllRanks T dims cap b.shape.slots (starts_of askers first) (λ k. (nth k).node) sides
+    every : AllBiRanks T dims cap b.shape.slots (starts_of askers first) (λ k. (nth k).node) sides
     every =
         record {
           grid = in_order_q.grid;
@@ -182,21 +182,21 @@ module _ {S : Type 0} (T : Talk S) (cap : ℕ) (b p : Identity) (same : p.shape 
         }
 
     node_at : (k : ℕ) → k < ranks dims → slice_get nodes k ≡ Some (nth k).node
-    node_at k low = get_map (λ (y : SeatedState S). y.node) ys k (nth k) (nth_at k low)
+    node_at k low = get_map (λ (y : BiSeatedState S). y.node) ys k (nth k) (nth_at k low)
 
     over_at : (k : ℕ) (n : BiState S) → slice_get nodes k ≡ Some n → is_over n ≡ true
     over_at k n at =
-        let y = got_map (λ (z : SeatedState S). z.node) ys k n at in
-        subst (λ m. is_over m ≡ true) y.2 (all_get (λ (z : SeatedState S). is_over z.node ≡ true) ys k y.0 over y.1)
+        let y = got_map (λ (z : BiSeatedState S). z.node) ys k n at in
+        subst (λ m. is_over m ≡ true) y.2 (all_get (λ (z : BiSeatedState S). is_over z.node ≡ true) ys k y.0 over y.1)
 
     count : length nodes ≡ ranks dims
-    count = length-map ys (λ (y : SeatedState S). y.node) ∙ as_many
+    count = length-map ys (λ (y : BiSeatedState S). y.node) ∙ as_many
 
     -- each has heard what it asked
     pub have_heard : (ends : List S) → ends ≡ askers_of nodes → HaveHeard T askers ends
     have_heard ends is = heard_all T laws law cap dims b.shape.slots steady askers first nodes (λ k. (nth k).node) sides all count node_at every over_at ends is
 
-    shape_of : (seat : SeatedState S → Manning) (a : Logs) → ((k : ℕ) → k < ranks dims → starting_at dims k a ≡ posted_on (seat (nth k))) → ((k : ℕ) → k < ranks dims → (l : ℕ) → IsConveyorShape steady cap (posted_on (seat (nth k)) l)) → (l : ℕ) → l < links dims → IsConveyorShape steady cap (a l)
+    shape_of : (seat : BiSeatedState S → Manning) (a : Logs) → ((k : ℕ) → k < ranks dims → starting_at dims k a ≡ posted_on (seat (nth k))) → ((k : ℕ) → k < ranks dims → (l : ℕ) → IsConveyorShape steady cap (posted_on (seat (nth k)) l)) → (l : ℕ) → l < links dims → IsConveyorShape steady cap (a l)
     shape_of seat a sent shape l below =
         let k : ℕ = sender_at dims l in
         let low : k < ranks dims = (numbered dims l in_order_q.grid below).is_link.sender in

@@ -4,11 +4,11 @@ use Rattle.bale_items.specs.declared.item.Item.{Item}
 use Rattle.route_tensor.specs.Grid.{ranks}
 use Rattle.route_tensor.specs.Link.{links}
 use Rattle.port_bank.specs.Logs.{lasts, EndsLast}
-use Rattle.port_bank.specs.Round.{Round, logs_of, pushed, pulled}
+use Rattle.port_bank.specs.Round.{Round, logs_of, pushed_items, pulled_items}
 use Rattle.port_bank.specs.Shapes.{IsConveyorShape}
 use Rattle.hop_core.specs.declared.phase.Phase.TheVariants.{Working}
 use Rattle.convey.specs.Buffers.{in_of}
-use Rattle.rank_group.specs.Told.{Made}
+use Rattle.rank_group.specs.Transcript.{Made}
 use Rattle.round_program.specs.Talks.{Talk}
 use Rattle.round_program.specs.Replies.{queries_to, answers}
 use Rattle.query_node.specs.States.{BiState, IsBiNode}
@@ -48,8 +48,8 @@ pub record TellsWay (made : Made) (steady : Bool) (items : ℕ → ℕ → List 
   pub ended : (l : ℕ) → l < links round.dims → lasts (logs_of round.sent l) ≡ 1
   pub by_last : (l : ℕ) → l < links round.dims → EndsLast (logs_of round.sent l)
   pub collected : (l : ℕ) → l < links round.dims → logs_of round.got l ≡ logs_of round.sent l
-  pub pushed_all : (s d : ℕ) → s < ranks round.dims → d < ranks round.dims → pushed round 0 s d ≡ items s d
-  pub all_came : (e s d : ℕ) → s < ranks round.dims → d < ranks round.dims → pulled round e d s ≡ pushed round e s d
+  pub pushed_all : (s d : ℕ) → s < ranks round.dims → d < ranks round.dims → pushed_items round 0 s d ≡ items s d
+  pub all_came : (e s d : ℕ) → s < ranks round.dims → d < ranks round.dims → pulled_items round e d s ≡ pushed_items round e s d
   pub shape : (l : ℕ) → l < links round.dims → IsConveyorShape steady round.cap (logs_of round.sent l)
 
 -- Two closed rounds tell both ways.
@@ -60,7 +60,7 @@ pub record TellsExchange {S : Type 0} (T : Talk S) (askers : List S) (made : Mad
 
 -- A rank that hasn't turned, and may push: on its ports nothing was sent or got, and nothing is
 -- unread.
-pub record IsFresh {S : Type 0} (T : Talk S) (dims : List ℕ) (steady : Bool) (r : ℕ) (n : BiState S) : Type 0 where
+pub record IsFreshBiRank {S : Type 0} (T : Talk S) (dims : List ℕ) (steady : Bool) (r : ℕ) (n : BiState S) : Type 0 where
   pub same_dims : n.queries.dims ≡ dims
   pub same_rank : n.queries.rank ≡ r
   pub same_steady : (n.queries.steady ≡ steady) × (n.replies.steady ≡ steady)
@@ -72,7 +72,7 @@ pub record IsFresh {S : Type 0} (T : Talk S) (dims : List ℕ) (steady : Bool) (
 abbrev pub askers_of : {S : Type 0} → List (BiState S) → List S
 askers_of ns = map (λ n. n.asker) ns
 
-pub record AreFresh {S : Type 0} (T : Talk S) (dims : List ℕ) (steady : Bool) (askers : List S)
+pub record AreFreshBiRanks {S : Type 0} (T : Talk S) (dims : List ℕ) (steady : Bool) (askers : List S)
     (ns : List (BiState S)) : Type 0 where
   pub same : askers_of ns ≡ askers
-  pub each : (r : ℕ) (n : BiState S) → slice_get ns r ≡ Some n → IsFresh T dims steady r n
+  pub each : (r : ℕ) (n : BiState S) → slice_get ns r ≡ Some n → IsFreshBiRank T dims steady r n

@@ -1,7 +1,7 @@
 pub mod Ways
-pub mod Worlds
+pub mod RanksOverBanks
 pub mod Drives
 pub mod Turns
-pub mod Driven
+pub mod DrivePromises
 pub mod Seats
 pub mod laws

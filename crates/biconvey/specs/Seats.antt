@@ -1,15 +1,15 @@
 -- Ranks that sit at two slot banks, one of queries and one of replies.
 use Rattle.std.specs.Prelude.{◌≡◌, ℕ, ◌<◌, ◌≤◌, Bool, true, List, slice_get, Some}
 use Rattle.port_bank.specs.Shapes.{IsConveyorShape}
-use Rattle.link_slots.specs.Seen.{Identity, Manning, posted_on, collected_from}
+use Rattle.link_slots.specs.SeatView.{Identity, Manning, posted_on, collected_from}
 use Rattle.round_program.specs.Talks.{Talk}
-use Rattle.rank_group.specs.Noted.{HasSame}
+use Rattle.rank_group.specs.TurnNotes.{HasSame}
 use Rattle.query_node.specs.States.{BiState, IsBiNode}
-use Rattle.biconvey.specs.Worlds.{is_over}
+use Rattle.biconvey.specs.RanksOverBanks.{is_over}
 
 -- A rank, its seat at the bank of queries and its seat at that of replies, and how many turns it
 -- made.
-pub record SeatedState (S : Type 0) : Type 0 where
+pub record BiSeatedState (S : Type 0) : Type 0 where
   pub node : BiState S
   pub queries : Manning
   pub replies : Manning
@@ -27,7 +27,7 @@ pub record IsSeatOf (rank : ℕ) (dims : List ℕ) (seat : Manning) : Type 0 whe
 -- By its seats' lists it is a rank of an exchange, which began in the state `start`; its parcels
 -- are filled as conveyors fill them.
 -- some: where both its ways are complete it was turned.
-pub record IsOnWay {S : Type 0} (T : Talk S) (cap : ℕ) (steady : Bool) (start : S) (x : SeatedState S) : Type 0 where
+pub record IsOnBiWay {S : Type 0} (T : Talk S) (cap : ℕ) (steady : Bool) (start : S) (x : BiSeatedState S) : Type 0 where
   pub queries : IsSeatOf x.node.queries.rank x.node.queries.dims x.queries
   pub replies : IsSeatOf x.node.replies.rank x.node.replies.dims x.replies
   pub same_steady : (x.node.queries.steady ≡ steady) × (x.node.replies.steady ≡ steady)
@@ -38,10 +38,10 @@ pub record IsOnWay {S : Type 0} (T : Talk S) (cap : ℕ) (steady : Bool) (start 
   pub some : is_over x.node ≡ true → 0 < x.turns
 
 -- The same, of some exchange.
-pub record HasWay {S : Type 0} (T : Talk S) (cap : ℕ) (x : SeatedState S) : Type 0 where
+pub record HasBiWay {S : Type 0} (T : Talk S) (cap : ℕ) (x : BiSeatedState S) : Type 0 where
   pub steady : Bool
   pub start : S
-  pub way : IsOnWay T cap steady start x
+  pub way : IsOnBiWay T cap steady start x
 
 -- A seat of the same rank at the same bank.
 pub record SameSeat (old new : Manning) : Type 0 where
@@ -51,30 +51,30 @@ pub record SameSeat (old new : Manning) : Type 0 where
 -- Turns took a rank from x to y: it sits where it sat, and is still on the way of its exchange.
 -- heard: `told` holds of each of them, by the rank's number and its own, counted from 0 over the
 -- whole exchange.
-pub record Ran {S : Type 0} (T : Talk S) (cap : ℕ) (told : ℕ → ℕ → Bool) (x y : SeatedState S) : Type 0 where
+pub record BiRan {S : Type 0} (T : Talk S) (cap : ℕ) (told : ℕ → ℕ → Bool) (x y : BiSeatedState S) : Type 0 where
   pub queries : SameSeat x.queries y.queries
   pub replies : SameSeat x.replies y.replies
   pub more : x.turns ≤ y.turns
   pub heard : (n : ℕ) → x.turns ≤ n → n < y.turns → told x.queries.rank n ≡ true
-  pub kept : (steady : Bool) (start : S) → IsOnWay T cap steady start x → IsOnWay T cap steady start y
+  pub kept : (steady : Bool) (start : S) → IsOnBiWay T cap steady start x → IsOnBiWay T cap steady start y
 
 -- A rank that hasn't turned sits at the banks q and p with the number r.
-pub record IsSeated {S : Type 0} (T : Talk S) (cap : ℕ) (steady : Bool) (q p : Identity) (r : ℕ)
-    (x : SeatedState S) : Type 0 where
+pub record IsSeatedBiRank {S : Type 0} (T : Talk S) (cap : ℕ) (steady : Bool) (q p : Identity) (r : ℕ)
+    (x : BiSeatedState S) : Type 0 where
   pub queries_bank : bank_at x.queries ≡ q
   pub replies_bank : bank_at x.replies ≡ p
   pub numbers : (x.queries.rank ≡ r) × (x.replies.rank ≡ r)
   pub none : x.turns ≡ 0
-  pub way : IsOnWay T cap steady x.node.asker x
+  pub way : IsOnBiWay T cap steady x.node.asker x
 
 -- Ranks that haven't turned sit at these banks in order.
-abbrev pub AreSeated : {S : Type 0} → Talk S → ℕ → Bool → Identity → Identity → List (SeatedState S) → Type 0
-AreSeated {S} T cap steady q p xs = (r : ℕ) (x : SeatedState S) → slice_get xs r ≡ Some x
-    → IsSeated T cap steady q p r x
+abbrev pub AreSeatedBiRanks : {S : Type 0} → Talk S → ℕ → Bool → Identity → Identity → List (BiSeatedState S) → Type 0
+AreSeatedBiRanks {S} T cap steady q p xs = (r : ℕ) (x : BiSeatedState S) → slice_get xs r ≡ Some x
+    → IsSeatedBiRank T cap steady q p r x
 
 -- Turns from x to y made no progress: no parcel of queries or of replies was posted or collected,
 -- no query was pushed, and the ways were not completed.
-pub record AskerMadeNone {S : Type 0} (x y : SeatedState S) : Type 0 where
+pub record AskerMadeNone {S : Type 0} (x y : BiSeatedState S) : Type 0 where
   pub queries : HasSame x.queries y.queries
   pub replies : HasSame x.replies y.replies
   pub asked : y.node.next ≡ x.node.next

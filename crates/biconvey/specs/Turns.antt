@@ -4,8 +4,8 @@ use Rattle.port_bank.specs.Plain.{empty_bank}
 use Rattle.rank_group.specs.Turns.{InSweeps}
 use Rattle.round_program.specs.Talks.{Talk}
 use Rattle.query_node.specs.States.{BiState, Sides}
-use Rattle.biconvey.specs.Drives.{AreFresh, askers_of}
-use Rattle.biconvey.specs.Worlds.{AfterRank, sides_of}
+use Rattle.biconvey.specs.Drives.{AreFreshBiRanks, askers_of}
+use Rattle.biconvey.specs.RanksOverBanks.{AfterBiRank, sides_of}
 
 -- All ranks, the logs of all links of both banks and the number of turns made so far, at one
 -- moment.
@@ -19,7 +19,7 @@ pub record IsAskingTurn {S : Type 0} (T : Talk S) (dims : List ℕ) (cap slots r
   pub all : length b.ranks ≡ length a.ranks
   pub others : (k : ℕ) → k ≢ r → slice_get b.ranks k ≡ slice_get a.ranks k
   pub turned : (n n' : BiState S) → slice_get a.ranks r ≡ Some n → slice_get b.ranks r ≡ Some n'
-      → AfterRank T dims cap slots r n n' a.sides b.sides
+      → AfterBiRank T dims cap slots r n n' a.sides b.sides
   pub counted : b.turns ≡ a.turns + 1
 
 -- An exchange of the askers `starts`, over two plain banks with so many slots, made sweeps in one
@@ -30,7 +30,7 @@ pub record AskedInSweeps {S : Type 0} (T : Talk S) (dims : List ℕ) (cap slots 
   pub sweeps : ℕ
   pub first : List (BiState S)
   pub last : AskingScene S
-  pub fresh : AreFresh T dims steady starts first
+  pub fresh : AreFreshBiRanks T dims steady starts first
   pub ended : askers_of last.ranks ≡ ends
   pub counted : last.turns ≡ after
   pub swept : InSweeps (IsAskingTurn T dims cap slots) order sweeps

@@ -4,7 +4,7 @@ use Rattle.std.specs.Prelude.{slice_get}
 use Rattle.std.specs.List.{flat_map}
 use Rattle.bale_items.specs.declared.item.Entry.{Entry}
 use Rattle.item_buffer.specs.Contents.{Shipped}
-use Rattle.list_laws.specs.Lists.{Begins}
+use Rattle.list_laws.specs.Lists.{IsPrefix}
 use Rattle.list_laws.specs.Sums.{total}
 use Rattle.route_tensor.specs.Grid.{ranks, IsGrid}
 use Rattle.route_tensor.specs.Link.{links}
@@ -19,8 +19,8 @@ use Rattle.hop_core.specs.State.{State}
 use Rattle.convey.specs.Buffers.{in_of}
 
 -- The entries of some parcels.
-abbrev pub entries_of : List Shipped → List Entry
-entries_of log = flat_map (λ p. p.entries) log
+abbrev pub bi_parcel_entries : List Shipped → List Entry
+bi_parcel_entries log = flat_map (λ p. p.entries) log
 
 -- Of a rank that there is, its conveyor.
 abbrev pub conveyor_in : Option State → State
@@ -41,37 +41,37 @@ conveyor_in None =
 conveyor_in (Some c) = c
 
 -- How many entries lie in the inbox of a link.
-abbrev pub inbox : List ℕ → List State → ℕ → ℕ
-inbox dims cs l = length (in_of (conveyor_in (slice_get cs (reader_at dims l))) l).parcel.untaken
+abbrev pub bi_inbox : List ℕ → List State → ℕ → ℕ
+bi_inbox dims cs l = length (in_of (conveyor_in (slice_get cs (reader_at dims l))) l).parcel.untaken
 
 -- What moved so far: parcels were posted and collected, and entries taken from inboxes.
-abbrev pub move_of : List ℕ → List State → Logs → Logs → ℕ → ℕ
-move_of dims cs sent got l = length (sent l) + length (got l) + (length (entries_of (got l)) - inbox dims cs l)
+abbrev pub bi_move_of : List ℕ → List State → Logs → Logs → ℕ → ℕ
+bi_move_of dims cs sent got l = length (sent l) + length (got l) + (length (bi_parcel_entries (got l)) - bi_inbox dims cs l)
 
-abbrev pub moves : List ℕ → List State → Logs → Logs → ℕ
-moves dims cs sent got = total (links dims) (move_of dims cs sent got)
+abbrev pub bi_moves : List ℕ → List State → Logs → Logs → ℕ
+bi_moves dims cs sent got = total (links dims) (bi_move_of dims cs sent got)
 
 -- The bank's lists.
-pub record Lawful (dims : List ℕ) (cap slots : ℕ) (sent got : Logs) : Type 0 where
+pub record BiBankLawful (dims : List ℕ) (cap slots : ℕ) (sent got : Logs) : Type 0 where
   pub grid : IsGrid dims
   pub links_keep : (l : ℕ) → l < links dims → LinkLaw cap slots (sent l) (got l)
   pub none_past : (l : ℕ) → links dims ≤ l → (sent l ≡ []) × (got l ≡ [])
   pub relays : (r : ℕ) → r < ranks dims → RelayLaw dims r sent got
 
 -- All conveyors over it.
-pub record IsWay (dims : List ℕ) (cap slots : ℕ) (steady : Bool) (cs : List State) (sent got : Logs) : Type 0 where
-  pub lawful : Lawful dims cap slots sent got
+pub record AreConveyorsOver (dims : List ℕ) (cap slots : ℕ) (steady : Bool) (cs : List State) (sent got : Logs) : Type 0 where
+  pub lawful : BiBankLawful dims cap slots sent got
   pub all : length cs ≡ ranks dims
   pub steadies : (r : ℕ) (c : State) → slice_get cs r ≡ Some c → c.steady ≡ steady
   pub shape : (l : ℕ) → IsConveyorShape steady cap (sent l)
-  pub inboxes : (l : ℕ) → l < links dims → inbox dims cs l ≤ length (entries_of (got l))
+  pub inboxes : (l : ℕ) → l < links dims → bi_inbox dims cs l ≤ length (bi_parcel_entries (got l))
 
 -- What the turn of rank r leaves of its conveyor.
-pub record AfterTurn (dims : List ℕ) (cap r : ℕ) (c c' : State) (sent got sent' got' : Logs) : Type 0 where
+pub record AfterBiAdvance (dims : List ℕ) (cap r : ℕ) (c c' : State) (sent got sent' got' : Logs) : Type 0 where
   pub sent_elsewhere : starting_elsewhere dims r sent' ≡ starting_elsewhere dims r sent
   pub got_elsewhere : ending_elsewhere dims r got' ≡ ending_elsewhere dims r got
-  pub sent_grows : (l : ℕ) → Begins (starting_at dims r sent l) (starting_at dims r sent' l)
-  pub got_grows : (l : ℕ) → Begins (ending_at dims r got l) (ending_at dims r got' l)
+  pub sent_grows : (l : ℕ) → IsPrefix (starting_at dims r sent l) (starting_at dims r sent' l)
+  pub got_grows : (l : ℕ) → IsPrefix (ending_at dims r got l) (ending_at dims r got' l)
   pub once : (l : ℕ) → l < links dims → sender_at dims l ≡ r
       → length (starting_at dims r sent' l) ≤ length (starting_at dims r sent l) + 1
   pub steady : c'.steady ≡ c.steady

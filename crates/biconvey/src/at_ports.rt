@@ -24,9 +24,9 @@ pub struct AtPorts<'a, A: Asker, const CAP: usize, const HOPS: usize> {
 }
 
 impl<'a, A: Asker, const CAP: usize, const HOPS: usize> Model for AtPorts<'a, A, CAP, HOPS> {
-    ghost use Rattle.biconvey.specs.Seats.{SeatedState, HasWay};
+    ghost use Rattle.biconvey.specs.Seats.{BiSeatedState, HasBiWay};
 
-    ghost Value = { SeatedState A };
+    ghost Value = { BiSeatedState A };
 
     ghost view = { λ s. record {
       node = s.node;
@@ -35,16 +35,16 @@ impl<'a, A: Asker, const CAP: usize, const HOPS: usize> Model for AtPorts<'a, A,
       turns = s.turns;
     } };
 
-    ghost invariant = { λ s. HasWay A.talk CAP
+    ghost invariant = { λ s. HasBiWay A.talk CAP
         (record { node = s.node; queries = s.queries.port.seat; replies = s.replies.port.seat; turns = s.turns }) };
 }
 
 impl<'a, A: Asker, const CAP: usize, const HOPS: usize> Seated for AtPorts<'a, A, CAP, HOPS> {
-    ghost use Rattle.biconvey.specs.Seats.{Ran, AskerMadeNone};
-    ghost use Rattle.biconvey.specs.laws.SeatLaws.{ran_laws, asker_none_laws};
-    ghost use Rattle.biconvey.specs.Worlds.{is_over};
+    ghost use Rattle.biconvey.specs.Seats.{BiRan, AskerMadeNone};
+    ghost use Rattle.biconvey.specs.laws.SeatLaws.{bi_ran_laws, asker_none_laws};
+    ghost use Rattle.biconvey.specs.RanksOverBanks.{is_over};
 
-    ghost ran = { λ told x y. Ran A.talk CAP told x y };
+    ghost ran = { λ told x y. BiRan A.talk CAP told x y };
 
     ghost number = { λ x. x.queries.rank };
 
@@ -54,7 +54,7 @@ impl<'a, A: Asker, const CAP: usize, const HOPS: usize> Seated for AtPorts<'a, A
 
     ghost still = { λ x y. AskerMadeNone x y };
 
-    ghost laws = { λ told. ran_laws A.talk CAP told };
+    ghost laws = { λ told. bi_ran_laws A.talk CAP told };
 
     ghost still_laws = { asker_none_laws };
 

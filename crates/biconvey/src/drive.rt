@@ -5,14 +5,14 @@ ghost use Rattle.item_buffer.specs.Capacity.{IsCap};
 ghost use Rattle.std.specs.List.{sum_by};
 ghost use Rattle.route_tensor.specs.Grid.{ranks};
 ghost use Rattle.port_bank.specs.Port.{IsSlots};
-ghost use Rattle.port_bank.specs.Plain.{IsBank, empty_bank, closed};
+ghost use Rattle.port_bank.specs.Plain.{IsBank, empty_bank, round_of_bank};
 ghost use Rattle.port_bank.specs.Round.{IsRound};
 ghost use Rattle.rank_group.specs.declared.closed_round.ClosedRound.{ClosedRound};
 ghost use Rattle.rank_group.specs.Ranks.{IsOrder};
-ghost use Rattle.rank_group.specs.Rounds.{round_of};
-ghost use Rattle.biconvey.specs.Worlds.{turns_of};
+ghost use Rattle.rank_group.specs.Rounds.{round_inside};
+ghost use Rattle.biconvey.specs.RanksOverBanks.{bi_turns_of};
 ghost use Rattle.biconvey.specs.Drives.{AreAskers, askers_of};
-ghost use Rattle.biconvey.specs.Driven.{HasExchanged, HasSweptBoth};
+ghost use Rattle.biconvey.specs.DrivePromises.{HasExchanged, HasSweptBoth};
 ghost use Rattle.rank_node.specs.Fits.{FitsGrid};
 
 use crate::nodes::{nodes_of, take_askers};
@@ -55,7 +55,7 @@ pub fn drive_both<const CAP: usize, const HOPS: usize, A: Asker, L: Ledger>(
         order.now steps.old steps.new) }
 
     // The turns are bounded before the exchange, also where it ends in `NoMemory`.
-    ensures steps { steps.new ≤ steps.old + turns_of grid.now (sum_by (λ s. length (A.talk.queries s)) askers) }
+    ensures steps { steps.new ≤ steps.old + bi_turns_of grid.now (sum_by (λ s. length (A.talk.queries s)) askers) }
 {
     closes_law();
     let mut all = nodes_of::<CAP, HOPS, A>(alloc, grid, steady, askers)?;
@@ -89,8 +89,8 @@ fn finish<const CAP: usize, const HOPS: usize, A: Asker>(
 ) -> Result<Finished<A>, NoMemory>
     ensures progs { IfOk result (λ f. f.progs ≡ askers_of all.items) }
     ensures rounds { IfOk result (λ f. (q : ClosedRound) × (r : ClosedRound) × (f.rounds ≡ q ∷ r ∷ [])
-        × (round_of q ≡ closed CAP banks.entry.queries) × IsRound (round_of q)
-        × (round_of r ≡ closed CAP banks.entry.replies) × IsRound (round_of r)) }
+        × (round_inside q ≡ round_of_bank CAP banks.entry.queries) × IsRound (round_inside q)
+        × (round_inside r ≡ round_of_bank CAP banks.entry.replies) × IsRound (round_inside r)) }
 {
     let Banks { queries, replies } = banks;
     let mut rounds = Rounds::new(alloc);

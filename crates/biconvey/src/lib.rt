@@ -8,7 +8,7 @@
 //! | `bi_threads` | the same on threads |
 //! | `drive_both`, `thread_both`, `thread_with` | these, for a capacity and a number of hops that are known when the program is compiled |
 //!
-//! `specs/Drives` says what the two closed rounds tell, and `specs/Worlds` bounds the turns
+//! `specs/Drives` says what the two closed rounds tell, and `specs/RanksOverBanks` bounds the turns
 //! (`turns_of`).
 #![tactic(auto)]
 

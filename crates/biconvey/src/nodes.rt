@@ -2,7 +2,7 @@
 
 ghost use Rattle.std.specs.Prelude.{◌≡◌, ◌<◌, IfOk};
 ghost use Rattle.route_tensor.specs.Grid.{ranks};
-ghost use Rattle.biconvey.specs.Drives.{AreAskers, AreFresh, askers_of};
+ghost use Rattle.biconvey.specs.Drives.{AreAskers, AreFreshBiRanks, askers_of};
 ghost use Rattle.rank_node.specs.Fits.{FitsGrid};
 
 use bale_items::NoMemory;
@@ -21,10 +21,12 @@ pub(crate) fn nodes_of<const CAP: usize, const HOPS: usize, A: Asker>(
 ) -> Result<Vec<BiNode<A, CAP, HOPS>>, NoMemory>
     requires fits { FitsGrid CAP HOPS grid.now }
     requires askers { AreAskers A.talk (ranks grid.now) askers }
-    ensures { IfOk result (λ all. AreFresh A.talk grid.now steady askers all.items) }
+    ensures { IfOk result (λ all. AreFreshBiRanks A.talk grid.now steady askers all.items) }
 {
     let mut askers = askers;
-    let mut all = Vec::with_capacity(alloc, askers.len())?;
+    let Ok(mut all) = Vec::with_capacity(alloc, askers.len()) else {
+        return Err(NoMemory);
+    };
     while let Some(asker) = askers.take_first() {
         let node = BiNode::new(alloc, grid, asker, steady)?;
         all.push_reserved(node);
@@ -40,7 +42,10 @@ pub(crate) fn take_askers<const CAP: usize, const HOPS: usize, A: Asker>(
     ensures { IfOk result (λ askers. askers ≡ askers_of all.items) }
 {
     let mut askers = Progs::new(alloc);
-    for node in one_by_one(alloc, all)? {
+    let Ok(all) = one_by_one(alloc, all) else {
+        return Err(NoMemory);
+    };
+    for node in all {
         askers.add(node.into_asker())?;
     }
     Ok(askers)

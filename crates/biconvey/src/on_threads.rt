@@ -4,7 +4,7 @@ ghost use Rattle.std.specs.Prelude.{◌≡◌, ℕ, ◌<◌, true, IfOk, OnOk};
 ghost use Rattle.route_tensor.specs.Grid.{ranks};
 ghost use Rattle.port_bank.specs.Port.{IsSlots};
 ghost use Rattle.biconvey.specs.Drives.{AreAskers};
-ghost use Rattle.biconvey.specs.Driven.{HasExchanged};
+ghost use Rattle.biconvey.specs.DrivePromises.{HasExchanged};
 ghost use Rattle.rank_node.specs.Fits.{FitsGrid};
 
 use crate::nodes::{nodes_of, take_askers};

@@ -7,7 +7,7 @@ ghost use Rattle.rank_group.specs.Ranks.{IsOrder};
 ghost use Rattle.rank_group.specs.Turns.{InSweeps};
 ghost use Rattle.query_node.specs.States.{BiState};
 ghost use Rattle.biconvey.specs.Turns.{IsAskingTurn};
-ghost use Rattle.biconvey.specs.Worlds.{AreBanks, PostedWithin, World, is_over, queries_in, sides_of, turns_of};
+ghost use Rattle.biconvey.specs.RanksOverBanks.{AreBanks, PostedWithin, BiWorld, is_over, queries_in, sides_of, bi_turns_of};
 
 use crate::sweeping::{Banks, sweep};
 use bale_items::{NoMemory, Steps};
@@ -26,7 +26,7 @@ pub(crate) fn run_all<const CAP: usize, const HOPS: usize, A: Asker, L: Ledger>(
     requires order { IsOrder (ranks banks.queries.dims) order.now }
     requires banks { AreBanks CAP banks.queries.dims banks.queries.slots banks.queries banks.replies }
     requires world { (steady : Bool) × (starts : ℕ → A)
-        × World A.talk banks.queries.dims CAP banks.queries.slots steady starts all.old.items
+        × BiWorld A.talk banks.queries.dims CAP banks.queries.slots steady starts all.old.items
         (sides_of banks.queries banks.replies) }
     ensures banks { IfOk result (λ b. AreBanks CAP banks.entry.queries.dims banks.entry.queries.slots b.queries
         b.replies) }
@@ -37,9 +37,9 @@ pub(crate) fn run_all<const CAP: usize, const HOPS: usize, A: Asker, L: Ledger>(
         (record { ranks = all.new.items; sides = sides_of b.queries b.replies; turns = steps.new })) }
     ensures over { OnOk result ((r : ℕ) (n : BiState A) → slice_get all.new.items r ≡ Some n → is_over n ≡ true) }
     ensures world { (steady : Bool) (starts : ℕ → A)
-        → World A.talk banks.entry.queries.dims CAP banks.entry.queries.slots steady starts all.old.items
+        → BiWorld A.talk banks.entry.queries.dims CAP banks.entry.queries.slots steady starts all.old.items
         (sides_of banks.entry.queries banks.entry.replies)
-        → IfOk result (λ b. World A.talk banks.entry.queries.dims CAP banks.entry.queries.slots steady starts
+        → IfOk result (λ b. BiWorld A.talk banks.entry.queries.dims CAP banks.entry.queries.slots steady starts
         all.new.items (sides_of b.queries b.replies)) }
     // Each rank made a turn at least.
     ensures fewest { list_all is_over all.old.items ≡ false
@@ -48,9 +48,9 @@ pub(crate) fn run_all<const CAP: usize, const HOPS: usize, A: Asker, L: Ledger>(
     ensures posted { IfOk result (λ b. PostedWithin banks.entry.queries.dims
         (sides_of banks.entry.queries banks.entry.replies) steps.old (sides_of b.queries b.replies) steps.new) }
     ensures steps { (steady : Bool) (starts : ℕ → A)
-        → World A.talk banks.entry.queries.dims CAP banks.entry.queries.slots steady starts all.old.items
+        → BiWorld A.talk banks.entry.queries.dims CAP banks.entry.queries.slots steady starts all.old.items
         (sides_of banks.entry.queries banks.entry.replies)
-        → steps.new ≤ steps.old + turns_of banks.entry.queries.dims (queries_in A.talk all.old.items) }
+        → steps.new ≤ steps.old + bi_turns_of banks.entry.queries.dims (queries_in A.talk all.old.items) }
 {
     closes_law();
     rest_law();

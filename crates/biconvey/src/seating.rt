@@ -5,8 +5,8 @@ ghost use Rattle.std.specs.Prelude.{◌≡◌, ◌<◌, ◌^◌, Bool, false, Li
 ghost use Rattle.std.specs.List.{All};
 ghost use Rattle.list_laws.specs.Lists.{EachAt};
 ghost use Rattle.route_tensor.specs.Grid.{ranks};
-ghost use Rattle.biconvey.specs.Drives.{AreFresh};
-ghost use Rattle.biconvey.specs.Seats.{bank_at, AreSeated};
+ghost use Rattle.biconvey.specs.Drives.{AreFreshBiRanks};
+ghost use Rattle.biconvey.specs.Seats.{bank_at, AreSeatedBiRanks};
 
 use crate::at_ports::AtPorts;
 use bale_items::NoMemory;
@@ -33,16 +33,22 @@ pub(crate) fn seat_all<'a, const CAP: usize, const HOPS: usize, A: Asker>(
     requires size { length all.items ≡ ranks queries.now.shape.dims }
     requires few { ranks queries.now.shape.dims < 2 ^ 32 }
     requires fresh { (steady : Bool) × (askers : List A)
-        × AreFresh A.talk queries.now.shape.dims steady askers all.items }
+        × AreFreshBiRanks A.talk queries.now.shape.dims steady askers all.items }
     ensures queries { (of_queries.new.id ≡ queries.now.id) × (of_queries.new.shape ≡ queries.now.shape) }
     ensures replies { (of_replies.new.id ≡ replies.now.id) × (of_replies.new.shape ≡ replies.now.shape) }
     ensures nodes { IfOk result (λ xs. map (λ x. x.node) xs.items ≡ all.items) }
-    ensures seated { (steady : Bool) (askers : List A) → AreFresh A.talk queries.now.shape.dims steady askers all.items
-        → IfOk result (λ xs. AreSeated A.talk CAP steady queries.now replies.now xs.items) }
+    ensures seated { (steady : Bool) (askers : List A) → AreFreshBiRanks A.talk queries.now.shape.dims steady askers
+        all.items
+        → IfOk result (λ xs. AreSeatedBiRanks A.talk CAP steady queries.now replies.now xs.items) }
 {
-    let mut seated = Vec::with_capacity(alloc, all.len())?;
+    let Ok(mut seated) = Vec::with_capacity(alloc, all.len()) else {
+        return Err(NoMemory);
+    };
     let mut number = 0;
-    for node in one_by_one(alloc, all)? {
+    let Ok(all) = one_by_one(alloc, all) else {
+        return Err(NoMemory);
+    };
+    for node in all {
         let asking = queries.seat(of_queries, number);
         let replying = replies.seat(of_replies, number);
         let asking = NotingPort::new(queries.port(asking));
@@ -84,8 +90,13 @@ pub(crate) fn gather_all<'a, const CAP: usize, const HOPS: usize, A: Asker>(
     ensures replies_there { OnOk result
         (EachAt (λ r y. slice_index_or of_replies.new.lists r None ≡ Some y.replies.lists) ended.entry.items) }
 {
-    let mut nodes = Vec::with_capacity(alloc, ended.len())?;
-    for seated in one_by_one(alloc, ended)? {
+    let Ok(mut nodes) = Vec::with_capacity(alloc, ended.len()) else {
+        return Err(NoMemory);
+    };
+    let Ok(ended) = one_by_one(alloc, ended) else {
+        return Err(NoMemory);
+    };
+    for seated in ended {
         let AtPorts {
             _before: _,
             node,

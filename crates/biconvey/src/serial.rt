@@ -6,9 +6,9 @@ ghost use Rattle.route_tensor.specs.Grid.{ranks};
 ghost use Rattle.port_bank.specs.Port.{IsSlots};
 ghost use Rattle.rank_group.specs.Ranks.{IsOrder};
 ghost use Rattle.item_buffer.specs.Capacity.{IsCapacity};
-ghost use Rattle.biconvey.specs.Worlds.{turns_of};
+ghost use Rattle.biconvey.specs.RanksOverBanks.{bi_turns_of};
 ghost use Rattle.biconvey.specs.Drives.{AreAskers};
-ghost use Rattle.biconvey.specs.Driven.{HasExchanged, HasSweptBoth};
+ghost use Rattle.biconvey.specs.DrivePromises.{HasExchanged, HasSweptBoth};
 
 use crate::drive::drive_both;
 use bale_items::{NoMemory, Steps};
@@ -45,7 +45,7 @@ pub fn bi_serial<A: Asker, L: Ledger>(
         order.now steps.old steps.new) }
 
     // The turns are bounded before the exchange, also where it ends in `NoMemory`.
-    ensures steps { steps.new ≤ steps.old + turns_of grid.now (sum_by (λ s. length (A.talk.queries s)) askers) }
+    ensures steps { steps.new ≤ steps.old + bi_turns_of grid.now (sum_by (λ s. length (A.talk.queries s)) askers) }
 {
     match grid.hops() {
         1 => over_hops::<1, A, L>(alloc, grid, cap, slots, steady, order, askers, steps),
@@ -76,7 +76,7 @@ fn over_hops<const HOPS: usize, A: Asker, L: Ledger>(
     ensures swept { IfOk result (HasSweptBoth A.talk askers
         (record { dims = grid.now; cap = cap; slots = slots; by_slots = false }) steady
         order.now steps.old steps.new) }
-    ensures steps { steps.new ≤ steps.old + turns_of grid.now (sum_by (λ s. length (A.talk.queries s)) askers) }
+    ensures steps { steps.new ≤ steps.old + bi_turns_of grid.now (sum_by (λ s. length (A.talk.queries s)) askers) }
 {
     by_capacity!(
         cap,

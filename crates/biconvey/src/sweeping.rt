@@ -8,10 +8,10 @@ ghost use Rattle.std.specs.Prelude.{◌≡◌, ◌≢◌, ℕ, ◌+◌, ◌<◌,
 ghost use Rattle.route_tensor.specs.Grid.{ranks};
 ghost use Rattle.rank_group.specs.Ranks.{IsOrder};
 ghost use Rattle.query_node.specs.States.{BiState};
-ghost use Rattle.query_node.specs.Ranks.{HasRank};
+ghost use Rattle.query_node.specs.Ranks.{HasBiRank};
 ghost use Rattle.rank_group.specs.Turns.{InTurn};
 ghost use Rattle.biconvey.specs.Turns.{IsAskingTurn};
-ghost use Rattle.biconvey.specs.Worlds.{AreBanks, AfterRank, PostedWithin, World, SweptTo, sides_of};
+ghost use Rattle.biconvey.specs.RanksOverBanks.{AreBanks, AfterBiRank, PostedWithin, BiWorld, BiSweptTo, sides_of};
 
 use bale_items::{NoMemory, Steps};
 use port_bank::PlainBank;
@@ -35,12 +35,12 @@ fn turn_node<const CAP: usize, const HOPS: usize, A: Asker, L: Ledger>(
 ) -> Result<Banks<CAP>, NoMemory>
     requires number { number < ranks banks.queries.dims }
     requires banks { AreBanks CAP banks.queries.dims banks.queries.slots banks.queries banks.replies }
-    requires rank { (start : A) × HasRank A.talk banks.queries.dims number start node.old
+    requires rank { (start : A) × HasBiRank A.talk banks.queries.dims number start node.old
         (sides_of banks.queries banks.replies) }
     ensures banks { IfOk result (λ b. AreBanks CAP banks.entry.queries.dims banks.entry.queries.slots b.queries
         b.replies) }
     ensures steps { steps.new ≡ steps.old + 1 }
-    ensures turned { IfOk result (λ b. AfterRank A.talk banks.entry.queries.dims CAP banks.entry.queries.slots number
+    ensures turned { IfOk result (λ b. AfterBiRank A.talk banks.entry.queries.dims CAP banks.entry.queries.slots number
         node.old node.new (sides_of banks.entry.queries banks.entry.replies) (sides_of b.queries b.replies)) }
 {
     let Banks { queries, replies } = banks;
@@ -63,7 +63,7 @@ fn turn_one<const CAP: usize, const HOPS: usize, A: Asker, L: Ledger>(
     requires number { number < ranks banks.queries.dims }
     requires banks { AreBanks CAP banks.queries.dims banks.queries.slots banks.queries banks.replies }
     requires world { (steady : Bool) × (starts : ℕ → A)
-        × World A.talk banks.queries.dims CAP banks.queries.slots steady starts all.old.items
+        × BiWorld A.talk banks.queries.dims CAP banks.queries.slots steady starts all.old.items
         (sides_of banks.queries banks.replies) }
     ensures size { length all.new.items ≡ length all.old.items }
     ensures others { (k : ℕ) → k ≢ number → slice_get all.new.items k ≡ slice_get all.old.items k }
@@ -72,7 +72,7 @@ fn turn_one<const CAP: usize, const HOPS: usize, A: Asker, L: Ledger>(
     ensures steps { steps.new ≡ steps.old + 1 }
     ensures turned { (n n' : BiState A) → slice_get all.old.items number ≡ Some n
         → slice_get all.new.items number ≡ Some n'
-        → IfOk result (λ b. AfterRank A.talk banks.entry.queries.dims CAP banks.entry.queries.slots number n n'
+        → IfOk result (λ b. AfterBiRank A.talk banks.entry.queries.dims CAP banks.entry.queries.slots number n n'
         (sides_of banks.entry.queries banks.entry.replies) (sides_of b.queries b.replies)) }
 {
     turn_node(banks, &mut all[number as usize], number, steps)
@@ -88,7 +88,7 @@ pub(crate) fn sweep<const CAP: usize, const HOPS: usize, A: Asker, L: Ledger>(
     requires order { IsOrder (ranks banks.queries.dims) order.now }
     requires banks { AreBanks CAP banks.queries.dims banks.queries.slots banks.queries banks.replies }
     requires world { (steady : Bool) × (starts : ℕ → A)
-        × World A.talk banks.queries.dims CAP banks.queries.slots steady starts all.old.items
+        × BiWorld A.talk banks.queries.dims CAP banks.queries.slots steady starts all.old.items
         (sides_of banks.queries banks.replies) }
     ensures banks { IfOk result (λ b. AreBanks CAP banks.entry.queries.dims banks.entry.queries.slots b.queries
         b.replies) }
@@ -102,9 +102,9 @@ pub(crate) fn sweep<const CAP: usize, const HOPS: usize, A: Asker, L: Ledger>(
         (record { ranks = all.old.items; sides = sides_of banks.entry.queries banks.entry.replies; turns = steps.old })
         (record { ranks = all.new.items; sides = sides_of b.queries b.replies; turns = steps.new })) }
     ensures swept { (steady : Bool) (starts : ℕ → A)
-        → World A.talk banks.entry.queries.dims CAP banks.entry.queries.slots steady starts all.old.items
+        → BiWorld A.talk banks.entry.queries.dims CAP banks.entry.queries.slots steady starts all.old.items
         (sides_of banks.entry.queries banks.entry.replies)
-        → IfOk result (λ b. SweptTo A.talk banks.entry.queries.dims CAP banks.entry.queries.slots steady starts
+        → IfOk result (λ b. BiSweptTo A.talk banks.entry.queries.dims CAP banks.entry.queries.slots steady starts
         order.now (length order.now) all.old.items (sides_of banks.entry.queries banks.entry.replies) all.new.items
         (sides_of b.queries b.replies)) }
 {

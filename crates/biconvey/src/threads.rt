@@ -5,7 +5,7 @@ ghost use Rattle.route_tensor.specs.Grid.{ranks};
 ghost use Rattle.port_bank.specs.Port.{IsSlots};
 ghost use Rattle.item_buffer.specs.Capacity.{IsCapacity};
 ghost use Rattle.biconvey.specs.Drives.{AreAskers};
-ghost use Rattle.biconvey.specs.Driven.{HasExchanged};
+ghost use Rattle.biconvey.specs.DrivePromises.{HasExchanged};
 
 use crate::on_threads::thread_both;
 use bale_items::NoMemory;

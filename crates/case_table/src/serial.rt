@@ -4,7 +4,7 @@ ghost use Rattle.route_tensor.specs.Grid.{ranks};
 ghost use Rattle.port_bank.specs.Port.{IsSlots};
 ghost use Rattle.rank_node.specs.Movers.{manner_of};
 ghost use Rattle.rank_group.specs.Ranks.{IsOrder};
-ghost use Rattle.rank_group.specs.Driven.{MayRun, HasFinished, HasSwept, WithinTurns};
+ghost use Rattle.rank_group.specs.DrivePromises.{MayRun, HasFinished, HasSwept, WithinTurns};
 ghost use Rattle.item_buffer.specs.Capacity.{IsCapacity};
 
 use bale_items::NoMemory;

@@ -6,7 +6,7 @@ use Rattle.bale_items.specs.declared.Item.{Item}
 use Rattle.round_program.specs.Rules.{Rules}
 use Rattle.round_program.specs.Laws.{is_item}
 use Rattle.reductions.specs.declared.reduced.Reduction.TheVariants.{Least}
-use Rattle.reductions.specs.Reductions.{ReducedState, begun, reduced, has_changed, vote_of}
+use Rattle.reductions.specs.Reductions.{ReducedState, at_round_begin, after_item, has_changed, vote_of}
 use Rattle.components.specs.declared.labels.Link.{Link}
 
 -- one rank's part
@@ -22,7 +22,7 @@ pub record LabelState : Type 0 where
   pub labels : ReducedState
 
 -- a link between vertices below n
-pub record IsLink (n : ℕ) (l : Link) : Type 0 where
+pub record IsVertexLink (n : ℕ) (l : Link) : Type 0 where
   pub from : l.from < n
   pub to : l.to < n
 
@@ -34,15 +34,15 @@ pub record IsLabels (s : LabelState) : Type 0 where
   pub same : length s.labels.before ≡ length s.labels.cells
   pub low : All (λ l. l < length s.labels.cells) s.labels.cells
   pub low_before : All (λ l. l < length s.labels.cells) s.labels.before
-  pub linked : All (IsLink (length s.labels.cells)) s.links
-  pub sent : All (IsLink (length s.labels.cells)) s.active
+  pub linked : All (IsVertexLink (length s.labels.cells)) s.links
+  pub sent : All (IsVertexLink (length s.labels.cells)) s.active
 
 -- the label of a link's beginning, for its end, on its way to the end's owner
 abbrev pub label_item : List ℕ → Link → Item
 label_item before l = record { a = l.to; b = slice_index_or before l.from 0; c = 0 }
 
-abbrev pub to_owner : ℕ → List ℕ → Link → ℕ × Item
-to_owner ranks before l = (l.to % ranks, label_item before l)
+abbrev pub to_label_owner : ℕ → List ℕ → Link → ℕ × Item
+to_label_owner ranks before l = (l.to % ranks, label_item before l)
 
 -- an owner may be sent labels for its vertices
 abbrev pub is_label : List ℕ → ℕ → ℕ → ℕ → ℕ → Item → Bool
@@ -52,8 +52,8 @@ is_label shape ranks round to from x = false
 
 -- A bound on the rounds: in each but the last some label falls, and 64 ranks have 16,384 labels
 -- below 16,384 at most.
-abbrev pub most_rounds : ℕ
-most_rounds = 64 * 16_384 * 16_384 + 1
+abbrev pub most_label_rounds : ℕ
+most_label_rounds = 64 * 16_384 * 16_384 + 1
 
 abbrev pub label_rules : Rules LabelState
 label_rules =
@@ -63,15 +63,15 @@ label_rules =
       ranks = λ s. s.ranks;
       round = λ s. s.round;
       shape = λ s. length s.labels.cells ∷ [];
-      most = λ s. most_rounds;
-      emissions = λ s. map (to_owner s.ranks s.labels.before) s.active;
+      most = λ s. most_label_rounds;
+      emissions = λ s. map (to_label_owner s.ranks s.labels.before) s.active;
       may_be_sent = is_label;
-      absorbed = λ s from x. record s { labels = reduced Least s.labels x.a x.b };
+      absorbed = λ s from x. record s { labels = after_item Least s.labels x.a x.b };
       vote = λ s. vote_of s.labels;
       goes_on = λ shape round votes. not (votes == 0);
       ended = λ s votes. record s {
         round = min (s.round + 1) (2 ^ 64 - 1);
         active = filter (λ l. has_changed s.labels l.from) s.links;
-        labels = begun s.labels.cells;
+        labels = at_round_begin s.labels.cells;
       };
     }

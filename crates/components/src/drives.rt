@@ -5,7 +5,7 @@ ghost use Rattle.std.specs.Prelude.{◌≡◌, length, IfOk};
 ghost use Rattle.round_program.specs.Canonical.{HaveEnded};
 ghost use Rattle.components.specs.Connected.{AreComponents};
 ghost use Rattle.components.specs.LabelRules.{label_rules};
-ghost use Rattle.components.specs.Starts.{starts};
+ghost use Rattle.components.specs.Starts.{label_starts};
 
 use crate::labels::Labels;
 use crate::starting::start;
@@ -65,7 +65,7 @@ fn labels_of(
 ) -> Result<Vec<u64>, NoMemory>
     requires ranks { AreRanks ranks }
     requires square { m.now.cols ≡ m.now.rows }
-    requires ended { HaveEnded label_rules (starts ranks m.now) progs.now }
+    requires ended { HaveEnded label_rules (label_starts ranks m.now) progs.now }
     ensures { IfOk result (λ v. AreComponents m.now v.items) }
 {
     m.known();

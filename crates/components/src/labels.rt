@@ -4,8 +4,8 @@ ghost use Rattle.round_program.specs.Ranks.{IsRankOf};
 ghost use Rattle.std.specs.Prelude.{◌≡◌, ◌<◌, length, IfOk};
 ghost use Rattle.std.specs.List.{All, filter};
 ghost use Rattle.reductions.specs.Reductions.{has_changed};
-ghost use Rattle.components.specs.LabelRules.{IsLink};
-ghost use Rattle.components.specs.Starts.{begins};
+ghost use Rattle.components.specs.LabelRules.{IsVertexLink};
+ghost use Rattle.components.specs.Starts.{label_begins};
 
 use crate::starting::{links_of, numbers};
 use bale_items::{Item, NoMemory};
@@ -59,7 +59,7 @@ impl Labels {
     pub fn new(alloc: Global, m: &Matrix, ranks: u32, rank: u32) -> Result<Labels, NoMemory>
         requires rank { IsRankOf ranks rank }
         requires square { m.now.cols ≡ m.now.rows }
-        ensures { IfOk result (λ s. s ≡ begins ranks m.now rank) }
+        ensures { IfOk result (λ s. s ≡ label_begins ranks m.now rank) }
     {
         let links = links_of(alloc, m.entries(), ranks, rank)?;
         let active = links_of(alloc, m.entries(), ranks, rank)?;
@@ -149,7 +149,7 @@ impl Program for Labels {
 
 /// The links from vertices whose labels fell.
 fn fallen(alloc: Global, links: &[Link], labels: &Reduced) -> Result<Vec<Link>, NoMemory>
-    requires { All (IsLink (length labels.now.cells)) links.now }
+    requires { All (IsVertexLink (length labels.now.cells)) links.now }
     ensures { IfOk result (λ v. v.items ≡ filter (λ l. has_changed labels.now l.from) links.now) }
 {
     let mut active = Vec::new(alloc);

@@ -4,8 +4,8 @@ ghost use Rattle.round_program.specs.Ranks.{AreRanks};
 ghost use Rattle.std.specs.Prelude.{◌≡◌, ◌<◌, ◌%◌, ◌++◌, ◌==◌, [], ◌∷◌, if◌then◌else◌, IfOk, OnOk};
 ghost use Rattle.std.specs.List.{range_with_len};
 ghost use Rattle.round_program.specs.Canonical.{InRound, EndsWithin};
-ghost use Rattle.components.specs.LabelRules.{label_rules, most_rounds};
-ghost use Rattle.components.specs.Starts.{own_links, starts};
+ghost use Rattle.components.specs.LabelRules.{label_rules, most_label_rounds};
+ghost use Rattle.components.specs.Starts.{own_links, label_starts};
 
 use crate::labels::{Labels, Link};
 use bale_items::{NoMemory, Triple};
@@ -21,9 +21,9 @@ use std::alloc::Global;
 pub fn start(alloc: Global, m: &Matrix, ranks: u32) -> Result<Progs<Labels>, NoMemory>
     requires ranks { AreRanks ranks }
     requires square { m.now.cols ≡ m.now.rows }
-    ensures starts { IfOk result (λ ps. ps ≡ starts ranks m.now) }
-    ensures begins { IfOk result (λ ps. InRound label_rules ranks 0 (m.now.rows ∷ []) most_rounds ps) }
-    ensures ends { IfOk result (λ ps. EndsWithin label_rules ps most_rounds) }
+    ensures starts { IfOk result (λ ps. ps ≡ label_starts ranks m.now) }
+    ensures begins { IfOk result (λ ps. InRound label_rules ranks 0 (m.now.rows ∷ []) most_label_rounds ps) }
+    ensures ends { IfOk result (λ ps. EndsWithin label_rules ps most_label_rounds) }
 {
     m.known();
     programs(alloc, ranks, |rank| Labels::new(alloc, m, ranks, rank))

@@ -11,10 +11,10 @@ use Rattle.route_tensor.specs.Grid.{ranks, IsGrid}
 use Rattle.route_tensor.specs.Tag.{IsFair}
 use Rattle.route_tensor.specs.Link.{links}
 use Rattle.route_tensor.specs.Ends.{hop_at, sender_at, reader_at}
-use Rattle.port_bank.specs.Logs.{Logs, lasts, segment, added, lasts_in}
+use Rattle.port_bank.specs.Logs.{Logs, lasts, segment, with_parcel, lasts_in}
 use Rattle.port_bank.specs.Flow.{hop_link, flow}
 use Rattle.route_tensor.specs.Pair.{belongs, PassesThrough}
-use Rattle.list_laws.specs.Lists.{Begins, Ends}
+use Rattle.list_laws.specs.Lists.{IsPrefix, Ends}
 use Rattle.port_bank.proofs.Kept.{added-here, added-other, added_grows, between, law_got_more}
 use Rattle.convey.specs.Buffers.{Buffers}
 use Rattle.convey.specs.Agreement.{InAgrees, items_among, with_latest, Agrees}
@@ -40,41 +40,41 @@ pub record GotOn (b : Buffers) (unread : ℕ → List Entry) (ended : ℕ → Bo
 
 module _ (b : Buffers) (unread : ℕ → List Entry) (ended : ℕ → Bool) (sent got : Logs) (m : ℕ) (q : Shipped) (g : IsGrid b.dims) (a : Agrees b sent got)
     (below : m < links b.dims) (own : reader_at b.dims m ≡ b.rank) (goes_on : b.ended m ≡ false) (empty : b.unread m ≡ [])
-    (fair : All (λ e. IsFair b.dims (hop_at b.dims m) e.tag) q.entries) (front : sender_at b.dims m ≡ b.rank → Begins (added got m q m) (sent m)) (s : GotOn b unread ended m q) where
+    (fair : All (λ e. IsFair b.dims (hop_at b.dims m) e.tag) q.entries) (front : sender_at b.dims m ≡ b.rank → IsPrefix (with_parcel got m q m) (sent m)) (s : GotOn b unread ended m q) where
   dated : lasts (got m) ≡ b.epoch
   dated = open_lasts b.epoch (lasts (got m)) (b.ended m) goes_on ((a.ins m below own).lasts)
 
   plain : Agrees (record b { latest = None }) sent got
   plain = forget_agrees b sent got a
 
-  got_in : InAgrees b.dims b.epoch m (unread m) (ended m) (added got m q m)
+  got_in : InAgrees b.dims b.epoch m (unread m) (ended m) (with_parcel got m q m)
   got_in = record {
     lasts = lasts_added got m q q.last refl ∙ (ap (λ n. n + cond q.last 1 0) dated ∙ (lasts_of b.epoch q.last ∙ ap (lasts_in b.epoch) (sym s.ends)));
     by_last = λ c. record { front = got m; final = q; is = added-here got m q; last = sym s.ends ∙ c };
     fair = subst (All (λ e. IsFair b.dims (hop_at b.dims m) e.tag)) (sym s.filled) fair;
   }
 
-  got_ins : (l : ℕ) → l < links b.dims → reader_at b.dims l ≡ b.rank → InAgrees b.dims b.epoch l (unread l) (ended l) (added got m q l)
+  got_ins : (l : ℕ) → l < links b.dims → reader_at b.dims l ≡ b.rank → InAgrees b.dims b.epoch l (unread l) (ended l) (with_parcel got m q l)
   got_ins l h to =
       elim (cases_eq l m) [
-        | inl same ↦ subst (λ k. InAgrees b.dims b.epoch k (unread k) (ended k) (added got m q k)) (sym same) got_in
+        | inl same ↦ subst (λ k. InAgrees b.dims b.epoch k (unread k) (ended k) (with_parcel got m q k)) (sym same) got_in
         | inr other ↦
-            subst (λ u. InAgrees b.dims b.epoch l u (ended l) (added got m q l)) (sym (s.lies l h to other))
-            (subst (λ c. InAgrees b.dims b.epoch l (b.unread l) c (added got m q l)) (sym (s.stays l h to other))
+            subst (λ u. InAgrees b.dims b.epoch l u (ended l) (with_parcel got m q l)) (sym (s.lies l h to other))
+            (subst (λ c. InAgrees b.dims b.epoch l (b.unread l) c (with_parcel got m q l)) (sym (s.stays l h to other))
             (subst (λ log. InAgrees b.dims b.epoch l (b.unread l) (b.ended l) log) (sym (added-other got m l q other)) (plain.ins l h to)))
       ]
 
   -- what the collected parcel brings a pair
-  brings : (x y h : ℕ) → hop_link b.dims x y h ≡ m → flow b.dims (added got m q) x y h b.epoch ≡ flow b.dims got x y h b.epoch ++ items_among (belongs b.dims x y h) (unread (hop_link b.dims x y h))
+  brings : (x y h : ℕ) → hop_link b.dims x y h ≡ m → flow b.dims (with_parcel got m q) x y h b.epoch ≡ flow b.dims got x y h b.epoch ++ items_among (belongs b.dims x y h) (unread (hop_link b.dims x y h))
   brings x y h same =
       let keep = belongs b.dims x y h in
-      subst (λ n. flow b.dims (added got m q) x y h n ≡ flow b.dims got x y h n ++ items_among keep q.entries) dated (flow_here b.dims got m q x y h same)
+      subst (λ n. flow b.dims (with_parcel got m q) x y h n ≡ flow b.dims got x y h n ++ items_among keep q.entries) dated (flow_here b.dims got m q x y h same)
       ∙ ap (λ u. flow b.dims got x y h b.epoch ++ items_among keep u) (sym (ap unread same ∙ s.filled))
 
   had_none : (x y h : ℕ) → hop_link b.dims x y h ≡ m → items_among (belongs b.dims x y h) (b.unread (hop_link b.dims x y h)) ≡ []
   had_none x y h same = ap (items_among (belongs b.dims x y h)) (ap b.unread same ∙ empty)
 
-  got_pairs : (x y h : ℕ) → PassesThrough b.dims b.rank x y h → flow b.dims (added got m q) x y h b.epoch
+  got_pairs : (x y h : ℕ) → PassesThrough b.dims b.rank x y h → flow b.dims (with_parcel got m q) x y h b.epoch
       ≡ flow b.dims sent x y (h + 1) b.epoch ++ (items_among (belongs b.dims x y (h + 1)) (b.waiting (hop_link b.dims x y (h + 1))) ++ items_among (belongs b.dims x y h) (unread (hop_link b.dims x y h)))
   got_pairs x y h pair =
       let f : List Item = flow b.dims sent x y (h + 1) b.epoch in
@@ -91,10 +91,10 @@ module _ (b : Buffers) (unread : ℕ → List Entry) (ended : ℕ → Bool) (sen
             ∙ (a.pairs x y h pair ∙ ap (λ z. f ++ (w ++ items_among (belongs b.dims x y h) z)) (sym (s.lies (hop_link b.dims x y h) t.comes t.to other)))
       ]
 
-  got_arrived : (l : ℕ) → l < links b.dims → reader_at b.dims l ≡ b.rank → hop_at b.dims l ≡ length b.dims → Ends (flat_map (λ p. p.entries) (segment b.epoch (added got m q l))) (unread l)
+  got_arrived : (l : ℕ) → l < links b.dims → reader_at b.dims l ≡ b.rank → hop_at b.dims l ≡ length b.dims → Ends (flat_map (λ p. p.entries) (segment b.epoch (with_parcel got m q l))) (unread l)
   got_arrived l h to at =
       elim (cases_eq l m) [
-        | inl same ↦ subst (λ k. Ends (flat_map (λ p. p.entries) (segment b.epoch (added got m q k))) (unread k)) (sym same) (record {
+        | inl same ↦ subst (λ k. Ends (flat_map (λ p. p.entries) (segment b.epoch (with_parcel got m q k))) (unread k)) (sym same) (record {
           front = flat_map (λ p. p.entries) (segment b.epoch (got m));
           is = ap (λ log. flat_map (λ p. p.entries) (segment b.epoch log)) (added-here got m q)
               ∙ (subst (λ n. flat_map (λ p. p.entries) (segment n (got m ++ q ∷ [])) ≡ flat_map (λ p. p.entries) (segment n (got m)) ++ q.entries) dated
@@ -106,24 +106,24 @@ module _ (b : Buffers) (unread : ℕ → List Entry) (ended : ℕ → Bool) (sen
             (subst (Ends (flat_map (λ p. p.entries) (segment b.epoch (got l)))) (sym (s.lies l h to other)) (plain.arrived l h to at))
       ]
 
-  got_own : (l : ℕ) → l < links b.dims → sender_at b.dims l ≡ b.rank → reader_at b.dims l ≡ b.rank → Begins (added got m q l) (sent l)
+  got_own : (l : ℕ) → l < links b.dims → sender_at b.dims l ≡ b.rank → reader_at b.dims l ≡ b.rank → IsPrefix (with_parcel got m q l) (sent l)
   got_own l h from to =
       elim (cases_eq l m) [
-        | inl same ↦ subst (λ k. sender_at b.dims k ≡ b.rank → Begins (added got m q k) (sent k)) (sym same) front from
-        | inr other ↦ subst (λ log. Begins log (sent l)) (sym (added-other got m l q other)) (a.own l h from to)
+        | inl same ↦ subst (λ k. sender_at b.dims k ≡ b.rank → IsPrefix (with_parcel got m q k) (sent k)) (sym same) front from
+        | inr other ↦ subst (λ log. IsPrefix log (sent l)) (sym (added-other got m l q other)) (a.own l h from to)
       ]
 
-  pub got_agrees : Agrees (record b { unread = unread; ended = ended; latest = None }) sent (added got m q)
+  pub got_agrees : Agrees (record b { unread = unread; ended = ended; latest = None }) sent (with_parcel got m q)
   got_agrees = record {
     outs = a.outs;
     ins = got_ins;
-    law = law_got_more b.dims b.rank sent got (added got m q) g (added_grows got m q) a.law;
+    law = law_got_more b.dims b.rank sent got (with_parcel got m q) g (added_grows got m q) a.law;
     pairs = got_pairs;
     arrived = got_arrived;
     own = got_own;
   }
 
-  got_pulled : (rank : b.rank < ranks b.dims) (e x : ℕ) → x < ranks b.dims → pulled_of (record b { unread = unread; ended = ended; latest = None }) (added got m q) e x ≡ pulled_of b got e x
+  got_pulled : (rank : b.rank < ranks b.dims) (e x : ℕ) → x < ranks b.dims → pulled_of (record b { unread = unread; ended = ended; latest = None }) (with_parcel got m q) e x ≡ pulled_of b got e x
   got_pulled rank e x from =
       let k : ℕ = length b.dims in
       let keep = belongs b.dims x b.rank k in
@@ -136,8 +136,8 @@ module _ (b : Buffers) (unread : ℕ → List Entry) (ended : ℕ → Bool) (sen
           | inl now ↦
               let came : List Item = flow b.dims got x b.rank k b.epoch in
               let brought : List Item = items_among keep (unread n) in
-              ap (λ d. pulled (flow b.dims (added got m q) x b.rank k d) (left (unread n) (d == b.epoch))) now
-              ∙ (ap (λ c. pulled (flow b.dims (added got m q) x b.rank k b.epoch) (left (unread n) c)) (eq-eqb b.epoch b.epoch refl)
+              ap (λ d. pulled (flow b.dims (with_parcel got m q) x b.rank k d) (left (unread n) (d == b.epoch))) now
+              ∙ (ap (λ c. pulled (flow b.dims (with_parcel got m q) x b.rank k b.epoch) (left (unread n) c)) (eq-eqb b.epoch b.epoch refl)
               ∙ (ap (λ z. pulled z (length brought)) (brings x b.rank k same)
               ∙ (take_front came brought (length brought) refl
               ∙ (sym (take_all (length came - 0) came (omega arith))
@@ -154,10 +154,10 @@ module _ (b : Buffers) (unread : ℕ → List Entry) (ended : ℕ → Bool) (sen
             ∙ ap (λ u. pulled (flow b.dims got x b.rank k e) (left u (e == b.epoch))) (s.lies n t.below t.reader other)
       ]
 
-  pub got_part : b.rank < ranks b.dims → part_of (record b { unread = unread; ended = ended; latest = None }) sent (added got m q) ≡ record (part_of b sent got) { latest = None }
+  pub got_part : b.rank < ranks b.dims → part_of (record b { unread = unread; ended = ended; latest = None }) sent (with_parcel got m q) ≡ record (part_of b sent got) { latest = None }
   got_part rank =
       ap (λ f. record (part_of b sent got) { latest = None; pulled = f })
-      (lists_same (ranks b.dims) (pulled_of (record b { unread = unread; ended = ended; latest = None }) (added got m q)) (pulled_of b got) (got_pulled rank))
+      (lists_same (ranks b.dims) (pulled_of (record b { unread = unread; ended = ended; latest = None }) (with_parcel got m q)) (pulled_of b got) (got_pulled rank))
 
 -- entries are relayed: what is on its way of a pair stays, in order
 pub record Relayed (b : Buffers) (waiting unread : ℕ → List Entry) : Type 0 where

@@ -10,18 +10,18 @@ use Rattle.route_tensor.specs.Neighbour.{hop_to, neighbour, link_to, link_from, 
 use Rattle.route_tensor.proofs.Coordinates.{Positive, first-positive, rest-positive}
 use Rattle.route_tensor.proofs.Links.{before_more, sum-cons, link_within}
 use Rattle.route_tensor.proofs.Neighbours.{HasNumber, hop_to_has, to_neighbour, from_neighbour, coord-neighbour, out_index-link_to, out_stands, in_stands}
-use Rattle.port_bank.specs.Calls.{Call, once_if, swept}
+use Rattle.port_bank.specs.Calls.{Call, once_if, sweep_calls}
 use Rattle.port_bank.specs.Calls.Call.{Post, Collect}
 use Rattle.convey.proofs.Ways.{to_below, to_sender, from_below, from_reader}
 
 -- a sweep over links by an ascending list of some of them
 module _ (own : ℕ → Bool) (at : ℕ → ℕ) (index : ℕ → ℕ) (n top : ℕ) (owned : (i : ℕ) → i < n → own (at i) ≡ true) (rises : (i j : ℕ) → i < j → j < n → at i < at j)
     (listed : (l : ℕ) → l < top → own l ≡ true → index l < n) (found : (l : ℕ) → l < top → own l ≡ true → at (index l) ≡ l) (made : ℕ → Bool) (call : ℕ → Call) where
-  own_call : (m : ℕ) → own m ≡ true → swept (λ l. own l && made l) call (suc m) ≡ swept (λ l. own l && made l) call m ++ once_if (made m) (call m)
-  own_call m t = ap (λ b. swept (λ l. own l && made l) call m ++ once_if (b && made m) (call m)) t
+  own_call : (m : ℕ) → own m ≡ true → sweep_calls (λ l. own l && made l) call (suc m) ≡ sweep_calls (λ l. own l && made l) call m ++ once_if (made m) (call m)
+  own_call m t = ap (λ b. sweep_calls (λ l. own l && made l) call m ++ once_if (b && made m) (call m)) t
 
-  no_call : (m : ℕ) → own m ≡ false → swept (λ l. own l && made l) call (suc m) ≡ swept (λ l. own l && made l) call m
-  no_call m f = ap (λ b. swept (λ l. own l && made l) call m ++ once_if (b && made m) (call m)) f ∙ append-nil (swept (λ l. own l && made l) call m)
+  no_call : (m : ℕ) → own m ≡ false → sweep_calls (λ l. own l && made l) call (suc m) ≡ sweep_calls (λ l. own l && made l) call m
+  no_call m f = ap (λ b. sweep_calls (λ l. own l && made l) call m ++ once_if (b && made m) (call m)) f ∙ append-nil (sweep_calls (λ l. own l && made l) call m)
 
   not_here : (m i : ℕ) → own m ≡ false → i < n → at i < suc m → at i < m
   not_here m i f w low = elim (cases_eq (at i) m) [
@@ -50,7 +50,7 @@ module _ (own : ℕ → Bool) (at : ℕ → ℕ) (index : ℕ → ℕ) (n top : 
       ]
 
   pub by_links : (m k : ℕ) → m ≤ top → k ≤ n → ((i : ℕ) → i < k → at i < m) → ((l : ℕ) → l < m → own l ≡ true → index l < k)
-      → swept (λ i. made (at i)) (λ i. call (at i)) k ≡ swept (λ l. own l && made l) call m
+      → sweep_calls (λ i. made (at i)) (λ i. call (at i)) k ≡ sweep_calls (λ l. own l && made l) call m
   by_links zero zero mt kn low high = refl
   by_links zero (suc k) mt kn low high = absurd (omega (arith, low k (omega arith)))
   by_links (suc m) k mt kn low high = elim (cases_Bool (own m)) [
@@ -60,11 +60,11 @@ module _ (own : ℕ → Bool) (at : ℕ → ℕ) (index : ℕ → ℕ) (n top : 
         let jn : j < n = listed m w t in
         let e : k ≡ suc j = last_here m k w kn t low (high m (omega arith) t) in
         let here : at j ≡ m = found m w t in
-        ap (swept (λ i. made (at i)) (λ i. call (at i))) e
+        ap (sweep_calls (λ i. made (at i)) (λ i. call (at i))) e
         ∙ ap (λ cs. cs ++ once_if (made (at j)) (call (at j))) (by_links m j (omega (arith, mt)) (omega (arith, jn))
         (λ i less. omega (arith, rises i j less jn, here))
         (λ l less o. index_below m l w t less o))
-        ∙ ap (λ l. swept (λ q. own q && made q) call m ++ once_if (made l) (call l)) here
+        ∙ ap (λ l. sweep_calls (λ q. own q && made q) call m ++ once_if (made l) (call l)) here
         ∙ sym (own_call m t)
     | inr f ↦
         by_links m k (omega (arith, mt)) kn (λ i w. not_here m i f (omega (arith, w, kn)) (low i w)) (λ l w o. high l (omega (arith, w)) o)
@@ -135,13 +135,13 @@ in_rises dims r i j g own w q =
 -- the posts of a sweep over all neighbours, and over those before number k; the collects of a sweep
 -- over all
 module _ (dims : List ℕ) (r : ℕ) (g : IsGrid dims) (own : r < ranks dims) (made : ℕ → Bool) where
-  pub all_posts : (n : ℕ) → n ≡ sum dims → swept (λ i. made (link_to dims r i)) (λ i. Post (link_to dims r i)) n ≡ swept (λ l. eqb (sender_at dims l) r && made l) Post (links dims)
+  pub all_posts : (n : ℕ) → n ≡ sum dims → sweep_calls (λ i. made (link_to dims r i)) (λ i. Post (link_to dims r i)) n ≡ sweep_calls (λ l. eqb (sender_at dims l) r && made l) Post (links dims)
   all_posts n all =
       by_links (λ l. eqb (sender_at dims l) r) (link_to dims r) (out_index dims) (sum dims) (links dims) (λ i w. eq-eqb _ _ (to_sender dims r i g own w)) (λ i j w q. out_rises dims r i j g own w q)
       (λ l w o. (out_stands dims r l g w (eqb-true _ _ o)).below) (λ l w o. (out_stands dims r l g w (eqb-true _ _ o)).number) made Post (links dims) n (omega arith) (omega (arith, all))
       (λ i w. to_below dims r i g own (omega (arith, w, all))) (λ l w o. omega (arith, all, (out_stands dims r l g w (eqb-true _ _ o)).below))
 
-  pub posts_before : (k : ℕ) → k < sum dims → swept (λ i. made (link_to dims r i)) (λ i. Post (link_to dims r i)) k ≡ swept (λ l. eqb (sender_at dims l) r && made l) Post (link_to dims r k)
+  pub posts_before : (k : ℕ) → k < sum dims → sweep_calls (λ i. made (link_to dims r i)) (λ i. Post (link_to dims r i)) k ≡ sweep_calls (λ l. eqb (sender_at dims l) r && made l) Post (link_to dims r k)
   posts_before k less =
       let at : out_index dims (link_to dims r k) ≡ k = out_index-link_to dims r k g own less in
       let low : link_to dims r k < links dims = to_below dims r k g own less in
@@ -151,7 +151,7 @@ module _ (dims : List ℕ) (r : ℕ) (g : IsGrid dims) (own : r < ranks dims) (m
       (λ l w o. subst (λ n. out_index dims l < n) at (index_below (λ l. eqb (sender_at dims l) r) (link_to dims r) (out_index dims) (sum dims) (links dims) (λ i w. eq-eqb _ _ (to_sender dims r i g own w)) (λ i j w q. out_rises dims r i j g own w q)
       (λ l w o. (out_stands dims r l g w (eqb-true _ _ o)).below) (λ l w o. (out_stands dims r l g w (eqb-true _ _ o)).number) made Post (link_to dims r k) l low (eq-eqb _ _ (to_sender dims r k g own less)) w o))
 
-  pub all_collects : (n : ℕ) → n ≡ sum dims → swept (λ i. made (link_from dims r i)) (λ i. Collect (link_from dims r i)) n ≡ swept (λ l. eqb (reader_at dims l) r && made l) Collect (links dims)
+  pub all_collects : (n : ℕ) → n ≡ sum dims → sweep_calls (λ i. made (link_from dims r i)) (λ i. Collect (link_from dims r i)) n ≡ sweep_calls (λ l. eqb (reader_at dims l) r && made l) Collect (links dims)
   all_collects n all =
       by_links (λ l. eqb (reader_at dims l) r) (link_from dims r) (in_index dims) (sum dims) (links dims) (λ i w. eq-eqb _ _ (from_reader dims r i g own w)) (λ i j w q. in_rises dims r i j g own w q)
       (λ l w o. (in_stands dims r l g w (eqb-true _ _ o)).below) (λ l w o. (in_stands dims r l g w (eqb-true _ _ o)).number) made Collect (links dims) n (omega arith) (omega (arith, all))

@@ -13,7 +13,7 @@ use Rattle.hop_core.specs.State.{State, at_end}
 use Rattle.convey.specs.Buffers.{out_of, in_of}
 use Rattle.convey.specs.Due.{IsDue, was_served, collects_of, posts_below}
 use Rattle.port_bank.specs.Logs.{Logs}
-use Rattle.port_bank.specs.Calls.{swept}
+use Rattle.port_bank.specs.Calls.{sweep_calls}
 use Rattle.port_bank.specs.Calls.Call.{Post, Collect}
 use Rattle.convey.proofs.Ways.{to_below, to_sender}
 use Rattle.port_bank.proofs.Sweeping.{swept_none}
@@ -72,9 +72,9 @@ none_wanted st none = swept_none _ Collect (links st.dims) (λ l w. and_not _ _ 
 
 -- the posts of a sweep, of a state on this grid
 pub posts_here : (dims : List ℕ) (rank m : ℕ) (st : State) (sent sent' : Logs) → st.dims ≡ dims → st.rank ≡ rank
-    → swept (λ l. eqb (sender_at dims l) rank && was_served st l (sent l) (sent' l)) Post m ≡ posts_below st sent sent' m
-posts_here dims rank m st sent sent' d r = λ k. swept (λ l. eqb (sender_at (sym d k) l) (sym r k) && was_served st l (sent l) (sent' l)) Post m
+    → sweep_calls (λ l. eqb (sender_at dims l) rank && was_served st l (sent l) (sent' l)) Post m ≡ posts_below st sent sent' m
+posts_here dims rank m st sent sent' d r = λ k. sweep_calls (λ l. eqb (sender_at (sym d k) l) (sym r k) && was_served st l (sent l) (sent' l)) Post m
 
 pub collects_here : (dims : List ℕ) (rank : ℕ) (st : State) → st.dims ≡ dims → st.rank ≡ rank
-    → swept (λ l. eqb (reader_at dims l) rank && is_wanted (in_of st l)) Collect (links dims) ≡ collects_of st
-collects_here dims rank st d r = λ k. swept (λ l. eqb (reader_at (sym d k) l) (sym r k) && is_wanted (in_of st l)) Collect (links (sym d k))
+    → sweep_calls (λ l. eqb (reader_at dims l) rank && is_wanted (in_of st l)) Collect (links dims) ≡ collects_of st
+collects_here dims rank st d r = λ k. sweep_calls (λ l. eqb (reader_at (sym d k) l) (sym r k) && is_wanted (in_of st l)) Collect (links (sym d k))

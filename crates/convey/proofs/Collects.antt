@@ -9,8 +9,8 @@ use Rattle.route_tensor.specs.Link.{links}
 use Rattle.route_tensor.specs.Tag.{IsFair}
 use Rattle.route_tensor.specs.Ends.{hop_at, sender_at, reader_at}
 use Rattle.route_tensor.specs.Neighbour.{hop_to, in_index}
-use Rattle.port_bank.specs.Logs.{Logs, added}
-use Rattle.list_laws.specs.Lists.{Begins}
+use Rattle.port_bank.specs.Logs.{Logs, with_parcel}
+use Rattle.list_laws.specs.Lists.{IsPrefix}
 use Rattle.port_bank.proofs.Fronts.{begins_refl}
 use Rattle.port_bank.proofs.Kept.{added_grows}
 use Rattle.hop_core.specs.Link.{In, no_in, is_empty, is_wanted}
@@ -111,14 +111,14 @@ module _ (st : State) (link : ℕ) (x : In) (sent got got' : Logs) (s : IsState 
     stays = λ l h to other. ap (λ y. y.ended) (inbox_other st st.rank link l x s below h own to other);
   }
 
-  pub came_agrees : (q : Shipped) → x.parcel.untaken ≡ q.entries → x.ended ≡ q.last → All (λ e. IsFair st.dims (hop_at st.dims link) e.tag) q.entries → (sender_at st.dims link ≡ st.rank → Begins (added got link q link) (sent link))
-      → Agrees (buffers_of (with_inbox st (in_index st.dims link) x)) sent (added got link q)
+  pub came_agrees : (q : Shipped) → x.parcel.untaken ≡ q.entries → x.ended ≡ q.last → All (λ e. IsFair st.dims (hop_at st.dims link) e.tag) q.entries → (sender_at st.dims link ≡ st.rank → IsPrefix (with_parcel got link q link) (sent link))
+      → Agrees (buffers_of (with_inbox st (in_index st.dims link) x)) sent (with_parcel got link q)
   came_agrees q entries last fair front =
       let n : State = with_inbox st (in_index st.dims link) x in
       got_agrees (buffers_of st) (buffers_of n).unread (buffers_of n).ended sent got link q s.grid a below own goes_on_now empty_now fair front (came q entries last)
 
-  pub came_part : (q : Shipped) → x.parcel.untaken ≡ q.entries → x.ended ≡ q.last → All (λ e. IsFair st.dims (hop_at st.dims link) e.tag) q.entries → (sender_at st.dims link ≡ st.rank → Begins (added got link q link) (sent link))
-      → at_rest (part_of (buffers_of (with_inbox st (in_index st.dims link) x)) sent (added got link q)) ≡ at_rest (part_of (buffers_of st) sent got)
+  pub came_part : (q : Shipped) → x.parcel.untaken ≡ q.entries → x.ended ≡ q.last → All (λ e. IsFair st.dims (hop_at st.dims link) e.tag) q.entries → (sender_at st.dims link ≡ st.rank → IsPrefix (with_parcel got link q link) (sent link))
+      → at_rest (part_of (buffers_of (with_inbox st (in_index st.dims link) x)) sent (with_parcel got link q)) ≡ at_rest (part_of (buffers_of st) sent got)
   came_part q entries last fair front =
       let n : State = with_inbox st (in_index st.dims link) x in
       ap at_rest (got_part (buffers_of st) (buffers_of n).unread (buffers_of n).ended sent got link q s.grid a below own goes_on_now empty_now fair front (came q entries last) s.rank)
@@ -154,7 +154,7 @@ module _ (dims : List ℕ) (rank : ℕ) (st new : State) (link : ℕ) (x : In) (
 
   collected : Agrees (buffers_of (with_inbox st (in_index st.dims link) x)) sent got'
       → at_rest (part_of (buffers_of (with_inbox st (in_index st.dims link) x)) sent got') ≡ at_rest (part_of (buffers_of st) sent got)
-      → ((l : ℕ) → Begins (got l) (got' l)) → Collected dims rank st new link sent sent' got got'
+      → ((l : ℕ) → IsPrefix (got l) (got' l)) → Collected dims rank st new link sent sent' got got'
   collected agrees part grows =
       subst (λ logs. Collected dims rank st new link sent logs got got') (sym same)
       (subst (λ n. Collected dims rank st n link sent sent got got') (sym e) (record {
@@ -168,13 +168,13 @@ module _ (dims : List ℕ) (rank : ℕ) (st new : State) (link : ℕ) (x : In) (
   collected_none none open' same_got =
       collected (subst (Agrees (buffers_of (with_inbox st (in_index st.dims link) x)) sent) (sym same_got) (nothing_agrees st link x sent got got s r.agrees here_below here_own wants none open'))
       (ap (λ logs. at_rest (part_of (buffers_of (with_inbox st (in_index st.dims link) x)) sent logs)) same_got ∙ nothing_part st link x sent got got s r.agrees here_below here_own wants none open')
-      (λ l. subst (λ logs. Begins (got l) (logs l)) (sym same_got) (begins_refl (got l)))
+      (λ l. subst (λ logs. IsPrefix (got l) (logs l)) (sym same_got) (begins_refl (got l)))
 
-  pub collected_one : (q : Shipped) → x.parcel.untaken ≡ q.entries → x.ended ≡ q.last → All (λ t. IsFair dims (hop_at dims link) t.tag) q.entries → (sender_at dims link ≡ rank → Begins (got' link) (sent' link)) → got' ≡ added got link q → Collected dims rank st new link sent sent' got got'
+  pub collected_one : (q : Shipped) → x.parcel.untaken ≡ q.entries → x.ended ≡ q.last → All (λ t. IsFair dims (hop_at dims link) t.tag) q.entries → (sender_at dims link ≡ rank → IsPrefix (got' link) (sent' link)) → got' ≡ with_parcel got link q → Collected dims rank st new link sent sent' got got'
   collected_one q entries last fair front same_got =
-      let front_here : sender_at st.dims link ≡ st.rank → Begins (added got link q link) (sent link) = λ from.
-      subst (λ logs. Begins (logs link) (sent link)) same_got (subst (λ logs. Begins (got' link) (logs link)) same (front (ap (λ ds. sender_at ds link) (sym r.same_dims) ∙ (from ∙ r.same_rank)))) in
+      let front_here : sender_at st.dims link ≡ st.rank → IsPrefix (with_parcel got link q link) (sent link) = λ from.
+      subst (λ logs. IsPrefix (logs link) (sent link)) same_got (subst (λ logs. IsPrefix (got' link) (logs link)) same (front (ap (λ ds. sender_at ds link) (sym r.same_dims) ∙ (from ∙ r.same_rank)))) in
       let fair_here : All (λ t. IsFair st.dims (hop_at st.dims link) t.tag) q.entries = subst (λ ds. All (λ t. IsFair ds (hop_at ds link) t.tag) q.entries) (sym r.same_dims) fair in
       collected (subst (Agrees (buffers_of (with_inbox st (in_index st.dims link) x)) sent) (sym same_got) (came_agrees st link x sent got got s r.agrees here_below here_own wants q entries last fair_here front_here))
       (ap (λ logs. at_rest (part_of (buffers_of (with_inbox st (in_index st.dims link) x)) sent logs)) same_got ∙ came_part st link x sent got got s r.agrees here_below here_own wants q entries last fair_here front_here)
-      (λ l. subst (λ logs. Begins (got l) (logs l)) (sym same_got) (added_grows got link q l))
+      (λ l. subst (λ logs. IsPrefix (got l) (logs l)) (sym same_got) (added_grows got link q l))

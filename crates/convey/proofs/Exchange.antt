@@ -10,7 +10,7 @@ use Rattle.route_tensor.proofs.Coordinates.{place_below}
 use Rattle.route_tensor.specs.Ends.{sender_at, reader_at}
 use Rattle.port_bank.specs.Logs.{Logs, lasts, starting_at, ending_at, starting_elsewhere, ending_elsewhere}
 use Rattle.port_bank.specs.Flow.{hop_link, flow}
-use Rattle.list_laws.specs.Lists.{Begins}
+use Rattle.list_laws.specs.Lists.{IsPrefix}
 use Rattle.route_tensor.specs.Pair.{PassesThrough}
 use Rattle.port_bank.proofs.Fronts.{begins_trans}
 use Rattle.port_bank.proofs.Segments.{lasts_begins}
@@ -71,11 +71,11 @@ module _ (dims : List ℕ) (cap slots : ℕ) (all : ℕ → Buffers) (sent got :
       let posted : e < lasts (sent (hop_link dims s d (suc n + 1))) = subst (λ m. e < lasts (sent (hop_link dims s d m))) (sym next) (omega (arith, h, b)) in
       ended_first s d e n from to (omega arith) ((one here below).law.closed (hop_link dims s d (suc n + 1)) (hop_link dims s d (suc n)) e w.leaves w.comes w.from w.to w.next posted)
 
-  -- what a rank pulled is the front of what its sender pushed
-  pub in_order : (e s d : ℕ) → s < ranks dims → d < ranks dims → Begins ((state_of dims all sent got d).pulled e s) ((state_of dims all sent got s).pushed e d)
+  -- what a rank pulled is a prefix of what its sender pushed
+  pub in_order : (e s d : ℕ) → s < ranks dims → d < ranks dims → IsPrefix ((state_of dims all sent got d).pulled e s) ((state_of dims all sent got s).pushed e d)
   in_order e s d from to =
-      subst (λ xs. Begins xs ((state_of dims all sent got s).pushed e d)) (sym (for-dims dims (all d).dims (pulled_of (all d) (ending_at dims d got)) e s (t.same_dims d to) from))
-      (subst (Begins (pulled_of (all d) (ending_at dims d got) e s)) (sym (for-dims dims (all s).dims (pushed_to (all s) (starting_at dims s sent)) e d (t.same_dims s from) to))
+      subst (λ xs. IsPrefix xs ((state_of dims all sent got s).pushed e d)) (sym (for-dims dims (all d).dims (pulled_of (all d) (ending_at dims d got)) e s (t.same_dims d to) from))
+      (subst (IsPrefix (pulled_of (all d) (ending_at dims d got) e s)) (sym (for-dims dims (all s).dims (pushed_to (all s) (starting_at dims s sent)) e d (t.same_dims s from) to))
       (begins_trans (pulled_of (all d) (ending_at dims d got) e s) (flow dims got s d (length dims) e) (pushed_to (all s) (starting_at dims s sent) e d)
       ((one d to).pulled_front e s from)
       (begins_trans (flow dims got s d (length dims) e) (flow dims sent s d 1 e) (pushed_to (all s) (starting_at dims s sent) e d)
@@ -176,8 +176,8 @@ module _ (dims : List ℕ) (cap slots r : ℕ) (old new : ℕ → Buffers) (sent
       let grown : (later r).pulled e s ≡ (before r).pulled e s ++ x ∷ [] = ap (λ p. p.pulled e s) own.is ∙ with-item_here (before r).pulled e s x in
       let stay : (later s).pushed e r ≡ (before s).pushed e r = ap (λ f. f e r) (pushed_stay (ap (λ p. p.pushed) own.is) s h) in
       next_of ((before r).pulled e s) ((before s).pushed e r) x
-      (subst (λ ys. Begins ((before r).pulled e s ++ x ∷ []) ys) stay
-      (subst (λ xs. Begins xs ((later s).pushed e r)) grown (in_order dims cap slots new sent' got' stays_together e s r h c.rank)))
+      (subst (λ ys. IsPrefix ((before r).pulled e s ++ x ∷ []) ys) stay
+      (subst (λ xs. IsPrefix xs ((later s).pushed e r)) grown (in_order dims cap slots new sent' got' stays_together e s r h c.rank)))
 
   complete_allowed : IsOwnStep Complete (before r) (later r) → MayComplete (ranks dims) r before
   unfolding later

@@ -7,8 +7,8 @@ use Rattle.std.proofs.lemmas.List.Elements.{filter-append}
 use Rattle.std.proofs.lemmas.List.Concat.{flat_map-append}
 use Rattle.bale_items.specs.declared.item.Entry.{Entry}
 use Rattle.item_buffer.specs.Contents.{Shipped}
-use Rattle.port_bank.specs.Logs.{Logs, lasts, segment, added}
-use Rattle.port_bank.specs.Flow.{hop_link, items_of, flow}
+use Rattle.port_bank.specs.Logs.{Logs, lasts, segment, with_parcel}
+use Rattle.port_bank.specs.Flow.{hop_link, passing_items, flow}
 use Rattle.route_tensor.specs.Pair.{belongs}
 use Rattle.port_bank.proofs.Posts.{segment_then}
 use Rattle.port_bank.proofs.Segments.{lasts_first}
@@ -52,32 +52,32 @@ items_among-append keep xs ys = ap (map (λ e. e.item)) (filter-append keep xs y
 pub entries_grown : (log : List Shipped) (p : Shipped) → flat_map (λ q. q.entries) (log ++ p ∷ []) ≡ flat_map (λ q. q.entries) log ++ p.entries
 entries_grown log p = flat_map-append (λ q. q.entries) log (p ∷ []) ∙ ap (λ u. flat_map (λ q. q.entries) log ++ u) (append-nil p.entries)
 
-pub items_grown : (keep : Entry → Bool) (log : List Shipped) (p : Shipped) → items_of keep (log ++ p ∷ []) ≡ items_of keep log ++ items_among keep p.entries
+pub items_grown : (keep : Entry → Bool) (log : List Shipped) (p : Shipped) → passing_items keep (log ++ p ∷ []) ≡ passing_items keep log ++ items_among keep p.entries
 items_grown keep log p = ap (items_among keep) (entries_grown log p) ∙ items_among-append keep (flat_map (λ q. q.entries) log) p.entries
 
 -- a flow after a post or a collect
 module _ (dims : List ℕ) (logs : Logs) (l : ℕ) (p : Shipped) (s d h : ℕ) where
-  pub flow_here : hop_link dims s d h ≡ l → flow dims (added logs l p) s d h (lasts (logs l)) ≡ flow dims logs s d h (lasts (logs l)) ++ items_among (belongs dims s d h) p.entries
+  pub flow_here : hop_link dims s d h ≡ l → flow dims (with_parcel logs l p) s d h (lasts (logs l)) ≡ flow dims logs s d h (lasts (logs l)) ++ items_among (belongs dims s d h) p.entries
   flow_here same =
       let keep = belongs dims s d h in
       let e : ℕ = lasts (logs l) in
-      ap (λ m. items_of keep (segment e (added logs l p m))) same
-      ∙ (ap (λ log. items_of keep (segment e log)) (added-here logs l p)
-      ∙ (ap (items_of keep) (segment_grown (logs l) p)
+      ap (λ m. passing_items keep (segment e (with_parcel logs l p m))) same
+      ∙ (ap (λ log. passing_items keep (segment e log)) (added-here logs l p)
+      ∙ (ap (passing_items keep) (segment_grown (logs l) p)
       ∙ (items_grown keep (segment e (logs l)) p
-      ∙ ap (λ m. items_of keep (segment e (logs m)) ++ items_among keep p.entries) (sym same))))
+      ∙ ap (λ m. passing_items keep (segment e (logs m)) ++ items_among keep p.entries) (sym same))))
 
-  pub flow_elsewhere : (e : ℕ) → hop_link dims s d h ≢ l → flow dims (added logs l p) s d h e ≡ flow dims logs s d h e
-  flow_elsewhere e ne = flow_at dims (added logs l p) logs s d h e (added-other logs l (hop_link dims s d h) p ne)
+  pub flow_elsewhere : (e : ℕ) → hop_link dims s d h ≢ l → flow dims (with_parcel logs l p) s d h e ≡ flow dims logs s d h e
+  flow_elsewhere e ne = flow_at dims (with_parcel logs l p) logs s d h e (added-other logs l (hop_link dims s d h) p ne)
 
-  pub flow_at_other_epoch : (e : ℕ) → e ≢ lasts (logs l) → flow dims (added logs l p) s d h e ≡ flow dims logs s d h e
+  pub flow_at_other_epoch : (e : ℕ) → e ≢ lasts (logs l) → flow dims (with_parcel logs l p) s d h e ≡ flow dims logs s d h e
   flow_at_other_epoch e ne =
       elim (cases_eq (hop_link dims s d h) l) [
         | inl same ↦
             let keep = belongs dims s d h in
-            ap (λ m. items_of keep (segment e (added logs l p m))) same
-            ∙ (ap (λ log. items_of keep (segment e log)) (added-here logs l p)
-            ∙ (ap (items_of keep) (segment_then e (logs l) p ne)
-            ∙ ap (λ m. items_of keep (segment e (logs m))) (sym same)))
+            ap (λ m. passing_items keep (segment e (with_parcel logs l p m))) same
+            ∙ (ap (λ log. passing_items keep (segment e log)) (added-here logs l p)
+            ∙ (ap (passing_items keep) (segment_then e (logs l) p ne)
+            ∙ ap (λ m. passing_items keep (segment e (logs m))) (sym same)))
         | inr other ↦ flow_elsewhere e other
       ]

@@ -11,7 +11,7 @@ use Rattle.route_tensor.specs.Ends.{hop_at, sender_at, reader_at}
 use Rattle.route_tensor.specs.Neighbour.{out_index, in_index}
 use Rattle.port_bank.specs.Logs.{Logs}
 use Rattle.port_bank.specs.Flow.{hop_link}
-use Rattle.list_laws.specs.Lists.{Begins, Ends}
+use Rattle.list_laws.specs.Lists.{IsPrefix, Ends}
 use Rattle.port_bank.proofs.Fronts.{begins_refl}
 use Rattle.bale_items.specs.Counters.{RoseOrFull}
 use Rattle.hop_core.specs.declared.phase.Phase.TheVariants.{Complete}
@@ -114,8 +114,8 @@ module _ (dims : List ℕ) (rank : ℕ) (st0 st1 st2 st3 st4 : State) (done : Bo
   same_in : (l : ℕ) → in_of st4 l ≡ in_of st3 l
   same_in l = λ i. slice_index_or (ins i) (in_index ((ready_again.same_dims ∙ sym passed.ready.same_dims) i) l) no_in
 
-  begins : (l : ℕ) → Begins (out_of st0 l).parcel.untaken (out_of st3 l).parcel.untaken
-  begins l = subst (λ xs. Begins xs (out_of st3 l).parcel.untaken) (ap (λ o. o.parcel.untaken) (same_out l)) (passed.waits l)
+  begins : (l : ℕ) → IsPrefix (out_of st0 l).parcel.untaken (out_of st3 l).parcel.untaken
+  begins l = subst (λ xs. IsPrefix xs (out_of st3 l).parcel.untaken) (ap (λ o. o.parcel.untaken) (same_out l)) (passed.waits l)
 
   whole_way : GoesOn (record st0 { done = done; pulled = None }) st4 sent sent'' got got''
   whole_way =
@@ -144,7 +144,7 @@ module _ (dims : List ℕ) (rank : ℕ) (st0 st1 st2 st3 st4 : State) (done : Bo
           let before : (in_of st2 l).parcel.untaken ≡ (in_of st0 l).parcel.untaken ++ flat_map (λ p. p.entries) more =
           lies l more (here l h) (reads l to) (sym (ap (λ g. g l) same_got) ∙ e) ∙ ap (λ u. (in_of u l).parcel.untaken ++ flat_map (λ p. p.entries) more) says in
           subst (Ends ((in_of st0 l).parcel.untaken ++ flat_map (λ p. p.entries) more)) (sym (ap (λ x. x.parcel.untaken) (same_in l))) (subst (λ xs. Ends xs (in_of st3 l).parcel.untaken) before (passed.lies l));
-      waits = λ l h from same. subst (Begins (out_of st0 l).parcel.untaken) (sym (waits l (here l h) (sends l from) (posts_none l same))) (begins l);
+      waits = λ l h from same. subst (IsPrefix (out_of st0 l).parcel.untaken) (sym (waits l (here l h) (sends l from) (posts_none l same))) (begins l);
       one_sent = λ l h from. omega (arith, at_most_one _ _ _ (was_posted l (here l h) (sends l from)), ap (λ s. length (s l)) same_sent);
       one_got = λ l h to. omega (arith, (asked l (here l h) (reads l to)).once, ap (λ g. length (g l)) same_got);
       not_at_once = λ not_done over.

@@ -12,7 +12,7 @@ use Rattle.route_tensor.specs.Grid.{ranks, IsGrid}
 use Rattle.route_tensor.specs.Tag.{IsFair}
 use Rattle.route_tensor.specs.Link.{links}
 use Rattle.route_tensor.specs.Ends.{hop_at, sender_at, reader_at}
-use Rattle.port_bank.specs.Logs.{Logs, lasts, segment, added, lasts_in}
+use Rattle.port_bank.specs.Logs.{Logs, lasts, segment, with_parcel, lasts_in}
 use Rattle.port_bank.specs.Flow.{hop_link, flow}
 use Rattle.route_tensor.specs.Pair.{belongs, PassesThrough}
 use Rattle.port_bank.proofs.Fronts.{begins_trans}
@@ -74,7 +74,7 @@ lasts_of epoch false = omega arith
 module _ (b : Buffers) (waiting : ℕ → List Entry) (closed : ℕ → Bool) (sent got : Logs) (l : ℕ) (p : Shipped) (g : IsGrid b.dims) (a : Agrees b sent got)
     (below : l < links b.dims) (own : sender_at b.dims l ≡ b.rank) (still_open : b.closed l ≡ false) (entries : p.entries ≡ b.waiting l)
     (last : p.last ≡ true → HasArrived b l) (s : SentOn b waiting closed l p) where
-  sent_out : OutAgrees b.dims b.epoch l (waiting l) (closed l) (added sent l p l)
+  sent_out : OutAgrees b.dims b.epoch l (waiting l) (closed l) (with_parcel sent l p l)
   sent_out =
       let at : lasts (sent l) ≡ b.epoch = dated b sent got l p g a below own still_open entries last in
       record {
@@ -83,18 +83,18 @@ module _ (b : Buffers) (waiting : ℕ → List Entry) (closed : ℕ → Bool) (s
         fair = subst (All (λ e. IsFair b.dims (hop_at b.dims l) e.tag)) (sym s.emptied) (all_none (λ e. IsFair b.dims (hop_at b.dims l) e.tag));
       }
 
-  sent_outs : (m : ℕ) → m < links b.dims → sender_at b.dims m ≡ b.rank → OutAgrees b.dims b.epoch m (waiting m) (closed m) (added sent l p m)
+  sent_outs : (m : ℕ) → m < links b.dims → sender_at b.dims m ≡ b.rank → OutAgrees b.dims b.epoch m (waiting m) (closed m) (with_parcel sent l p m)
   sent_outs m h from =
       elim (cases_eq m l) [
-        | inl same ↦ subst (λ k. OutAgrees b.dims b.epoch k (waiting k) (closed k) (added sent l p k)) (sym same) sent_out
+        | inl same ↦ subst (λ k. OutAgrees b.dims b.epoch k (waiting k) (closed k) (with_parcel sent l p k)) (sym same) sent_out
         | inr other ↦
-            subst (λ w. OutAgrees b.dims b.epoch m w (closed m) (added sent l p m)) (sym (s.waits m h from other))
-            (subst (λ c. OutAgrees b.dims b.epoch m (b.waiting m) c (added sent l p m)) (sym (s.stays m h from other))
+            subst (λ w. OutAgrees b.dims b.epoch m w (closed m) (with_parcel sent l p m)) (sym (s.waits m h from other))
+            (subst (λ c. OutAgrees b.dims b.epoch m (b.waiting m) c (with_parcel sent l p m)) (sym (s.stays m h from other))
             (subst (λ log. OutAgrees b.dims b.epoch m (b.waiting m) (b.closed m) log) (sym (added-other sent l m p other)) (a.outs m h from)))
       ]
 
   sent_pairs : (x y h : ℕ) → PassesThrough b.dims b.rank x y h → flow b.dims got x y h b.epoch
-      ≡ flow b.dims (added sent l p) x y (h + 1) b.epoch ++ (items_among (belongs b.dims x y (h + 1)) (waiting (hop_link b.dims x y (h + 1))) ++ items_among (belongs b.dims x y h) (b.unread (hop_link b.dims x y h)))
+      ≡ flow b.dims (with_parcel sent l p) x y (h + 1) b.epoch ++ (items_among (belongs b.dims x y (h + 1)) (waiting (hop_link b.dims x y (h + 1))) ++ items_among (belongs b.dims x y h) (b.unread (hop_link b.dims x y h)))
   sent_pairs x y h pair =
       let keep = belongs b.dims x y (h + 1) in
       let rest : List Item = items_among (belongs b.dims x y h) (b.unread (hop_link b.dims x y h)) in
@@ -102,25 +102,25 @@ module _ (b : Buffers) (waiting : ℕ → List Entry) (closed : ℕ → Bool) (s
       elim (cases_eq (hop_link b.dims x y (h + 1)) l) [
         | inl same ↦
             came b sent got l p g a below own still_open entries last x y h pair same
-            ∙ ap (λ u. flow b.dims (added sent l p) x y (h + 1) b.epoch ++ (items_among keep u ++ rest)) (sym (ap waiting same ∙ s.emptied))
+            ∙ ap (λ u. flow b.dims (with_parcel sent l p) x y (h + 1) b.epoch ++ (items_among keep u ++ rest)) (sym (ap waiting same ∙ s.emptied))
         | inr other ↦
             a.pairs x y h pair
             ∙ (ap (λ u. u ++ (items_among keep (b.waiting (hop_link b.dims x y (h + 1))) ++ rest)) (sym (flow_elsewhere b.dims sent l p x y (h + 1) b.epoch other))
-            ∙ ap (λ u. flow b.dims (added sent l p) x y (h + 1) b.epoch ++ (items_among keep u ++ rest)) (sym (s.waits (hop_link b.dims x y (h + 1)) w.leaves w.from other)))
+            ∙ ap (λ u. flow b.dims (with_parcel sent l p) x y (h + 1) b.epoch ++ (items_among keep u ++ rest)) (sym (s.waits (hop_link b.dims x y (h + 1)) w.leaves w.from other)))
       ]
 
-  pub sent_agrees : Agrees (record b { waiting = waiting; closed = closed }) (added sent l p) got
+  pub sent_agrees : Agrees (record b { waiting = waiting; closed = closed }) (with_parcel sent l p) got
   sent_agrees = record {
     outs = sent_outs;
     ins = a.ins;
     law = post_law b sent got l p g a below own still_open entries last;
     pairs = sent_pairs;
     arrived = a.arrived;
-    own = λ m h from to. begins_trans (got m) (sent m) (added sent l p m) (a.own m h from to) (added_grows sent l p m);
+    own = λ m h from to. begins_trans (got m) (sent m) (with_parcel sent l p m) (a.own m h from to) (added_grows sent l p m);
   }
 
   -- and the rank pushed what it did before
-  sent_pushed : (rank : b.rank < ranks b.dims) (e d : ℕ) → d < ranks b.dims → pushed_to (record b { waiting = waiting; closed = closed }) (added sent l p) e d ≡ pushed_to b sent e d
+  sent_pushed : (rank : b.rank < ranks b.dims) (e d : ℕ) → d < ranks b.dims → pushed_to (record b { waiting = waiting; closed = closed }) (with_parcel sent l p) e d ≡ pushed_to b sent e d
   sent_pushed rank e d to =
       let keep = belongs b.dims b.rank d 1 in
       let m : ℕ = hop_link b.dims b.rank d 1 in
@@ -128,15 +128,15 @@ module _ (b : Buffers) (waiting : ℕ → List Entry) (closed : ℕ → Bool) (s
       elim (cases_eq m l) [
         | inl same ↦ elim (cases_eq e b.epoch) [
           | inl now ↦
-              let here : flow b.dims (added sent l p) b.rank d 1 b.epoch ≡ flow b.dims sent b.rank d 1 b.epoch ++ items_among keep p.entries =
-              subst (λ n. flow b.dims (added sent l p) b.rank d 1 n ≡ flow b.dims sent b.rank d 1 n ++ items_among keep p.entries)
+              let here : flow b.dims (with_parcel sent l p) b.rank d 1 b.epoch ≡ flow b.dims sent b.rank d 1 b.epoch ++ items_among keep p.entries =
+              subst (λ n. flow b.dims (with_parcel sent l p) b.rank d 1 n ≡ flow b.dims sent b.rank d 1 n ++ items_among keep p.entries)
               (dated b sent got l p g a below own still_open entries last) (flow_here b.dims sent l p b.rank d 1 same) in
               let none : items_among keep (waiting m) ≡ [] = ap (items_among keep) (ap waiting same ∙ s.emptied) in
               let full : items_among keep p.entries ≡ items_among keep (b.waiting m) = ap (items_among keep) (entries ∙ ap b.waiting (sym same)) in
-              ap (λ n. flow b.dims (added sent l p) b.rank d 1 n ++ cond (n == b.epoch) (items_among keep (waiting m)) []) now
-              ∙ (ap (λ c. flow b.dims (added sent l p) b.rank d 1 b.epoch ++ cond c (items_among keep (waiting m)) []) (eq-eqb b.epoch b.epoch refl)
-              ∙ (ap (λ u. flow b.dims (added sent l p) b.rank d 1 b.epoch ++ u) none
-              ∙ (append-nil (flow b.dims (added sent l p) b.rank d 1 b.epoch)
+              ap (λ n. flow b.dims (with_parcel sent l p) b.rank d 1 n ++ cond (n == b.epoch) (items_among keep (waiting m)) []) now
+              ∙ (ap (λ c. flow b.dims (with_parcel sent l p) b.rank d 1 b.epoch ++ cond c (items_among keep (waiting m)) []) (eq-eqb b.epoch b.epoch refl)
+              ∙ (ap (λ u. flow b.dims (with_parcel sent l p) b.rank d 1 b.epoch ++ u) none
+              ∙ (append-nil (flow b.dims (with_parcel sent l p) b.rank d 1 b.epoch)
               ∙ (here
               ∙ (ap (λ u. flow b.dims sent b.rank d 1 b.epoch ++ u) full
               ∙ (ap (λ c. flow b.dims sent b.rank d 1 b.epoch ++ cond c (items_among keep (b.waiting m)) []) (sym (eq-eqb b.epoch b.epoch refl))
@@ -151,10 +151,10 @@ module _ (b : Buffers) (waiting : ℕ → List Entry) (closed : ℕ → Bool) (s
             ∙ ap (λ u. flow b.dims sent b.rank d 1 e ++ cond (e == b.epoch) (items_among keep u) []) (s.waits m f.below f.sender other)
       ]
 
-  pub sent_part : b.rank < ranks b.dims → part_of (record b { waiting = waiting; closed = closed }) (added sent l p) got ≡ part_of b sent got
+  pub sent_part : b.rank < ranks b.dims → part_of (record b { waiting = waiting; closed = closed }) (with_parcel sent l p) got ≡ part_of b sent got
   sent_part rank =
       ap (λ f. record (part_of b sent got) { pushed = f })
-      (lists_same (ranks b.dims) (pushed_to (record b { waiting = waiting; closed = closed }) (added sent l p)) (pushed_to b sent) (sent_pushed rank))
+      (lists_same (ranks b.dims) (pushed_to (record b { waiting = waiting; closed = closed }) (with_parcel sent l p)) (pushed_to b sent) (sent_pushed rank))
 
 -- buffers that are the same on each own link
 pub record SameOn (b : Buffers) (waiting unread : ℕ → List Entry) (closed ended : ℕ → Bool) : Type 0 where

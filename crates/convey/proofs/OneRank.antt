@@ -10,7 +10,7 @@ use Rattle.route_tensor.specs.Ends.{hop_at, sender_at, reader_at}
 use Rattle.port_bank.specs.Logs.{Logs, lasts, starting_at, ending_at, lasts_in}
 use Rattle.port_bank.specs.Flow.{hop_link, flow}
 use Rattle.route_tensor.specs.Pair.{belongs}
-use Rattle.list_laws.specs.Lists.{Begins}
+use Rattle.list_laws.specs.Lists.{IsPrefix}
 use Rattle.port_bank.specs.Relay.{RelayLaw}
 use Rattle.port_bank.proofs.Fronts.{begins_more, begins_same}
 use Rattle.port_bank.proofs.Kept.{flow_at, law_own}
@@ -57,7 +57,7 @@ last_link dims s r g from to =
       hop = hop-on_route dims s r (length dims) g from to some (omega arith);
     }
 
-begins_take : {T : Type 0} (n : ℕ) (xs : List T) → Begins (take n xs) xs
+begins_take : {T : Type 0} (n : ℕ) (xs : List T) → IsPrefix (take n xs) xs
 begins_take n xs = record { rest = drop n xs; is = sym (take-append-drop n xs) }
 
 take_whole : {T : Type 0} (n : ℕ) (xs : List T) → n ≡ 0 → take (length xs - n) xs ≡ xs
@@ -76,10 +76,10 @@ completed_now n e false h same = absurd (omega arith)
 -- what a rank sent on hop 1, it pushed
 pub record OneRank (dims : List ℕ) (r : ℕ) (b : Buffers) (sent got : Logs) : Type 0 where
   pub law : RelayLaw dims r sent got
-  pub pushed_front : (e d : ℕ) → d < ranks dims → Begins (flow dims sent r d 1 e) (pushed_to b (starting_at dims r sent) e d)
+  pub pushed_front : (e d : ℕ) → d < ranks dims → IsPrefix (flow dims sent r d 1 e) (pushed_to b (starting_at dims r sent) e d)
   pub pushed_ended : (e d : ℕ) → d < ranks dims → e < lasts (sent (hop_link dims r d 1)) → pushed_to b (starting_at dims r sent) e d ≡ flow dims sent r d 1 e
   pub through : (e d : ℕ) → d < ranks dims → e < lasts (sent (hop_link dims r d 1)) → IsThrough e (part_of b (starting_at dims r sent) (ending_at dims r got))
-  pub pulled_front : (e s : ℕ) → s < ranks dims → Begins (pulled_of b (ending_at dims r got) e s) (flow dims got s r (length dims) e)
+  pub pulled_front : (e s : ℕ) → s < ranks dims → IsPrefix (pulled_of b (ending_at dims r got) e s) (flow dims got s r (length dims) e)
   pub completes : (s : ℕ) → b.complete ≡ true → s < ranks dims → b.epoch < lasts (got (hop_link dims s r (length dims)))
   pub pulled_all : (s : ℕ) → b.complete ≡ true → s < ranks dims → pulled_of b (ending_at dims r got) b.epoch s ≡ flow dims got s r (length dims) b.epoch
   pub completed : (e s : ℕ) → e < cond b.complete (b.epoch + 1) b.epoch → s < ranks dims → e < lasts (got (hop_link dims s r (length dims)))
@@ -101,7 +101,7 @@ module _ (b : Buffers) (sent got : Logs) (g : IsGrid b.dims) (own : b.rank < ran
       let l = last_link b.dims s b.rank g from own in
       flow_at b.dims (ending_at b.dims b.rank got) got s b.rank (length b.dims) e (ending-own b.dims b.rank got (hop_link b.dims s b.rank (length b.dims)) l.reader)
 
-  own_pushed : (e d : ℕ) → d < ranks b.dims → Begins (flow b.dims sent b.rank d 1 e) (pushed_to b (starting_at b.dims b.rank sent) e d)
+  own_pushed : (e d : ℕ) → d < ranks b.dims → IsPrefix (flow b.dims sent b.rank d 1 e) (pushed_to b (starting_at b.dims b.rank sent) e d)
   own_pushed e d to =
       let more : List Item = cond (e == b.epoch) (items_among (belongs b.dims b.rank d 1) (b.waiting (hop_link b.dims b.rank d 1))) [] in
       begins_same (flow b.dims sent b.rank d 1 e) (flow b.dims sent b.rank d 1 e ++ more) (pushed_to b (starting_at b.dims b.rank sent) e d)
@@ -155,7 +155,7 @@ module _ (b : Buffers) (sent got : Logs) (g : IsGrid b.dims) (own : b.rank < ran
       ap (λ u. u ++ cond (e == b.epoch) (items_among (belongs b.dims b.rank d 1) (b.waiting (hop_link b.dims b.rank d 1))) []) (sent_flow e d to)
       ∙ (ap (λ u. flow b.dims sent b.rank d 1 e ++ u) (nothing_more e d to (sent_ended e d to h)) ∙ append-nil (flow b.dims sent b.rank d 1 e))
 
-  own_pulled : (e s : ℕ) → s < ranks b.dims → Begins (pulled_of b (ending_at b.dims b.rank got) e s) (flow b.dims got s b.rank (length b.dims) e)
+  own_pulled : (e s : ℕ) → s < ranks b.dims → IsPrefix (pulled_of b (ending_at b.dims b.rank got) e s) (flow b.dims got s b.rank (length b.dims) e)
   own_pulled e s from =
       let came : List Item = flow b.dims (ending_at b.dims b.rank got) s b.rank (length b.dims) e in
       begins_same (take (length came - unread_of b e s) came) came (flow b.dims got s b.rank (length b.dims) e) (got_flow e s from) (begins_take (length came - unread_of b e s) came)

@@ -8,8 +8,8 @@ use Rattle.item_buffer.specs.Contents.{Contents, Shipped, blank}
 use Rattle.route_tensor.specs.Link.{links}
 use Rattle.route_tensor.specs.Ends.{hop_at, sender_at}
 use Rattle.route_tensor.specs.Neighbour.{hop_to, out_index}
-use Rattle.port_bank.specs.Logs.{Logs, lasts, added}
-use Rattle.list_laws.specs.Lists.{Begins}
+use Rattle.port_bank.specs.Logs.{Logs, lasts, with_parcel}
+use Rattle.list_laws.specs.Lists.{IsPrefix}
 use Rattle.port_bank.specs.Relay.{RelayLaw}
 use Rattle.port_bank.specs.Shapes.{IsFilled, IsConveyorShape}
 use Rattle.port_bank.proofs.Fronts.{begins_refl}
@@ -86,7 +86,7 @@ pub due_ending : (st : State) (l : ℕ) → at_end st.dims st.ins st.done (hop_a
 due_ending st l a b = due_on (length (out_of st l).parcel.untaken == st.cap) st.steady (is_empty (out_of st l).parcel) (at_end st.dims st.ins st.done (hop_at st.dims l)) (out_of st l).closed (inr (a, b))
 
 -- a full parcel only grows, so it stays full
-pub still_full : (xs ys : List Entry) (cap : ℕ) → Begins xs ys → length ys ≤ cap → length xs ≡ cap → length ys ≡ cap
+pub still_full : (xs ys : List Entry) (cap : ℕ) → IsPrefix xs ys → length ys ≤ cap → length xs ≡ cap → length ys ≡ cap
 still_full xs ys cap b fits full = omega (arith, ap length b.is, length-append xs b.rest)
 
 -- a closed link isn't due
@@ -131,12 +131,12 @@ post_filled st l q s d entries last open' =
       | inr (inr ends) ↦ absurd (false≢true (sym open' ∙ (last ∙ ends.0)))
     ])
 
-fills_more : (steady : Bool) (cap : ℕ) (sent : Logs) (l : ℕ) (q : Shipped) → (q.last ≡ false → IsFilled steady cap q) → (m : ℕ) (more : List Shipped) → added sent l q m ≡ sent m ++ more → IsConveyorShape steady cap more
+fills_more : (steady : Bool) (cap : ℕ) (sent : Logs) (l : ℕ) (q : Shipped) → (q.last ≡ false → IsFilled steady cap q) → (m : ℕ) (more : List Shipped) → with_parcel sent l q m ≡ sent m ++ more → IsConveyorShape steady cap more
 fills_more steady cap sent l q filled m more e =
     let P = λ (p : Shipped). p.last ≡ false → IsFilled steady cap p in
     elim (cases_eq m l) [
       | inl same ↦
-          let here : added sent l q l ≡ sent l ++ more = subst (λ k. added sent l q k ≡ sent k ++ more) same e in
+          let here : with_parcel sent l q l ≡ sent l ++ more = subst (λ k. with_parcel sent l q k ≡ sent k ++ more) same e in
           subst (All P) (append_cancel_left (sent l) (q ∷ []) more (sym (added-here sent l q) ∙ here)) (all_one P q filled)
       | inr other ↦ none_filled steady cap (sent m) more (sym (added-other sent l m q other) ∙ e)
     ]
@@ -207,10 +207,10 @@ module _ (dims : List ℕ) (rank : ℕ) (st new : State) (link : ℕ) (o : Out) 
   arrived : q.last ≡ true → HasArrived (buffers_of st) link
   arrived e = (end_of st link s here_below (sym last ∙ e)).arrived
 
-  pub may_post : RelayLaw dims rank (added sent link q) got
+  pub may_post : RelayLaw dims rank (with_parcel sent link q) got
   may_post =
-      subst (λ k. RelayLaw dims k (added sent link q) got) r.same_rank
-      (subst (λ ds. RelayLaw ds st.rank (added sent link q) got) r.same_dims
+      subst (λ k. RelayLaw dims k (with_parcel sent link q) got) r.same_rank
+      (subst (λ ds. RelayLaw ds st.rank (with_parcel sent link q) got) r.same_dims
       (post_law (buffers_of st) sent got link q s.grid r.agrees here_below here_own open_now entries arrived))
 
   pub dated : st.epoch ≡ lasts (sent link)
@@ -218,7 +218,7 @@ module _ (dims : List ℕ) (rank : ℕ) (st new : State) (link : ℕ) (o : Out) 
 
   served : (logs : Logs) → new ≡ with_open st (out_index st.dims link) o → Agrees (buffers_of (with_open st (out_index st.dims link) o)) logs got
       → at_rest (part_of (buffers_of (with_open st (out_index st.dims link) o)) logs got) ≡ at_rest (part_of (buffers_of st) sent got)
-      → ((l : ℕ) → Begins (sent l) (logs l)) → ((l : ℕ) (more : List Shipped) → logs l ≡ sent l ++ more → IsConveyorShape st.steady st.cap more)
+      → ((l : ℕ) → IsPrefix (sent l) (logs l)) → ((l : ℕ) (more : List Shipped) → logs l ≡ sent l ++ more → IsConveyorShape st.steady st.cap more)
       → Served dims rank st new link sent logs got got'
   served logs e agrees part grows fills =
       subst (λ g. Served dims rank st new link sent logs got g) (sym same)
@@ -274,13 +274,13 @@ module _ (dims : List ℕ) (rank : ℕ) (st new : State) (link : ℕ) (o : Out) 
     stays = λ l h from other. ap (λ y. y.closed) (open_other st st.rank link l o s here_below h here_own from other);
   }
 
-  pub served_one : new ≡ with_open st (out_index st.dims link) o → o.parcel.untaken ≡ [] → o.closed ≡ q.last → sent' ≡ added sent link q → Served dims rank st new link sent sent' got got'
+  pub served_one : new ≡ with_open st (out_index st.dims link) o → o.parcel.untaken ≡ [] → o.closed ≡ q.last → sent' ≡ with_parcel sent link q → Served dims rank st new link sent sent' got got'
   served_one e none closes same_sent =
       let n : State = with_open st (out_index st.dims link) o in
       let k = sent_on none closes in
       subst (λ logs. Served dims rank st new link sent logs got got') (sym same_sent)
-      (served (added sent link q) e
-      (forget_agrees (record (buffers_of st) { waiting = (buffers_of n).waiting; closed = (buffers_of n).closed }) (added sent link q) got
+      (served (with_parcel sent link q) e
+      (forget_agrees (record (buffers_of st) { waiting = (buffers_of n).waiting; closed = (buffers_of n).closed }) (with_parcel sent link q) got
       (sent_agrees (buffers_of st) (buffers_of n).waiting (buffers_of n).closed sent got link q s.grid r.agrees here_below here_own open_now entries arrived k))
       (ap at_rest (sent_part (buffers_of st) (buffers_of n).waiting (buffers_of n).closed sent got link q s.grid r.agrees here_below here_own open_now entries arrived k s.rank))
       (added_grows sent link q)

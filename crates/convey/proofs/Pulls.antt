@@ -18,7 +18,7 @@ use Rattle.route_tensor.proofs.Ends.{hop_at-link, sender_at-link, reader_at-link
 use Rattle.route_tensor.proofs.Neighbours.{hop_to_is, from_neighbour, in_index-link_from}
 use Rattle.port_bank.specs.Logs.{Logs}
 use Rattle.hop_core.specs.Link.{In, no_in, with_first_taken, with_back, is_empty}
-use Rattle.hop_core.specs.State.{State, in_at, lowest, lowest_unread, ins_of_hop, pull_from, pulled_from, unpulled}
+use Rattle.hop_core.specs.State.{State, in_at, lowest, lowest_unread, ins_of_hop, pull_from, pulled_from, after_unpull}
 use Rattle.hop_core.specs.Standing.{IsState}
 use Rattle.port_bank.specs.Machine.{IsOwnStep}
 use Rattle.port_bank.specs.Machine.Step.{Pull, Unpull, Idle}
@@ -312,7 +312,7 @@ some_back : (o : Option Entry) → IsSome o → (e : Entry) × (o ≡ Some e)
 some_back None h = absurd (false≢true h)
 some_back (Some e) h = (e, refl)
 
-pub unpulled_kept : (st : State) (p : Option ℕ) → st.pulled ≡ p → IsState st → (sent got : Logs) → Agrees (buffers_of st) sent got → Agrees (buffers_of (unpulled st p)) sent got
+pub unpulled_kept : (st : State) (p : Option ℕ) → st.pulled ≡ p → IsState st → (sent got : Logs) → Agrees (buffers_of st) sent got → Agrees (buffers_of (after_unpull st p)) sent got
 unpulled_kept st None q s sent got a = a
 unpulled_kept st (Some i) q s sent got a =
     let c = s.can_unpull i q in
@@ -320,7 +320,7 @@ unpulled_kept st (Some i) q s sent got a =
     subst (λ o. Agrees (buffers_of (record st { ins = slice_set st.ins i (record (in_at st i) { parcel = with_back o (in_at st i).parcel }); pulled = None })) sent got) (sym b.1)
     (unpulled_agrees st i s (record { within = c.within; hop = c.last_hop }) b.0 q b.1 sent got a)
 
-pub unpulled_some : (st : State) (p : Option ℕ) → st.pulled ≡ p → IsState st → is_some p ≡ true → (sent got : Logs) → Agrees (buffers_of st) sent got → IsOwnStep Unpull (part_of (buffers_of st) sent got) (part_of (buffers_of (unpulled st p)) sent got)
+pub unpulled_some : (st : State) (p : Option ℕ) → st.pulled ≡ p → IsState st → is_some p ≡ true → (sent got : Logs) → Agrees (buffers_of st) sent got → IsOwnStep Unpull (part_of (buffers_of st) sent got) (part_of (buffers_of (after_unpull st p)) sent got)
 unpulled_some st None q s h sent got a = absurd (false≢true h)
 unpulled_some st (Some i) q s h sent got a =
     let c = s.can_unpull i q in
@@ -328,11 +328,11 @@ unpulled_some st (Some i) q s h sent got a =
     subst (λ o. IsOwnStep Unpull (part_of (buffers_of st) sent got) (part_of (buffers_of (record st { ins = slice_set st.ins i (record (in_at st i) { parcel = with_back o (in_at st i).parcel }); pulled = None })) sent got)) (sym b.1)
     (unpulled_step st i s (record { within = c.within; hop = c.last_hop }) b.0 q b.1 sent got a)
 
-pub unpulled_none : (st : State) (p : Option ℕ) → st.pulled ≡ p → is_some p ≡ false → (sent got : Logs) → IsOwnStep Idle (part_of (buffers_of st) sent got) (part_of (buffers_of (unpulled st p)) sent got)
+pub unpulled_none : (st : State) (p : Option ℕ) → st.pulled ≡ p → is_some p ≡ false → (sent got : Logs) → IsOwnStep Idle (part_of (buffers_of st) sent got) (part_of (buffers_of (after_unpull st p)) sent got)
 unpulled_none st None q h sent got = record { may = tt; is = λ j. record (part_of (buffers_of st) sent got) { latest = option_map (λ x. sender_of st.dims x.1.tag (length st.dims) (sender_at st.dims x.0)) (back_of st (q j)) } }
 unpulled_none st (Some i) q h sent got = absurd (false≢true (sym h))
 
-pub unpulled_conveyor : (hops : ℕ) (st : State) (p : Option ℕ) → st.pulled ≡ p → IsConveyor hops st → IsConveyor hops (unpulled st p)
+pub unpulled_conveyor : (hops : ℕ) (st : State) (p : Option ℕ) → st.pulled ≡ p → IsConveyor hops st → IsConveyor hops (after_unpull st p)
 unpulled_conveyor hops st None q c = c
 unpulled_conveyor hops st (Some i) q c = record {
   hops_all = c.hops_all;

@@ -14,7 +14,7 @@ use Rattle.port_bank.specs.Flow.{hop_link}
 use Rattle.hop_core.specs.Link.{Out, no_out, no_in, with_entry}
 use Rattle.hop_core.specs.declared.phase.Phase.{Phase}
 use Rattle.hop_core.specs.declared.phase.Phase.TheVariants.{Dormant, Complete}
-use Rattle.hop_core.specs.State.{State, out_at, reopened, resumed, with_pushed}
+use Rattle.hop_core.specs.State.{State, out_at, out_in_new_epoch, in_in_new_epoch, with_pushed}
 use Rattle.hop_core.specs.Standing.{IsState}
 use Rattle.port_bank.specs.Machine.{IsOwnStep}
 use Rattle.port_bank.specs.Machine.Step.{Push, Reset, Idle}
@@ -99,17 +99,17 @@ get_or_map f (z ∷ xs) (suc i) x y h = get_or_map f xs i x y (omega arith)
 
 -- a reset
 abbrev pub reset_state : State → Phase → State
-reset_state st phase = record st { outs = map reopened st.outs; ins = map resumed st.ins; done = false; phase = phase; epoch = st.epoch + 1; pulled = None }
+reset_state st phase = record st { outs = map out_in_new_epoch st.outs; ins = map in_in_new_epoch st.ins; done = false; phase = phase; epoch = st.epoch + 1; pulled = None }
 
 module _ (st : State) (s : IsState st) (over : IsOver st) where
   next : State
   next = reset_state st Dormant
 
-  out_again : (l : ℕ) → l < links st.dims → out_of (reset_state st Dormant) l ≡ reopened (out_of st l)
-  out_again l h = let n = out_number st.dims l s.grid h in get_or_map reopened st.outs (out_index st.dims l) no_out no_out (omega (arith, n.within, s.all_outs))
+  out_again : (l : ℕ) → l < links st.dims → out_of (reset_state st Dormant) l ≡ out_in_new_epoch (out_of st l)
+  out_again l h = let n = out_number st.dims l s.grid h in get_or_map out_in_new_epoch st.outs (out_index st.dims l) no_out no_out (omega (arith, n.within, s.all_outs))
 
-  in_again : (l : ℕ) → l < links st.dims → in_of (reset_state st Dormant) l ≡ resumed (in_of st l)
-  in_again l h = let n = in_number st.dims l s.grid h in get_or_map resumed st.ins (in_index st.dims l) no_in no_in (omega (arith, n.within, s.all_ins))
+  in_again : (l : ℕ) → l < links st.dims → in_of (reset_state st Dormant) l ≡ in_in_new_epoch (in_of st l)
+  in_again l h = let n = in_number st.dims l s.grid h in get_or_map in_in_new_epoch st.ins (in_index st.dims l) no_in no_in (omega (arith, n.within, s.all_ins))
 
   to : ResetTo (buffers_of st) (buffers_of (reset_state st Dormant)).waiting (buffers_of (reset_state st Dormant)).unread (buffers_of (reset_state st Dormant)).closed (buffers_of (reset_state st Dormant)).ended
   to = record {

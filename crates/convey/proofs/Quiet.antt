@@ -7,7 +7,7 @@ use Rattle.route_tensor.specs.Link.{links}
 use Rattle.route_tensor.specs.Ends.{hop_at, sender_at, reader_at}
 use Rattle.route_tensor.proofs.Ends.{number_ends}
 use Rattle.port_bank.specs.Logs.{Logs, lasts, starting_at, ending_at, EndsLast, lasts_in}
-use Rattle.list_laws.specs.Lists.{Begins, Ends}
+use Rattle.list_laws.specs.Lists.{IsPrefix, Ends}
 use Rattle.port_bank.proofs.Fronts.{begins_whole}
 use Rattle.port_bank.proofs.Segments.{lasts_begins}
 use Rattle.port_bank.proofs.Marks.{all_got, mark_of, at_least, at_most}
@@ -118,7 +118,7 @@ module _ (dims : List ℕ) (r e : ℕ) (old new : State) (sent got : Logs) (q : 
       ]
 
 module _ (dims : List ℕ) (e : ℕ) (old new : ℕ → State) (sent got : Logs) (g : IsGrid dims)
-    (fronts : (l : ℕ) → l < links dims → Begins (got l) (sent l))
+    (fronts : (l : ℕ) → l < links dims → IsPrefix (got l) (sent l))
     (each : (r : ℕ) → r < ranks dims → IsQuiet dims r e (old r) (new r) sent got ⊎ IsBeyond dims r e sent got) where
   abbrev Quiet : ℕ → Type 0
   Quiet r = IsQuiet dims r e (old r) (new r) sent got

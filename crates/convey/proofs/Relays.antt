@@ -12,7 +12,7 @@ use Rattle.route_tensor.proofs.Coordinates.{coord-place_low, coord-place_high}
 use Rattle.port_bank.specs.Logs.{Logs}
 use Rattle.port_bank.specs.Flow.{hop_link}
 use Rattle.route_tensor.specs.Pair.{belongs, PassesThrough}
-use Rattle.list_laws.specs.Lists.{Begins, Ends}
+use Rattle.list_laws.specs.Lists.{IsPrefix, Ends}
 use Rattle.port_bank.proofs.Fronts.{begins_refl, begins_trans}
 use Rattle.port_bank.proofs.Kept.{between}
 use Rattle.port_bank.proofs.Routes.{hop-on_route, sender-on_route, reader-on_route}
@@ -55,7 +55,7 @@ ends_refl xs = record { front = []; is = refl }
 ends_trans : (xs ys zs : List Entry) → Ends xs ys → Ends ys zs → Ends xs zs
 ends_trans xs ys zs p q = record { front = p.front ++ q.front; is = p.is ∙ (ap (λ u. p.front ++ u) q.is ∙ sym (append_assoc p.front q.front zs)) }
 
-begins_from_front : (xs ys : List Entry) → take (length xs) ys ≡ xs → Begins xs ys
+begins_from_front : (xs ys : List Entry) → take (length xs) ys ≡ xs → IsPrefix xs ys
 begins_from_front xs ys e = record { rest = drop (length xs) ys; is = sym (take-append-drop (length xs) ys) ∙ ap (λ u. u ++ drop (length xs) ys) e }
 
 module _ (st : State) (outs : List Out) (ins : List In) (h : ℕ) (s : IsState st) (first : 1 ≤ h) (last : h < length st.dims)

@@ -15,7 +15,7 @@ use Rattle.route_tensor.specs.Link.{links}
 use Rattle.route_tensor.proofs.Tags.{tag_at_fair}
 use Rattle.route_tensor.specs.Ends.{hop_at, sender_at, reader_at}
 use Rattle.port_bank.specs.Logs.{Logs, lasts, segment, EndsLast, lasts_in}
-use Rattle.port_bank.specs.Flow.{hop_link, items_of, flow}
+use Rattle.port_bank.specs.Flow.{hop_link, passing_items, flow}
 use Rattle.route_tensor.specs.Pair.{belongs, PassesThrough}
 use Rattle.port_bank.proofs.Kept.{between}
 use Rattle.port_bank.proofs.Routes.{hop-on_route}
@@ -224,7 +224,7 @@ module _ (b : Buffers) (unread : ℕ → List Entry) (sent got : Logs) (m s : �
   came-is =
       let t = before.arrived m at.below at.reader at.hop in
       let yes : mine e ≡ true = of_sender s from route ∙ eq-eqb s s refl in
-      ap (λ n. items_of mine (segment b.epoch (got n))) route
+      ap (λ n. passing_items mine (segment b.epoch (got n))) route
       ∙ (ap (items_among mine) t.is
       ∙ (items_among-append mine t.front (b.unread m)
       ∙ ap (λ u. items_among mine t.front ++ u) (ap (items_among mine) p.head ∙ first_passes mine e (unread m) yes)))
@@ -393,8 +393,8 @@ module _ (b : Buffers) (waiting unread : ℕ → List Entry) (closed ended : ℕ
         let none : items_among (belongs b.dims x y (h + 1)) (waiting (hop_link b.dims x y (h + 1))) ++ items_among (belongs b.dims x y h) (unread (hop_link b.dims x y h)) ≡ [] =
         ap (λ u. items_among (belongs b.dims x y (h + 1)) u ++ items_among (belongs b.dims x y h) (unread (hop_link b.dims x y h))) (r.still_none (hop_link b.dims x y (h + 1)) w.leaves w.from)
         ∙ ap (items_among (belongs b.dims x y h)) (r.still_read (hop_link b.dims x y h) w.comes w.to) in
-        ap (items_of (belongs b.dims x y h)) (got_next (hop_link b.dims x y h) w.comes w.to)
-        ∙ (sym (ap (items_of (belongs b.dims x y (h + 1))) (sent_next (hop_link b.dims x y (h + 1)) w.leaves w.from))
+        ap (passing_items (belongs b.dims x y h)) (got_next (hop_link b.dims x y h) w.comes w.to)
+        ∙ (sym (ap (passing_items (belongs b.dims x y (h + 1))) (sent_next (hop_link b.dims x y (h + 1)) w.leaves w.from))
         ∙ (sym (append-nil (flow b.dims sent x y (h + 1) (b.epoch + 1)))
         ∙ ap (λ u. flow b.dims sent x y (h + 1) (b.epoch + 1) ++ u) (sym none)));
     arrived = λ l h to last. record { front = []; is = ap (flat_map (λ q. q.entries)) (got_next l h to) ∙ sym (r.still_read l h to) };

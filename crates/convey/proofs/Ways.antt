@@ -17,7 +17,7 @@ use Rattle.route_tensor.proofs.Neighbours.{to_neighbour, from_neighbour, out_ind
 use Rattle.port_bank.specs.declared.port.Port.{Ghosts}
 use Rattle.port_bank.specs.Logs.{Logs}
 use Rattle.port_bank.proofs.Frames.{port_at_first, port_then, ins_at_first, ins_then, outs_at_first, outs_then}
-use Rattle.list_laws.specs.Lists.{Begins}
+use Rattle.list_laws.specs.Lists.{IsPrefix}
 use Rattle.port_bank.proofs.Fronts.{begins_refl, begins_trans}
 use Rattle.port_bank.specs.Shapes.{IsFilled, IsConveyorShape}
 use Rattle.hop_core.specs.Link.{is_due, is_wanted}
@@ -99,7 +99,7 @@ pub end_at : (end_of : List ℕ → ℕ → ℕ) (dims ds : List ℕ) (rank r m 
 end_at end_of dims ds rank r m e f h = ap (λ q. end_of q m) e ∙ (h ∙ sym f)
 
 -- a list that grew and is as it was at first never grew
-pub never_grew : (xs ys zs : List Shipped) → Begins xs ys → Begins ys zs → zs ≡ xs → ys ≡ xs
+pub never_grew : (xs ys zs : List Shipped) → IsPrefix xs ys → IsPrefix ys zs → zs ≡ xs → ys ≡ xs
 never_grew xs ys zs p q e =
     let n : length p.rest ≡ 0 = omega (arith, ap length p.is, ap length q.is, ap length e, length-append xs p.rest, length-append ys q.rest) in
     p.is ∙ (ap (λ r. xs ++ r) (none_left p.rest n) ∙ append-nil xs)
@@ -112,7 +112,7 @@ at_most_one entries log log' p = elim p [
 ]
 
 -- what stays where nothing was sent
-pub stays_more : {X : Type 0} (sent sent' sent'' : Logs) (f f' f'' : ℕ → X) → ((l : ℕ) → Begins (sent l) (sent' l)) → ((l : ℕ) → Begins (sent' l) (sent'' l))
+pub stays_more : {X : Type 0} (sent sent' sent'' : Logs) (f f' f'' : ℕ → X) → ((l : ℕ) → IsPrefix (sent l) (sent' l)) → ((l : ℕ) → IsPrefix (sent' l) (sent'' l))
     → ((l : ℕ) → sent' l ≡ sent l → f' l ≡ f l) → ((l : ℕ) → sent'' l ≡ sent' l → f'' l ≡ f' l) → (l : ℕ) → sent'' l ≡ sent l → f'' l ≡ f l
 stays_more sent sent' sent'' f f' f'' p q a b l same =
     let before : sent' l ≡ sent l = never_grew (sent l) (sent' l) (sent'' l) (p l) (q l) same in
@@ -284,7 +284,7 @@ due_same b c l dims ins done cap steady out due =
 
 module _ (dims : List ℕ) (rank i link : ℕ) (b c d : State) (sent sent' sent'' : Logs) (looks looks' looks'' : ℕ → ℕ) (crowded' crowded'' : ℕ → Bool)
     (g : IsGrid dims) (own : rank < ranks dims) (below : i < sum dims) (k : Serving dims rank i b c sent sent' looks looks' crowded')
-    (grew : (l : ℕ) → Begins (sent l) (sent' l)) (grows : (l : ℕ) → Begins (sent' l) (sent'' l))
+    (grew : (l : ℕ) → IsPrefix (sent l) (sent' l)) (grows : (l : ℕ) → IsPrefix (sent' l) (sent'' l))
     (here : link ≡ link_to dims rank i) (o : OthersWait dims rank link c d sent' sent'' looks' looks'' crowded' crowded'') where
   other_out : (l : ℕ) → out_index dims l ≢ i → l ≢ link
   other_out l ne e = ne (ap (out_index dims) (e ∙ here) ∙ out_index-link_to dims rank i g own below)

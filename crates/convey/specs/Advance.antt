@@ -4,7 +4,7 @@ use Rattle.std.specs.List.{flat_map}
 use Rattle.bale_items.specs.Counters.{RoseOrFull}
 use Rattle.bale_items.specs.declared.item.Entry.{Entry}
 use Rattle.item_buffer.specs.Contents.{Shipped}
-use Rattle.list_laws.specs.Lists.{Begins, Ends}
+use Rattle.list_laws.specs.Lists.{IsPrefix, Ends}
 use Rattle.route_tensor.specs.Link.{links}
 use Rattle.route_tensor.specs.Ends.{hop_at, sender_at, reader_at}
 use Rattle.port_bank.specs.declared.port.Port.{Ghosts}
@@ -68,8 +68,8 @@ pub record HasSettled (told : Bool) (new : State) (answer : Progress) : Type 0 w
 -- (`port_bank::few_parcels_law`).
 pub record ListsGrow {P : Type 0} {cap : ℕ} {M : Type 0} (G : Ghosts P cap M) (old : State)
     (port port' : P) : Type 0 where
-  pub sent_grows : (l : ℕ) → Begins (G.sent port l) (G.sent port' l)
-  pub got_grows : (l : ℕ) → Begins (G.got port l) (G.got port' l)
+  pub sent_grows : (l : ℕ) → IsPrefix (G.sent port l) (G.sent port' l)
+  pub got_grows : (l : ℕ) → IsPrefix (G.got port l) (G.got port' l)
   pub one_sent : (l : ℕ) → l < links old.dims → sender_at old.dims l ≡ old.rank
       → length (G.sent port' l) ≤ length (G.sent port l) + 1
   pub one_got : (l : ℕ) → l < links old.dims → reader_at old.dims l ≡ old.rank

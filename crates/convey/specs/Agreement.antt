@@ -11,7 +11,7 @@ use Rattle.route_tensor.specs.Ends.{hop_at, sender_at, reader_at}
 use Rattle.port_bank.specs.Logs.{Logs, lasts, segment, EndsLast, lasts_in}
 use Rattle.port_bank.specs.Flow.{hop_link, flow}
 use Rattle.route_tensor.specs.Pair.{belongs, PassesThrough}
-use Rattle.list_laws.specs.Lists.{Begins, Ends}
+use Rattle.list_laws.specs.Lists.{IsPrefix, Ends}
 use Rattle.port_bank.specs.Relay.{RelayLaw}
 use Rattle.convey.specs.Buffers.{Buffers}
 
@@ -49,7 +49,7 @@ with_latest (Some p) l unread = if p.0 == l then p.1 ∷ unread else unread
 -- still in the inbox.
 -- arrived: on the last hop the entries that are unread, or may be put back, are the latest that
 -- came in this epoch.
--- own: on a link from the rank to itself, what was got is the front of what was sent.
+-- own: on a link from the rank to itself, what was got is a prefix of what was sent.
 pub record Agrees (b : Buffers) (sent got : Logs) : Type 0 where
   pub outs : (l : ℕ) → l < links b.dims → sender_at b.dims l ≡ b.rank
       → OutAgrees b.dims b.epoch l (b.waiting l) (b.closed l) (sent l)
@@ -63,4 +63,4 @@ pub record Agrees (b : Buffers) (sent got : Logs) : Type 0 where
   pub arrived : (l : ℕ) → l < links b.dims → reader_at b.dims l ≡ b.rank → hop_at b.dims l ≡ length b.dims
       → Ends (flat_map (λ p. p.entries) (segment b.epoch (got l))) (with_latest b.latest l (b.unread l))
   pub own : (l : ℕ) → l < links b.dims → sender_at b.dims l ≡ b.rank → reader_at b.dims l ≡ b.rank
-      → Begins (got l) (sent l)
+      → IsPrefix (got l) (sent l)

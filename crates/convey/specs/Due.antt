@@ -9,7 +9,7 @@ use Rattle.route_tensor.specs.Ends.{hop_at, sender_at, reader_at}
 use Rattle.route_tensor.specs.Link.{links, links_before}
 use Rattle.route_tensor.specs.Tag.{digit}
 use Rattle.route_tensor.specs.Neighbour.{link_to}
-use Rattle.port_bank.specs.Calls.{Call, swept}
+use Rattle.port_bank.specs.Calls.{Call, sweep_calls}
 use Rattle.port_bank.specs.Calls.Call.{Post, Collect}
 use Rattle.port_bank.specs.Logs.{Logs}
 use Rattle.hop_core.specs.Link.{is_due, is_wanted}
@@ -41,13 +41,13 @@ was_served st l log log' =
 -- ascending order.
 -- On the grid 2 rank 0 collects from link 0, and then from link 2.
 abbrev pub collects_of : State → List Call
-collects_of st = swept (λ l. (reader_at st.dims l == st.rank) && is_wanted (in_of st l)) Collect (links st.dims)
+collects_of st = sweep_calls (λ l. (reader_at st.dims l == st.rank) && is_wanted (in_of st l)) Collect (links st.dims)
 
 -- The posts of an advance on the links below m, by the state after it: one on each link out that
 -- was served, in ascending order.
 abbrev pub posts_below : State → Logs → Logs → ℕ → List Call
 posts_below st sent sent' m =
-    swept (λ l. (sender_at st.dims l == st.rank) && was_served st l (sent l) (sent' l)) Post m
+    sweep_calls (λ l. (sender_at st.dims l == st.rank) && was_served st l (sent l) (sent' l)) Post m
 
 -- Where an advance without memory stopped: at a link out that is due, after the posts on the links
 -- below it.

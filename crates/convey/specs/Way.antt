@@ -9,7 +9,7 @@ use Rattle.route_tensor.specs.Ends.{hop_at, sender_at, reader_at}
 use Rattle.port_bank.specs.declared.port.Port.{Ghosts}
 use Rattle.port_bank.specs.Frames.{SamePort, SameIns, SameOuts}
 use Rattle.port_bank.specs.Logs.{Logs}
-use Rattle.list_laws.specs.Lists.{Begins, Ends}
+use Rattle.list_laws.specs.Lists.{IsPrefix, Ends}
 use Rattle.port_bank.specs.Shapes.{IsConveyorShape}
 use Rattle.item_buffer.specs.Contents.{Shipped}
 use Rattle.port_bank.specs.Machine.{Part}
@@ -39,8 +39,8 @@ pub record GoesOn (old new : State) (sent sent' got got' : Logs) : Type 0 where
   pub done : new.done ≡ old.done
   pub phase : new.phase ≡ old.phase
   pub part : at_rest (part_of (buffers_of new) sent' got') ≡ at_rest (part_of (buffers_of old) sent got)
-  pub sent_grows : (l : ℕ) → Begins (sent l) (sent' l)
-  pub got_grows : (l : ℕ) → Begins (got l) (got' l)
+  pub sent_grows : (l : ℕ) → IsPrefix (sent l) (sent' l)
+  pub got_grows : (l : ℕ) → IsPrefix (got l) (got' l)
   pub fills : (l : ℕ) (more : List Shipped) → sent' l ≡ sent l ++ more → IsConveyorShape old.steady old.cap more
 
 -- What posts on links out leave of the rank's state and of its port.
@@ -92,7 +92,7 @@ WasPosted entries log log' = (log' ≡ log) ⊎ OneMore entries log log'
 pub record PassedOn (dims : List ℕ) (rank : ℕ) (old new : State) (sent got : Logs) : Type 0 where
   pub ready : IsReady dims rank new sent got
   pub goes_on : GoesOn old new sent sent got got
-  pub waits : (l : ℕ) → Begins (out_of old l).parcel.untaken (out_of new l).parcel.untaken
+  pub waits : (l : ℕ) → IsPrefix (out_of old l).parcel.untaken (out_of new l).parcel.untaken
   pub closes : (l : ℕ) → (out_of new l).closed ≡ (out_of old l).closed
   pub ends : (l : ℕ) → (in_of new l).ended ≡ (in_of old l).ended
   pub lies : (l : ℕ) → Ends (in_of old l).parcel.untaken (in_of new l).parcel.untaken
@@ -118,7 +118,7 @@ pub record MovesOn (old new : State) (done : Bool) (sent sent' got got' : Logs) 
       → got' l ≡ got l ++ more
       → Ends ((in_of old l).parcel.untaken ++ flat_map (λ p. p.entries) more) (in_of new l).parcel.untaken
   pub waits : (l : ℕ) → l < links old.dims → sender_at old.dims l ≡ old.rank → sent' l ≡ sent l
-      → Begins (out_of old l).parcel.untaken (out_of new l).parcel.untaken
+      → IsPrefix (out_of old l).parcel.untaken (out_of new l).parcel.untaken
   pub one_sent : (l : ℕ) → l < links old.dims → sender_at old.dims l ≡ old.rank → length (sent' l) ≤ length (sent l) + 1
   pub one_got : (l : ℕ) → l < links old.dims → reader_at old.dims l ≡ old.rank → length (got' l) ≤ length (got l) + 1
   pub not_at_once : old.done ≡ false → IsOver new → ⊥

@@ -4,10 +4,10 @@ ghost use Rattle.bale_items.specs.declared.item.Entry.{Entry};
 ghost use Rattle.route_tensor.specs.Grid.{ranks};
 ghost use Rattle.route_tensor.specs.Link.{links};
 ghost use Rattle.route_tensor.specs.Ends.{hop_at, sender_at, reader_at};
-ghost use Rattle.list_laws.specs.Lists.{Begins};
+ghost use Rattle.list_laws.specs.Lists.{IsPrefix};
 ghost use Rattle.hop_core.specs.Lent.Lent.{Given};
 ghost use Rattle.hop_core.specs.Link.{no_out, no_in};
-ghost use Rattle.hop_core.specs.State.{phase_of, in_at, lowest_unread, pull_from, pulled_from, pulls, unpulled, with_pushed, reopened, resumed};
+ghost use Rattle.hop_core.specs.State.{phase_of, in_at, lowest_unread, pull_from, pulled_from, pulls, after_unpull, with_pushed, out_in_new_epoch, in_in_new_epoch};
 ghost use Rattle.route_tensor.specs.Neighbour.{hop_to, neighbour};
 ghost use Rattle.route_tensor.specs.Tag.{IsFair, sender_of};
 ghost use Rattle.std.specs.List.{All};
@@ -172,6 +172,15 @@ impl<const CAP: usize, const HOPS: usize> Conveyor<CAP, HOPS> {
         self.state.unread()
     }
 
+    /// The link in from which the next pull takes, as `unread` tells, for one who only looks.
+    #[inline]
+    pub fn next_unread(&self) -> Option<u32>
+        requires begun { self.now.phase ≢ Phase.Dormant }
+        ensures { result ≡ lowest_unread self.now }
+    {
+        self.state.next_unread()
+    }
+
     /// The unread entries of that link, in order. As many pulls give their items, each with its
     /// sender.
     #[inline]
@@ -217,7 +226,7 @@ impl<const CAP: usize, const HOPS: usize> Conveyor<CAP, HOPS> {
     /// Puts the item back that the latest call pulled, if that call was a pull that gave one.
     pub fn unpull(&mut self) -> bool
         ensures value { result ≡ is_some self.old.pulled }
-        ensures state { self.new ≡ unpulled self.old self.old.pulled }
+        ensures state { self.new ≡ after_unpull self.old self.old.pulled }
         ensures kept { KeepsAgreement self.old self.new }
         ensures step_back { result ≡ true → IsStepOf Unpull self.old self.new }
         ensures step_none { result ≡ false → IsStepOf Idle self.old self.new }
@@ -271,7 +280,7 @@ impl<const CAP: usize, const HOPS: usize> Conveyor<CAP, HOPS> {
         // full.
         ensures waits { (l : ℕ) → l < links self.old.dims → sender_at self.old.dims l ≡ self.old.rank
             → P.sent port.new l ≡ P.sent port.old l
-            → Begins (out_of self.old l).parcel.untaken (out_of self.new l).parcel.untaken }
+            → IsPrefix (out_of self.old l).parcel.untaken (out_of self.new l).parcel.untaken }
         ensures held { (l : ℕ) (e : Entry) → l < links self.old.dims → reader_at self.old.dims l ≡ self.old.rank
             → hop_at self.old.dims l < length self.old.dims → slice_get (in_of self.new l).parcel.untaken 0 ≡ Some e
             → NextIs self.old.dims self.old.rank l e.tag
@@ -286,8 +295,8 @@ impl<const CAP: usize, const HOPS: usize> Conveyor<CAP, HOPS> {
         requires complete { self.old.phase ≡ Phase.Complete }
         requires epochs { self.old.epoch < 2 ^ 63 }
         ensures state { self.new ≡ record self.old {
-          outs = map reopened self.old.outs;
-          ins = map resumed self.old.ins;
+          outs = map out_in_new_epoch self.old.outs;
+          ins = map in_in_new_epoch self.old.ins;
           done = false;
           phase = Phase.Dormant;
           epoch = self.old.epoch + 1;

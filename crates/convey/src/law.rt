@@ -9,7 +9,7 @@ pub fn exchange_law()
     ensures step { ExchangeLaw }
 {}
 
-/// Where they agree so, what a rank pulled is the front of what its sender pushed; and in each
+/// Where they agree so, what a rank pulled is a prefix of what its sender pushed; and in each
 /// epoch that some rank has completed every rank was done, and what was pulled is what was pushed.
 pub fn closes_law()
     ensures { ClosesLaw }

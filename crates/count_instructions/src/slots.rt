@@ -19,7 +19,7 @@ struct AtSeat<'a, const CAP: usize, const HOPS: usize> {
 
 impl<'a, const CAP: usize, const HOPS: usize> Model for AtSeat<'a, CAP, HOPS> {
     ghost use Rattle.std.specs.Prelude.{◌≡◌, ℕ};
-    ghost use Rattle.link_slots.specs.Seen.{posted_on, collected_from};
+    ghost use Rattle.link_slots.specs.SeatView.{posted_on, collected_from};
     ghost use Rattle.convey.specs.Conveyors.{AgreesWith};
 
     ghost Value = { ℕ };

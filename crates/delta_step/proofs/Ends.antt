@@ -11,9 +11,9 @@ use Rattle.round_program.proofs.Members.{rounds_once}
 use Rattle.sparse_rows.specs.Owners.{places_for}
 use Rattle.least_walks.specs.declared.vertices.Vertex.{Vertex}
 use Rattle.least_walks.specs.Walks.{IsLeast}
-use Rattle.least_walks.specs.Vertices.{unreached, calm_if, in_bucket}
+use Rattle.least_walks.specs.Vertices.{unreached_vertex, calm_if, in_bucket}
 use Rattle.app_sssp.specs.SsspRuns.{IsGraph}
-use Rattle.delta_step.specs.Deltas.{DeltaState, delta_rules, ended_in, finding, sorted_out, activated}
+use Rattle.delta_step.specs.Deltas.{DeltaState, delta_rules, ended_in, finding, sorted_out, after_activation}
 use Rattle.delta_step.specs.DeltaRuns.{delta_starts}
 use Rattle.delta_step.proofs.Buckets.{is_light}
 use Rattle.delta_step.proofs.BucketEnds.{left_count, later_most}
@@ -86,7 +86,7 @@ module _ (ranks : ℕ) (m : Sparse) (source width : ℕ) (some : 0 < ranks) (few
   pub record IsOwner (v : ℕ) (s : DeltaState) : Type 0 where
     pub rows : s.rows ≡ m.rows
     pub size : length s.vertices ≡ places_for ranks m.rows
-    pub least : IsLeast m.entries source v (get_or s.vertices (v / ranks) unreached).weight
+    pub least : IsLeast m.entries source v (get_or s.vertices (v / ranks) unreached_vertex).weight
 
   rounds_are : (rounds : ℕ) → HasRounds delta_rules starts rounds → rounds ≡ suc over.last
   rounds_are rounds h = rounds_once delta_rules starts rounds (over.last + 1) h run_rounds ∙ (let e : over.last + 1 ≡ suc over.last = omega arith in e)
@@ -111,7 +111,7 @@ module _ (ranks : ℕ) (m : Sparse) (source width : ℕ) (some : 0 < ranks) (few
       let there : slice_get (end_all delta_rules (all_at over.last)) r ≡ Some s = subst (λ k. slice_get (states_at delta_rules starts k) r ≡ Some s) (rounds_are rounds h) at in
       let u = got_map (λ t. delta_rules.ended t (votes over.last)) (all_at over.last) r s there in
       let all = full_in ranks m source width some few positive narrow g source_in over.last (omega arith) in
-      let is : s ≡ activated u.0 = sym u.2 ∙ ap (λ p. ended_in p u.0 (votes over.last)) (over.phase r u.0 u.1) in
+      let is : s ≡ after_activation u.0 = sym u.2 ∙ ap (λ p. ended_in p u.0 (votes over.last)) (over.phase r u.0 u.1) in
       let rows : u.0.rows ≡ m.rows = over.size r u.0 u.1 in
       let test : Vertex → Bool = in_bucket u.0.width u.0.bucket in
       let vs : s.vertices ≡ map (calm_if test) u.0.vertices = ap (λ (t : DeltaState). t.vertices) is in
@@ -121,6 +121,6 @@ module _ (ranks : ℕ) (m : Sparse) (source width : ℕ) (some : 0 < ranks) (few
         least =
             subst (IsLeast m.entries source v)
             (ap (λ (w : Vertex). w.weight) (at_vertex ranks (all_at over.last) r u.0 v u.1 refl)
-            ∙ sym (ap (λ ws. (get_or ws (v / ranks) unreached).weight) vs ∙ ap (λ (w : Vertex). w.weight) (calm_at test u.0.vertices (v / ranks) refl) ∙ calm_weight test (get_or u.0.vertices (v / ranks) unreached)))
+            ∙ sym (ap (λ ws. (get_or ws (v / ranks) unreached_vertex).weight) vs ∙ ap (λ (w : Vertex). w.weight) (calm_at test u.0.vertices (v / ranks) refl) ∙ calm_weight test (get_or u.0.vertices (v / ranks) unreached_vertex)))
             (over.least v);
       }

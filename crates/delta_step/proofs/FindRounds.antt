@@ -15,11 +15,11 @@ use Rattle.bale_items.specs.declared.triple.Triple.{Triple}
 use Rattle.list_laws.proofs.Lists.{find, within, get_map, get_once}
 use Rattle.round_program.specs.Canonical.{items_of, emitted_of, emitted_by, absorb_all, absorb_upto, absorbed_round, InRound}
 use Rattle.least_walks.specs.declared.vertices.Vertex.{Vertex}
-use Rattle.least_walks.specs.Vertices.{unreached, marked, weight_in, lesser, least_marked}
+use Rattle.least_walks.specs.Vertices.{unreached_vertex, marked_places, weight_in, lesser, least_marked}
 use Rattle.least_walks.proofs.Members.{has_head, has_tail, has_cases, none_in, upto, has_upto, was_upto}
 use Rattle.least_walks.proofs.Offered.{has_mark, was_marked}
 use Rattle.delta_step.specs.declared.phase.Phase.TheVariants.{Find}
-use Rattle.delta_step.specs.Deltas.{DeltaState, delta_rules, no_bucket, bucket_of, announced, absorbed_in}
+use Rattle.delta_step.specs.Deltas.{DeltaState, delta_rules, no_bucket, bucket_of, announced_items, absorbed_in}
 use Rattle.delta_step.proofs.Buckets.{is_light, active}
 use Rattle.delta_step.proofs.OfferRounds.{vertex_at, stage_of, at_vertex}
 use Rattle.delta_step.proofs.Transits.{Keeps, Static, open_of, at_open}
@@ -64,9 +64,9 @@ lesser_none (Some a) = refl
 
 -- the least over some places is at most that of each, and one of them
 record IsLeastOf (vs : List Vertex) (o : Option ℕ) (places : List ℕ) (least : Option ℕ) : Type 0 where
-  pub low : (p m : ℕ) → Contains places p → (get_or vs p unreached).weight ≡ Some m → (k : ℕ) × (least ≡ Some k) × (k ≤ m)
+  pub low : (p m : ℕ) → Contains places p → (get_or vs p unreached_vertex).weight ≡ Some m → (k : ℕ) × (least ≡ Some k) × (k ≤ m)
   pub from_o : (m : ℕ) → o ≡ Some m → (k : ℕ) × (least ≡ Some k) × (k ≤ m)
-  pub reached : (k : ℕ) → least ≡ Some k → (o ≡ Some k) ⊎ ((p : ℕ) × Contains places p × ((get_or vs p unreached).weight ≡ Some k))
+  pub reached : (k : ℕ) → least ≡ Some k → (o ≡ Some k) ⊎ ((p : ℕ) × Contains places p × ((get_or vs p unreached_vertex).weight ≡ Some k))
 
 lesser_left : (a b : Option ℕ) (m : ℕ) → a ≡ Some m → (k : ℕ) × (lesser a b ≡ Some k) × (k ≤ m)
 lesser_left None b m e = absurd (no_one m e)
@@ -91,7 +91,7 @@ lesser_from (Some a) (Some b) k e =
     let s : min a b ≡ k = same_Some (min a b) k e in
     elim (cases_lt a b) [ inl l ↦ inl (ap Some (let z : a ≡ k = omega arith in z)) | inr m ↦ inr (ap Some (let z : b ≡ k = omega arith in z)) ]
 
-least_over : (vs : List Vertex) (o : Option ℕ) (places : List ℕ) → IsLeastOf vs o places (fold (λ w p. lesser w (get_or vs p unreached).weight) o places)
+least_over : (vs : List Vertex) (o : Option ℕ) (places : List ℕ) → IsLeastOf vs o places (fold (λ w p. lesser w (get_or vs p unreached_vertex).weight) o places)
 least_over vs o [] =
     record {
       low = λ p m h e. absurd (none_in p h);
@@ -99,23 +99,23 @@ least_over vs o [] =
       reached = λ k e. inl e;
     }
 least_over vs o (q ∷ qs) =
-    let next : Option ℕ = lesser o (get_or vs q unreached).weight in
-    let rest : IsLeastOf vs next qs (fold (λ w p. lesser w (get_or vs p unreached).weight) next qs) = least_over vs next qs in
+    let next : Option ℕ = lesser o (get_or vs q unreached_vertex).weight in
+    let rest : IsLeastOf vs next qs (fold (λ w p. lesser w (get_or vs p unreached_vertex).weight) next qs) = least_over vs next qs in
     record {
       low = λ p m h e. elim (has_cases q p qs h) [
         | inl same ↦
-            (let one = lesser_right o (get_or vs q unreached).weight m (ap (λ j. (get_or vs j unreached).weight) same ∙ e) in
+            (let one = lesser_right o (get_or vs q unreached_vertex).weight m (ap (λ j. (get_or vs j unreached_vertex).weight) same ∙ e) in
             let two = rest.from_o one.0 one.1 in
             (two.0, two.1, (let a : one.0 ≤ m = one.2 in let b : two.0 ≤ one.0 = two.2 in omega arith)))
         | inr later ↦ rest.low p m later e
       ];
       from_o = λ m e.
-          (let one = lesser_left o (get_or vs q unreached).weight m e in
+          (let one = lesser_left o (get_or vs q unreached_vertex).weight m e in
           let two = rest.from_o one.0 one.1 in
           (two.0, two.1, (let a : one.0 ≤ m = one.2 in let b : two.0 ≤ one.0 = two.2 in omega arith)));
       reached = λ k e. elim (rest.reached k e) [
         | inr later ↦ inr (later.0, has_tail q later.0 qs later.1, later.2)
-        | inl here ↦ elim (lesser_from o (get_or vs q unreached).weight k here) [
+        | inl here ↦ elim (lesser_from o (get_or vs q unreached_vertex).weight k here) [
           | inl from ↦ inl from
           | inr new' ↦ inr (q, has_head q qs, new')
         ]
@@ -161,7 +161,7 @@ pub record IsFinding (width : ℕ) (t : DeltaState) : Type 0 where
   pub none : t.bucket ≡ no_bucket
   pub unsettled : t.settled ≡ []
   pub wide : t.width ≡ width
-  pub outgoing : t.outgoing ≡ announced t.ranks (bucket_of t.width (least_marked t.vertices))
+  pub outgoing : t.outgoing ≡ announced_items t.ranks (bucket_of t.width (least_marked t.vertices))
 
 module _ (es : List Triple) (rows width ranks k : ℕ) (begun : List DeltaState) (shape : List ℕ) (most : ℕ) (some : 0 < ranks) (some_width : 0 < width)
     (all : InRound delta_rules ranks k shape most begun) (static : Static es rows width ranks begun)
@@ -195,7 +195,7 @@ module _ (es : List Triple) (rows width ranks k : ℕ) (begun : List DeltaState)
       let t = rank_at f l in
       let is : IsFinding width t.0 = finding' f t.0 t.1 in
       ap (λ o. emitted_of delta_rules o r) t.1
-      ∙ ap (items_of r) (is.outgoing ∙ ap (λ p. announced p (bucket_of t.0.width (least_marked t.0.vertices))) (all.each f t.0 t.1).all_ranks ∙ ap (λ w. announced ranks (bucket_of w (least_marked t.0.vertices))) is.wide)
+      ∙ ap (items_of r) (is.outgoing ∙ ap (λ p. announced_items p (bucket_of t.0.width (least_marked t.0.vertices))) (all.each f t.0 t.1).all_ranks ∙ ap (λ w. announced_items ranks (bucket_of w (least_marked t.0.vertices))) is.wide)
       ∙ one_told r (word_of (bucket_of width (least_marked t.0.vertices))) 0 ranks (omega arith) (omega arith)
       ∙ sym (ap told_by t.1))
 
@@ -250,8 +250,8 @@ module _ (es : List Triple) (rows width ranks k : ℕ) (begun : List DeltaState)
 
   -- ---- What the bucket is
 
-  owner_least : (r : ℕ) (t : DeltaState) → IsLeastOf t.vertices None (marked t.vertices) (least_marked t.vertices)
-  owner_least r t = least_over t.vertices None (marked t.vertices)
+  owner_least : (r : ℕ) (t : DeltaState) → IsLeastOf t.vertices None (marked_places t.vertices) (least_marked t.vertices)
+  owner_least r t = least_over t.vertices None (marked_places t.vertices)
 
   bucket_le : (f : ℕ) (t : DeltaState) → f < ranks → slice_get begun f ≡ Some t → found_bucket ≤ bucket_of width (least_marked t.vertices)
   bucket_le f t l at =
@@ -266,10 +266,10 @@ module _ (es : List Triple) (rows width ranks k : ℕ) (begun : List DeltaState)
   bucket_floor v m pending found =
       let r : ℕ = v % ranks in
       let t = rank_at r (mod-lt v some) in
-      let here : vertex_at ranks begun v ≡ get_or t.0.vertices (v / ranks) unreached = at_vertex ranks begun r t.0 v t.1 refl in
-      let listed : Contains (marked t.0.vertices) (0 + v / ranks) = has_mark 0 t.0.vertices (v / ranks) (ap (λ (w : Vertex). w.improved) (sym here) ∙ pending) in
+      let here : vertex_at ranks begun v ≡ get_or t.0.vertices (v / ranks) unreached_vertex = at_vertex ranks begun r t.0 v t.1 refl in
+      let listed : Contains (marked_places t.0.vertices) (0 + v / ranks) = has_mark 0 t.0.vertices (v / ranks) (ap (λ (w : Vertex). w.improved) (sym here) ∙ pending) in
       let z : 0 + v / ranks ≡ v / ranks = omega arith in
-      let least = (owner_least r t.0).low (v / ranks) m (subst (Contains (marked t.0.vertices)) z listed) (ap (λ (w : Vertex). w.weight) (sym here) ∙ found) in
+      let least = (owner_least r t.0).low (v / ranks) m (subst (Contains (marked_places t.0.vertices)) z listed) (ap (λ (w : Vertex). w.weight) (sym here) ∙ found) in
       let b : found_bucket ≤ bucket_of width (least_marked t.0.vertices) = bucket_le r t.0 (mod-lt v some) t.1 in
       let is : bucket_of width (least_marked t.0.vertices) ≡ min (least.0 / width) no_bucket = bucket_some (least_marked t.0.vertices) least.0 least.1 in
       let up : found_bucket ≤ least.0 / width = omega arith in
@@ -311,8 +311,8 @@ module _ (es : List Triple) (rows width ranks k : ℕ) (begun : List DeltaState)
                 let p : at_p.0 ≡ q.0 = (let z : at_p.0 ≡ 0 + q.0 = q.1 in omega arith) in
                 let u : ℕ = q.0 * ranks + f in
                 let place : u / ranks ≡ q.0 = div-mul-add q.0 ranks f l in
-                let here : vertex_at ranks begun u ≡ get_or t.vertices q.0 unreached = at_vertex ranks begun f t u at (mod-mul-add q.0 ranks f l) ∙ ap (λ j. get_or t.vertices j unreached) place in
-                let weight : (vertex_at ranks begun u).weight ≡ Some k = ap (λ (w : Vertex). w.weight) here ∙ ap (λ j. (get_or t.vertices j unreached).weight) (sym p) ∙ at_p.2 in (
+                let here : vertex_at ranks begun u ≡ get_or t.vertices q.0 unreached_vertex = at_vertex ranks begun f t u at (mod-mul-add q.0 ranks f l) ∙ ap (λ j. get_or t.vertices j unreached_vertex) place in
+                let weight : (vertex_at ranks begun u).weight ≡ Some k = ap (λ (w : Vertex). w.weight) here ∙ ap (λ j. (get_or t.vertices j unreached_vertex).weight) (sym p) ∙ at_p.2 in (
                   u,
                   and_from (vertex_at ranks begun u).improved (weight_in width found_bucket (vertex_at ranks begun u).weight) (ap (λ (w : Vertex). w.improved) here ∙ q.3)
                       (ap (weight_in width found_bucket) weight ∙ eq-eqb (k / width) found_bucket div),

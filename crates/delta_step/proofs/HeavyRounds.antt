@@ -12,11 +12,11 @@ use Rattle.sparse_rows.specs.Owners.{places_for}
 use Rattle.sparse_rows.proofs.Places.{place_below}
 use Rattle.least_walks.specs.declared.table.Edge.{Edge}
 use Rattle.least_walks.specs.declared.vertices.Vertex.{Vertex}
-use Rattle.least_walks.specs.Tables.{edge_of, offers}
+use Rattle.least_walks.specs.Tables.{edge_of, offers_by_place}
 use Rattle.least_walks.proofs.Members.{has_filtered, was_filtered}
 use Rattle.app_sssp.proofs.Stages.{AreEdges}
 use Rattle.delta_step.specs.declared.phase.Phase.TheVariants.{Heavy}
-use Rattle.delta_step.specs.Deltas.{DeltaState, delta_rules, ascending, finished}
+use Rattle.delta_step.specs.Deltas.{DeltaState, delta_rules, ascending, after_last_round}
 use Rattle.delta_step.proofs.Ascending.{in_range_of}
 use Rattle.delta_step.proofs.Buckets.{Offers, is_light, heavy_sent}
 use Rattle.delta_step.proofs.OfferRounds.{vertex_at, stage_of, at_vertex, offer_round, was_at}
@@ -26,14 +26,14 @@ module _ (es : List Triple) (rows width ranks n k : ℕ) (ss : List DeltaState) 
     (all : InRound delta_rules ranks n shape most ss) (next_in : InRound delta_rules ranks k shape most (end_all delta_rules ss))
     (static : Static es rows width ranks ss)
     (low : (v k : ℕ) → (stage_of ranks ss).found v ≡ Some k → k ≤ 2 ^ 60)
-    (becomes : (r : ℕ) (s : DeltaState) → slice_get ss r ≡ Some s → delta_rules.ended s (vote_sum delta_rules ss) ≡ finished s) where
+    (becomes : (r : ℕ) (s : DeltaState) → slice_get ss r ≡ Some s → delta_rules.ended s (vote_sum delta_rules ss) ≡ after_last_round s) where
   abbrev begun : List DeltaState
   begun = end_all delta_rules ss
 
-  begun_at : (r : ℕ) (s : DeltaState) → slice_get ss r ≡ Some s → slice_get begun r ≡ Some (finished s)
+  begun_at : (r : ℕ) (s : DeltaState) → slice_get ss r ≡ Some s → slice_get begun r ≡ Some (after_last_round s)
   begun_at r s at = get_map (λ t. delta_rules.ended t (vote_sum delta_rules ss)) ss r s at ∙ ap Some (becomes r s at)
 
-  begun_from : (r : ℕ) (t : DeltaState) → slice_get begun r ≡ Some t → (s : DeltaState) × (slice_get ss r ≡ Some s) × (t ≡ finished s)
+  begun_from : (r : ℕ) (t : DeltaState) → slice_get begun r ≡ Some t → (s : DeltaState) × (slice_get ss r ≡ Some s) × (t ≡ after_last_round s)
   begun_from r t at =
       let s = got_map (λ t. delta_rules.ended t (vote_sum delta_rules ss)) ss r t at in
       (s.0, s.1, sym s.2 ∙ becomes r s.0 s.1)
@@ -52,7 +52,7 @@ module _ (es : List Triple) (rows width ranks n k : ℕ) (ss : List DeltaState) 
   begun_vertex : (v : ℕ) → vertex_at ranks begun v ≡ vertex_at ranks ss v
   begun_vertex v =
       let s = rank_at (v % ranks) (mod-lt v some) in
-      at_vertex ranks begun (v % ranks) (finished s.0) v (begun_at (v % ranks) s.0 s.1) refl ∙ sym (at_vertex ranks ss (v % ranks) s.0 v s.1 refl)
+      at_vertex ranks begun (v % ranks) (after_last_round s.0) v (begun_at (v % ranks) s.0 s.1) refl ∙ sym (at_vertex ranks ss (v % ranks) s.0 v s.1 refl)
 
   abbrev sent : Triple → Bool
   sent = heavy_sent width (open_of ranks ss)
@@ -87,11 +87,11 @@ module _ (es : List Triple) (rows width ranks n k : ℕ) (ss : List DeltaState) 
         subst (λ o. Contains (get_or (table_in o) (e.i / ranks) []) (edge_of ranks e)) (sym s.1) ((static.heavy r s.0 s.1).complete e has parts.0 own),
       )
 
-  sends : (r : ℕ) (t : DeltaState) → slice_get begun r ≡ Some t → t.outgoing ≡ offers (table_in (slice_get ss r)) t.vertices (places_in (slice_get ss r))
+  sends : (r : ℕ) (t : DeltaState) → slice_get begun r ≡ Some t → t.outgoing ≡ offers_by_place (table_in (slice_get ss r)) t.vertices (places_in (slice_get ss r))
   sends r t at =
       let s = begun_from r t at in
-      subst (λ o. t.outgoing ≡ offers (table_in o) t.vertices (places_in o)) (sym s.1)
-      (subst (λ (u : DeltaState). u.outgoing ≡ offers s.0.heavy u.vertices (ascending (length s.0.vertices) s.0.settled)) (sym s.2) refl)
+      subst (λ o. t.outgoing ≡ offers_by_place (table_in o) t.vertices (places_in o)) (sym s.1)
+      (subst (λ (u : DeltaState). u.outgoing ≡ offers_by_place s.0.heavy u.vertices (ascending (length s.0.vertices) s.0.settled)) (sym s.2) refl)
 
   pub heavy_round : Offers es sent (stage_of ranks ss) (stage_of ranks heavy_later)
   heavy_round =
@@ -102,7 +102,7 @@ module _ (es : List Triple) (rows width ranks n k : ℕ) (ss : List DeltaState) 
       sent (λ r. table_in (slice_get ss r)) (λ r. places_in (slice_get ss r)) sends sound complete
       (λ v k found. low v k (sym (ap (λ (w : Vertex). w.weight) (begun_vertex v)) ∙ found)))
 
-  pub heavy_was : (r : ℕ) (t : DeltaState) → slice_get heavy_later r ≡ Some t → (s : DeltaState) × (vs : List Vertex) × (slice_get ss r ≡ Some s) × (t ≡ record (finished s) { vertices = vs })
+  pub heavy_was : (r : ℕ) (t : DeltaState) → slice_get heavy_later r ≡ Some t → (s : DeltaState) × (vs : List Vertex) × (slice_get ss r ≡ Some s) × (t ≡ record (after_last_round s) { vertices = vs })
   heavy_was r t at =
       let u = was_at es rows ranks k begun shape most some edges next_in
       (λ r t at. (let s = begun_from r t at in ap (λ (u : DeltaState). u.rows) s.2 ∙ static.size r s.0 s.1))

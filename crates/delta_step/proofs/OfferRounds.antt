@@ -17,8 +17,8 @@ use Rattle.sparse_rows.proofs.Places.{place_below, place_own}
 use Rattle.least_walks.specs.declared.table.Edge.{Edge}
 use Rattle.least_walks.specs.declared.vertices.Vertex.{Vertex}
 use Rattle.least_walks.specs.Walks.{AtMost}
-use Rattle.least_walks.specs.Tables.{edge_of, offer, offers}
-use Rattle.least_walks.specs.Vertices.{unreached, improved_at}
+use Rattle.least_walks.specs.Tables.{edge_of, offer, offers_by_place}
+use Rattle.least_walks.specs.Vertices.{unreached_vertex, improved_at}
 use Rattle.least_walks.proofs.Settled.{cost}
 use Rattle.least_walks.proofs.Members.{has_item, was_item, upto, has_upto, was_upto, has_filtered, was_filtered}
 use Rattle.least_walks.proofs.Offered.{taken, taken_done, Took, taken_cases, Offering, has_offer, was_offered}
@@ -31,8 +31,8 @@ use Rattle.delta_step.proofs.Buckets as buckets
 
 -- a vertex as its owner has it
 abbrev pub vertex_of : Option DeltaState → ℕ → Vertex
-vertex_of None p = unreached
-vertex_of (Some s) p = get_or s.vertices p unreached
+vertex_of None p = unreached_vertex
+vertex_of (Some s) p = get_or s.vertices p unreached_vertex
 
 abbrev pub vertex_at : ℕ → List DeltaState → ℕ → Vertex
 vertex_at ranks ss v = vertex_of (slice_get ss (v % ranks)) (v / ranks)
@@ -40,7 +40,7 @@ vertex_at ranks ss v = vertex_of (slice_get ss (v % ranks)) (v / ranks)
 abbrev pub stage_of : ℕ → List DeltaState → Stage
 stage_of ranks ss = record { found = λ v. (vertex_at ranks ss v).weight; fresh = λ v. (vertex_at ranks ss v).improved }
 
-pub at_vertex : (ranks : ℕ) (ss : List DeltaState) (r : ℕ) (s : DeltaState) (v : ℕ) → slice_get ss r ≡ Some s → v % ranks ≡ r → vertex_at ranks ss v ≡ get_or s.vertices (v / ranks) unreached
+pub at_vertex : (ranks : ℕ) (ss : List DeltaState) (r : ℕ) (s : DeltaState) (v : ℕ) → slice_get ss r ≡ Some s → v % ranks ≡ r → vertex_at ranks ss v ≡ get_or s.vertices (v / ranks) unreached_vertex
 at_vertex ranks ss r s v at e = ap (λ o. vertex_of o (v / ranks)) (ap (slice_get ss) e ∙ at)
 
 -- an item of an own vertex
@@ -96,7 +96,7 @@ module _ (es : List Triple) (rows ranks n : ℕ) (ss : List DeltaState) (shape :
     (all : InRound delta_rules ranks n shape most ss) (size : (r : ℕ) (s : DeltaState) → slice_get ss r ≡ Some s → s.rows ≡ rows)
     (takes : (r : ℕ) (s : DeltaState) → slice_get ss r ≡ Some s → Takes s)
     (sent : Triple → Bool) (table : ℕ → List (List Edge)) (places : ℕ → List ℕ)
-    (sends : (r : ℕ) (s : DeltaState) → slice_get ss r ≡ Some s → s.outgoing ≡ offers (table r) s.vertices (places r))
+    (sends : (r : ℕ) (s : DeltaState) → slice_get ss r ≡ Some s → s.outgoing ≡ offers_by_place (table r) s.vertices (places r))
     (sound : (r : ℕ) (s : DeltaState) → slice_get ss r ≡ Some s → (p : ℕ) (e : Edge) → Contains (places r) p → Contains (get_or (table r) p []) e
     → (t : Triple) × Contains es t × (t.i % ranks ≡ r) × (t.i / ranks ≡ p) × (edge_of ranks t ≡ e) × (sent t ≡ true))
     (complete : (r : ℕ) (s : DeltaState) → slice_get ss r ≡ Some s → (t : Triple) → Contains es t → sent t ≡ true → t.i % ranks ≡ r
@@ -150,7 +150,7 @@ module _ (es : List Triple) (rows ranks n : ℕ) (ss : List DeltaState) (shape :
       let s = rank_at f.0 f.1 in
       record { from = f.0; state = s.0; at = s.1; posted = was_item r s.0.outgoing x (subst (λ xs. Contains xs x) (sent_is r f.0 s.0 s.1) f.2) }
 
-  after_at : (r : ℕ) (s : DeltaState) (v : ℕ) → slice_get ss r ≡ Some s → v % ranks ≡ r → vertex_at ranks later v ≡ get_or (after r s) (v / ranks) unreached
+  after_at : (r : ℕ) (s : DeltaState) (v : ℕ) → slice_get ss r ≡ Some s → v % ranks ≡ r → vertex_at ranks later v ≡ get_or (after r s) (v / ranks) unreached_vertex
   after_at r s v at e = at_vertex ranks later r (record s { vertices = after r s }) v (later_at r s at) e
 
   tried : (e : Triple) → Contains es e → sent e ≡ true → (k : ℕ) → (stage_of ranks ss).found e.i ≡ Some k → AtMost ((stage_of ranks later).found e.j) (k + cost e)
@@ -160,7 +160,7 @@ module _ (es : List Triple) (rows ranks n : ℕ) (ss : List DeltaState) (shape :
       let s = rank_at f (mod-lt e.i some) in
       let t = rank_at r (mod-lt e.j some) in
       let x : Item = (offer k (edge_of ranks e)).1 in
-      let weight : (get_or s.0.vertices (e.i / ranks) unreached).weight ≡ Some k = ap (λ (v : Vertex). v.weight) (sym (at_vertex ranks ss f s.0 e.i s.1 refl)) ∙ found in
+      let weight : (get_or s.0.vertices (e.i / ranks) unreached_vertex).weight ≡ Some k = ap (λ (v : Vertex). v.weight) (sym (at_vertex ranks ss f s.0 e.i s.1 refl)) ∙ found in
       let parts = complete f s.0 s.1 e has is_sent refl in
       let offered' : Contains s.0.outgoing (offer k (edge_of ranks e)) =
       subst (λ os. Contains os (offer k (edge_of ranks e))) (sym (sends f s.0 s.1))
@@ -171,7 +171,7 @@ module _ (es : List Triple) (rows ranks n : ℕ) (ss : List DeltaState) (shape :
       let place : e.j / ranks < length t.0.vertices =
       subst (λ l. e.j / ranks < l) (sym (member.valid.places ∙ ap (λ p. places_for p t.0.rows) member.all_ranks ∙ ap (places_for ranks) (size r t.0 t.1))) (place_below ranks rows e.j some inside) in
       let here : Contains (mine t.0 (items r)) x = has_filtered (is_mine t.0) (items r) x (came r f s.0 x (mod-lt e.i some) s.1 offered') (mine_here r t.0 x t.1 inside refl) in
-      let done : AtMost (get_or (after r t.0) (e.j / ranks) unreached).weight ((k + twos_complement e.v) % 2 ^ 64) =
+      let done : AtMost (get_or (after r t.0) (e.j / ranks) unreached_vertex).weight ((k + twos_complement e.v) % 2 ^ 64) =
       taken_done ranks (e.j / ranks) t.0.vertices (mine t.0 (items r)) x place here refl in
       let sum : (k + twos_complement e.v) % 2 ^ 64 ≡ k + cost e =
       sum_is e k (All-contains (λ (t : Triple). t.v ≡ pos (nat_abs t.v)) es e edges.plain has) (All-contains (λ (t : Triple). cost t ≤ 1_000_000_000_000) es e edges.light has) (low e.i k found) in
@@ -179,7 +179,7 @@ module _ (es : List Triple) (rows ranks n : ℕ) (ss : List DeltaState) (shape :
       (subst (λ (v : Vertex). AtMost v.weight ((k + twos_complement e.v) % 2 ^ 64)) (sym (after_at r t.0 e.j t.1 refl)) done)
 
   took : (v : ℕ) (s : DeltaState) → slice_get ss (v % ranks) ≡ Some s
-      → Took ranks (v / ranks) (get_or s.vertices (v / ranks) unreached) (get_or (after (v % ranks) s) (v / ranks) unreached) (mine s (items (v % ranks)))
+      → Took ranks (v / ranks) (get_or s.vertices (v / ranks) unreached_vertex) (get_or (after (v % ranks) s) (v / ranks) unreached_vertex) (mine s (items (v % ranks)))
       → buckets.Took es sent (stage_of ranks ss) (stage_of ranks later) v
   took v s at h =
       let r : ℕ = v % ranks in
@@ -195,11 +195,11 @@ module _ (es : List Triple) (rows ranks n : ℕ) (ss : List DeltaState) (shape :
       let word : twos_complement edge.v ≡ o.edge.weight = ap (λ (e : Edge). e.weight) t.4 in
       let same : edge.j ≡ v = place_own ranks edge.j v owner (ap (λ k. k / ranks) to ∙ h.place) in
       let found : (stage_of ranks ss).found edge.i ≡ Some o.weight =
-      ap (λ (w : Vertex). w.weight) (at_vertex ranks ss source.from u edge.i source.at t.2 ∙ ap (λ p. get_or u.vertices p unreached) t.3) ∙ o.found in
+      ap (λ (w : Vertex). w.weight) (at_vertex ranks ss source.from u edge.i source.at t.2 ∙ ap (λ p. get_or u.vertices p unreached_vertex) t.3) ∙ o.found in
       let sum : (o.weight + twos_complement edge.v) % 2 ^ 64 ≡ o.weight + cost edge =
       sum_is edge o.weight (All-contains (λ (t : Triple). t.v ≡ pos (nat_abs t.v)) es edge edges.plain t.1) (All-contains (λ (t : Triple). cost t ≤ 1_000_000_000_000) es edge edges.light t.1) (low edge.i o.weight found) in
       let b : x.b ≡ o.weight + cost edge = sym (ap (λ (w : ℕ × Item). w.1.b) o.is) ∙ ap (λ k. (o.weight + k) % 2 ^ 64) (sym word) ∙ sum in
-      let before : (get_or s.vertices (v / ranks) unreached).weight ≡ (stage_of ranks ss).found v = ap (λ (w : Vertex). w.weight) (sym (at_vertex ranks ss r s v at refl)) in
+      let before : (get_or s.vertices (v / ranks) unreached_vertex).weight ≡ (stage_of ranks ss).found v = ap (λ (w : Vertex). w.weight) (sym (at_vertex ranks ss r s v at refl)) in
       record {
         edge = edge;
         is = t.1;
@@ -216,7 +216,7 @@ module _ (es : List Triple) (rows ranks n : ℕ) (ss : List DeltaState) (shape :
   each v =
       let r : ℕ = v % ranks in
       let s = rank_at r (mod-lt v some) in
-      let now : vertex_at ranks later v ≡ get_or (after r s.0) (v / ranks) unreached = after_at r s.0 v s.1 refl in
+      let now : vertex_at ranks later v ≡ get_or (after r s.0) (v / ranks) unreached_vertex = after_at r s.0 v s.1 refl in
       elim (taken_cases ranks (v / ranks) s.0.vertices (mine s.0 (items r))) [
         | inl same ↦
             let is : vertex_at ranks later v ≡ vertex_at ranks ss v = now ∙ same ∙ sym (at_vertex ranks ss r s.0 v s.1 refl) in

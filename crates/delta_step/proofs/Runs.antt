@@ -14,7 +14,7 @@ use Rattle.round_program.specs.Canonical.{absorbed_round, end_all, states_at, vo
 use Rattle.round_program.proofs.Members.{in_round, absorbed_in}
 use Rattle.least_walks.specs.declared.vertices.Vertex.{Vertex}
 use Rattle.least_walks.specs.Walks.{AtMost, IsLeast}
-use Rattle.least_walks.specs.Vertices.{unreached, marked, in_bucket, weight_in, picked}
+use Rattle.least_walks.specs.Vertices.{unreached_vertex, marked_places, in_bucket, weight_in, places_where}
 use Rattle.least_walks.proofs.Settled.{least_at}
 use Rattle.least_walks.proofs.Members.{has_head}
 use Rattle.least_walks.proofs.Offered.{none_improved, was_marked}
@@ -22,7 +22,7 @@ use Rattle.app_sssp.specs.SsspRuns.{IsGraph}
 use Rattle.app_sssp.proofs.Rounds.{Stage}
 use Rattle.app_sssp.proofs.Begins.{graph_edges}
 use Rattle.delta_step.specs.declared.phase.Phase.TheVariants.{Find, Light, Heavy}
-use Rattle.delta_step.specs.Deltas.{DeltaState, delta_rules, vote_in, ended_in, finding, activated, finished}
+use Rattle.delta_step.specs.Deltas.{DeltaState, delta_rules, vote_in, ended_in, finding, after_activation, after_last_round}
 use Rattle.delta_step.specs.laws.DeltaLaws.{delta_laws}
 use Rattle.delta_step.specs.DeltaRuns.{delta_starts}
 use Rattle.delta_step.proofs.Buckets.{is_light, Offers, offers_fall, Owes, active, calmed_stage, light_sent, heavy_sent, opened, none_open, light_owes, heavy_owes, bucket_low, Within, light_within, Beyond, heavy_beyond, Lit, lit_begins}
@@ -85,7 +85,7 @@ module _ (ranks : ℕ) (m : Sparse) (source width : ℕ) (some : 0 < ranks) (few
       let total : min (sum_by delta_rules.vote (full n)) (2 ^ 64 - 1) ≡ 0 = z in
       omega arith
 
-  light_vote : (s : DeltaState) → s.phase ≡ Light → delta_rules.vote s ≡ 1 + length (picked (in_bucket s.width s.bucket) s.vertices)
+  light_vote : (s : DeltaState) → s.phase ≡ Light → delta_rules.vote s ≡ 1 + length (places_where (in_bucket s.width s.bucket) s.vertices)
   light_vote s e = ap (λ p. vote_in p s) e
 
   -- ---- A bucket
@@ -110,7 +110,7 @@ module _ (ranks : ℕ) (m : Sparse) (source width : ℕ) (some : 0 < ranks) (few
   one_later r before here j l = elim (cases_eq j r) [ inl same ↦ subst (λ i. votes i ≢ 0) (sym same) here | inr other ↦ before j (omega (arith, other)) ]
 
   light_step : (r0 r k b top : ℕ) → r < 2 ^ 62 → b * width + width + width ≤ top → top ≤ 2 ^ 60 → InBucket r0 r k b top → votes r ≢ 0
-      → ((j : ℕ) (s : DeltaState) → slice_get (full r) j ≡ Some s → delta_rules.ended s (vote_sum delta_rules (full r)) ≡ activated s) → AfterLight r0 (suc r) (suc k) b top
+      → ((j : ℕ) (s : DeltaState) → slice_get (full r) j ≡ Some s → delta_rules.ended s (vote_sum delta_rules (full r)) ≡ after_activation s) → AfterLight r0 (suc r) (suc k) b top
   light_step r0 r k b top small room fits h voting becomes =
       let low : (v k : ℕ) → (stage r).found v ≡ Some k → k ≤ 2 ^ 60 = λ v k found. (let t : k ≤ top = h.within.below v k found in omega arith) in
       let now : InRound delta_rules ranks r shape most (full r) = full_in r (omega arith) in
@@ -143,11 +143,11 @@ module _ (ranks : ℕ) (m : Sparse) (source width : ℕ) (some : 0 < ranks) (few
 
   -- the active vertices of a rank are those that it counts
   counted : (r b j : ℕ) (s : DeltaState) → Static es m.rows width ranks (full r) → slice_get (full r) j ≡ Some s → s.bucket ≡ b → (v : ℕ) → v % ranks ≡ j
-      → active width b (stage r) v ≡ ((get_or s.vertices (v / ranks) unreached).improved && in_bucket s.width s.bucket (get_or s.vertices (v / ranks) unreached))
+      → active width b (stage r) v ≡ ((get_or s.vertices (v / ranks) unreached_vertex).improved && in_bucket s.width s.bucket (get_or s.vertices (v / ranks) unreached_vertex))
   counted r b j s static at is v own =
       ap (λ (w : Vertex). w.improved && weight_in width b w.weight) (at_vertex ranks (full r) j s v at own)
-      ∙ ap (λ w. (get_or s.vertices (v / ranks) unreached).improved && weight_in w b (get_or s.vertices (v / ranks) unreached).weight) (sym (static.wide j s at))
-      ∙ ap (λ k. (get_or s.vertices (v / ranks) unreached).improved && weight_in s.width k (get_or s.vertices (v / ranks) unreached).weight) (sym is)
+      ∙ ap (λ w. (get_or s.vertices (v / ranks) unreached_vertex).improved && weight_in w b (get_or s.vertices (v / ranks) unreached_vertex).weight) (sym (static.wide j s at))
+      ∙ ap (λ k. (get_or s.vertices (v / ranks) unreached_vertex).improved && weight_in s.width k (get_or s.vertices (v / ranks) unreached_vertex).weight) (sym is)
 
   -- few votes: none is active
   none_active : (r0 r k b top : ℕ) → r < 2 ^ 62 → AfterLight r0 r k b top → votes r ≤ ranks → (v : ℕ) → active width b (stage r) v ≡ false
@@ -155,17 +155,17 @@ module _ (ranks : ℕ) (m : Sparse) (source width : ℕ) (some : 0 < ranks) (few
       let all : InRound delta_rules ranks r shape most (full r) = full_in r (omega arith) in
       let j : ℕ = v % ranks in
       let s = find (full r) j (subst (λ n. j < n) (sym all.size) (mod-lt v some)) in
-      let vote : delta_rules.vote s.0 ≡ 1 + length (picked (in_bucket s.0.width s.0.bucket) s.0.vertices) = light_vote s.0 (h.phase j s.0 s.1) in
+      let vote : delta_rules.vote s.0 ≡ 1 + length (places_where (in_bucket s.0.width s.0.bucket) s.0.vertices) = light_vote s.0 (h.phase j s.0 s.1) in
       let more : length (full r) + delta_rules.vote s.0 ≤ sum_by delta_rules.vote (full r) + 1 =
-      sum_more delta_rules.vote (full r) j s.0 (all_from_gets (λ t. 1 ≤ delta_rules.vote t) (full r) (λ i t at. (let o : delta_rules.vote t ≡ 1 + length (picked (in_bucket t.width t.bucket) t.vertices) = light_vote t (h.phase i t at) in omega arith))) s.1 in
+      sum_more delta_rules.vote (full r) j s.0 (all_from_gets (λ t. 1 ≤ delta_rules.vote t) (full r) (λ i t at. (let o : delta_rules.vote t ≡ 1 + length (places_where (in_bucket t.width t.bucket) t.vertices) = light_vote t (h.phase i t at) in omega arith))) s.1 in
       let size : length (full r) ≡ ranks = all.size in
       let total : min (sum_by delta_rules.vote (full r)) (2 ^ 64 - 1) ≤ ranks = low in
-      let empty : length (picked (in_bucket s.0.width s.0.bucket) s.0.vertices) ≡ 0 = omega arith in
+      let empty : length (places_where (in_bucket s.0.width s.0.bucket) s.0.vertices) ≡ 0 = omega arith in
       elim (cases_Bool (active width b (stage r) v)) [
         | inr off ↦ off
         | inl on ↦
             (let here = has_pick (in_bucket s.0.width s.0.bucket) s.0.vertices (v / ranks) (sym (counted r b j s.0 h.in_bucket.static s.1 (h.in_bucket.bucket j s.0 s.1) v refl) ∙ on) in
-            absurd (let l : here.0 < length (picked (in_bucket s.0.width s.0.bucket) s.0.vertices) = here.1 in omega arith))
+            absurd (let l : here.0 < length (places_where (in_bucket s.0.width s.0.bucket) s.0.vertices) = here.1 in omega arith))
       ]
 
   -- none active: few votes
@@ -175,28 +175,28 @@ module _ (ranks : ℕ) (m : Sparse) (source width : ℕ) (some : 0 < ranks) (few
       let each : All (λ s. delta_rules.vote s ≤ 1) (full r) =
       all_from_gets (λ s. delta_rules.vote s ≤ 1) (full r) (λ j s at.
       let low : j < ranks = subst (λ n. j < n) all.size (within (full r) j s at) in
-      let vote : delta_rules.vote s ≡ 1 + length (picked (in_bucket s.width s.bucket) s.vertices) = light_vote s (h.phase j s at) in
-      let empty : length (picked (in_bucket s.width s.bucket) s.vertices) ≡ 0 = no_picks j s at low (picked (in_bucket s.width s.bucket) s.vertices) refl in
+      let vote : delta_rules.vote s ≡ 1 + length (places_where (in_bucket s.width s.bucket) s.vertices) = light_vote s (h.phase j s at) in
+      let empty : length (places_where (in_bucket s.width s.bucket) s.vertices) ≡ 0 = no_picks j s at low (places_where (in_bucket s.width s.bucket) s.vertices) refl in
       omega arith) in
       let sum : sum_by delta_rules.vote (full r) ≤ length (full r) * 1 = sum_by-le delta_rules.vote 1 (full r) each in
       let size : length (full r) ≡ ranks = all.size in
       let total : votes r ≡ min (sum_by delta_rules.vote (full r)) (2 ^ 64 - 1) = refl in
       omega arith
     where
-      no_picks : (j : ℕ) (s : DeltaState) → slice_get (full r) j ≡ Some s → j < ranks → (ps : List ℕ) → picked (in_bucket s.width s.bucket) s.vertices ≡ ps → length ps ≡ 0
+      no_picks : (j : ℕ) (s : DeltaState) → slice_get (full r) j ≡ Some s → j < ranks → (ps : List ℕ) → places_where (in_bucket s.width s.bucket) s.vertices ≡ ps → length ps ≡ 0
       no_picks j s at low [] e = refl
       no_picks j s at low (p ∷ ps) e =
-          let on : ((get_or s.vertices p unreached).improved && in_bucket s.width s.bucket (get_or s.vertices p unreached)) ≡ true =
+          let on : ((get_or s.vertices p unreached_vertex).improved && in_bucket s.width s.bucket (get_or s.vertices p unreached_vertex)) ≡ true =
           was_pick (in_bucket s.width s.bucket) s.vertices p (subst (λ qs. Contains qs p) (sym e) (has_head p ps)) in
           let v : ℕ = p * ranks + j in
           let is : active width b (stage r) v ≡ true =
           counted r b j s h.in_bucket.static at (h.in_bucket.bucket j s at) v (mod-mul-add p ranks j low)
-          ∙ ap (λ q. (get_or s.vertices q unreached).improved && in_bucket s.width s.bucket (get_or s.vertices q unreached)) (div-mul-add p ranks j low) ∙ on in
+          ∙ ap (λ q. (get_or s.vertices q unreached_vertex).improved && in_bucket s.width s.bucket (get_or s.vertices q unreached_vertex)) (div-mul-add p ranks j low) ∙ on in
           absurd (false≢true (sym (none v) ∙ is))
 
   light_voted : (r0 r k b top : ℕ) → r < 2 ^ 62 → AfterLight r0 r k b top → votes r ≢ 0
   light_voted r0 r k b top small h =
-      voted r (omega arith) (λ j s at. (let vote : delta_rules.vote s ≡ 1 + length (picked (in_bucket s.width s.bucket) s.vertices) = light_vote s (h.phase j s at) in omega arith))
+      voted r (omega arith) (λ j s at. (let vote : delta_rules.vote s ≡ 1 + length (places_where (in_bucket s.width s.bucket) s.vertices) = light_vote s (h.phase j s at) in omega arith))
 
   -- the last light round
   record LastLight (r0 b top limit : ℕ) : Type 0 where
@@ -215,7 +215,7 @@ module _ (ranks : ℕ) (m : Sparse) (source width : ℕ) (some : 0 < ranks) (few
             let step : AfterLight r0 (suc r) (suc k) b top =
             light_step r0 r k b top (omega arith) room fits h.in_bucket (light_voted r0 r k b top (omega arith) h)
             (λ j s at. ap (λ p. ended_in p s (votes r)) (h.phase j s at)
-            ∙ ap (λ n. cond (nat_lt n (votes r)) (activated s) (finished s)) ((full_in r (omega arith)).each j s at).all_ranks ∙ ap (λ t. cond t (activated s) (finished s)) more) in
+            ∙ ap (λ n. cond (nat_lt n (votes r)) (after_activation s) (after_last_round s)) ((full_in r (omega arith)).each j s at).all_ranks ∙ ap (λ t. cond t (after_activation s) (after_last_round s)) more) in
             let rest : LastLight r0 b top (suc r + q) = lights_end q r0 (suc r) (suc k) b top (omega arith) (omega arith) room fits step in
             record { r = rest.r; k = rest.k; by = (let l : rest.r ≤ suc r + q = rest.by in omega arith); after = rest.after; none = rest.none }
       ]
@@ -277,7 +277,7 @@ module _ (ranks : ℕ) (m : Sparse) (source width : ℕ) (some : 0 < ranks) (few
       let all : InRound delta_rules ranks r shape most (full r) = full_in r (omega arith) in
       let j : ℕ = v % ranks in
       let s = find (full r) j (subst (λ n. j < n) (sym all.size) (mod-lt v some)) in
-      let vote : delta_rules.vote s.0 ≡ length (marked s.0.vertices) = ap (λ p. vote_in p s.0) (h.phase j s.0 s.1) in
+      let vote : delta_rules.vote s.0 ≡ length (marked_places s.0.vertices) = ap (λ p. vote_in p s.0) (h.phase j s.0 s.1) in
       let total : sum_by delta_rules.vote (full r) ≡ 0 = (let t : min (sum_by delta_rules.vote (full r)) (2 ^ 64 - 1) ≡ 0 = none in omega arith) in
       let one : delta_rules.vote (get_or (full r) j s.0) ≤ sum_by delta_rules.vote (full r) = get_or-le-sum_by delta_rules.vote (full r) j s.0 (within (full r) j s.0 s.1) in
       let mine : delta_rules.vote s.0 ≤ sum_by delta_rules.vote (full r) = subst (λ t. delta_rules.vote t ≤ sum_by delta_rules.vote (full r)) (get_or_from_slice_get (full r) j s.0 s.0 s.1) one in
@@ -293,17 +293,17 @@ module _ (ranks : ℕ) (m : Sparse) (source width : ℕ) (some : 0 < ranks) (few
       ] in
       let s = sum_some delta_rules.vote (full r) total in
       let low : s.0 < ranks = subst (λ n. s.0 < n) all.size (within (full r) s.0 s.1 s.2) in
-      let vote : delta_rules.vote s.1 ≡ length (marked s.1.vertices) = ap (λ p. vote_in p s.1) (h.phase s.0 s.1 s.2) in
+      let vote : delta_rules.vote s.1 ≡ length (marked_places s.1.vertices) = ap (λ p. vote_in p s.1) (h.phase s.0 s.1 s.2) in
       let voting : 0 < delta_rules.vote s.1 = s.3 in
-      one_of s.0 s.1 s.2 low (marked s.1.vertices) refl (omega arith)
+      one_of s.0 s.1 s.2 low (marked_places s.1.vertices) refl (omega arith)
     where
-      one_of : (j : ℕ) (s : DeltaState) → slice_get (full r) j ≡ Some s → j < ranks → (ps : List ℕ) → marked s.vertices ≡ ps → 0 < length ps → (v : ℕ) × ((stage r).fresh v ≡ true)
+      one_of : (j : ℕ) (s : DeltaState) → slice_get (full r) j ≡ Some s → j < ranks → (ps : List ℕ) → marked_places s.vertices ≡ ps → 0 < length ps → (v : ℕ) × ((stage r).fresh v ≡ true)
       one_of j s at low [] e l = absurd (omega arith)
       one_of j s at low (p ∷ ps) e l =
           let q = was_marked 0 s.vertices p (subst (λ qs. Contains qs p) (sym e) (has_head p ps)) in (
             q.0 * ranks + j,
             ap (λ (w : Vertex). w.improved) (at_vertex ranks (full r) j s (q.0 * ranks + j) at (mod-mul-add q.0 ranks j low))
-                ∙ ap (λ k. (get_or s.vertices k unreached).improved) (div-mul-add q.0 ranks j low) ∙ q.3,
+                ∙ ap (λ k. (get_or s.vertices k unreached_vertex).improved) (div-mul-add q.0 ranks j low) ∙ q.3,
           )
 
   -- ---- From one find round to the next
@@ -328,7 +328,7 @@ module _ (ranks : ℕ) (m : Sparse) (source width : ℕ) (some : 0 < ranks) (few
           let j : ℕ = v % ranks in
           let s = find (full r) j (subst (λ n. j < n) (sym all.size) (mod-lt v some)) in
           at_vertex ranks (end_all delta_rules (full r)) j (delta_rules.ended s.0 (votes r)) v (get_map (λ s. delta_rules.ended s (votes r)) (full r) j s.0 s.1) refl
-          ∙ ap (λ vs. get_or vs (v / ranks) unreached) (facts j s.0 s.1).1
+          ∙ ap (λ vs. get_or vs (v / ranks) unreached_vertex) (facts j s.0 s.1).1
           ∙ sym (at_vertex ranks (full r) j s.0 v s.1 refl)
 
   -- what does not change as a round ends
@@ -445,8 +445,8 @@ module _ (ranks : ℕ) (m : Sparse) (source width : ℕ) (some : 0 < ranks) (few
         let now : InRound delta_rules ranks q shape most (full q) = full_in q (omega arith) in
         let next : InRound delta_rules ranks (suc q) shape most (end_all delta_rules (full q)) = next_in q (omega arith) in
         let fewer : votes q ≤ ranks = votes_low r q last.k h.b top small_q last.after last.none in
-        let becomes : (j : ℕ) (s : DeltaState) → slice_get (full q) j ≡ Some s → delta_rules.ended s (votes q) ≡ finished s =
-        λ j s at. ap (λ p. ended_in p s (votes q)) (last.after.phase j s at) ∙ ap (λ n. cond (nat_lt n (votes q)) (activated s) (finished s)) (now.each j s at).all_ranks ∙ ap (λ t. cond t (activated s) (finished s)) (le-ltb ranks (votes q) fewer) in
+        let becomes : (j : ℕ) (s : DeltaState) → slice_get (full q) j ≡ Some s → delta_rules.ended s (votes q) ≡ after_last_round s =
+        λ j s at. ap (λ p. ended_in p s (votes q)) (last.after.phase j s at) ∙ ap (λ n. cond (nat_lt n (votes q)) (after_activation s) (after_last_round s)) (now.each j s at).all_ranks ∙ ap (λ t. cond t (after_activation s) (after_last_round s)) (le-ltb ranks (votes q) fewer) in
         let round : Offers es (heavy_sent width (open_of ranks (full q))) (stage q) (stage (suc q)) =
         heavy_round es m.rows width ranks q (suc q) (full q) shape most some (graph_edges m g) now next inside.static low becomes in
         let static : Static es m.rows width ranks (full (suc q)) = heavy_static es m.rows width ranks q (suc q) (full q) shape most some (graph_edges m g) now next inside.static low becomes in

@@ -12,8 +12,8 @@ use Rattle.round_program.specs.Canonical.{absorbed_round, end_all, vote_sum, InR
 use Rattle.least_walks.specs.declared.table.Edge.{Edge}
 use Rattle.least_walks.specs.declared.vertices.Vertex.{Vertex}
 use Rattle.least_walks.specs.Walks.{AtMost}
-use Rattle.least_walks.specs.Tables.{edge_of, offers}
-use Rattle.least_walks.specs.Vertices.{unreached, marked, in_bucket, weight_in, picked, calm, calm_if}
+use Rattle.least_walks.specs.Tables.{edge_of, offers_by_place}
+use Rattle.least_walks.specs.Vertices.{unreached_vertex, marked_places, in_bucket, weight_in, places_where, calm, calm_if}
 use Rattle.least_walks.proofs.Marks.{picks_all}
 use Rattle.least_walks.proofs.Members.{has_filtered, was_filtered}
 use Rattle.least_walks.proofs.Offered.{has_mark, was_marked}
@@ -21,7 +21,7 @@ use Rattle.least_walks.proofs.Settled.{cost}
 use Rattle.app_sssp.proofs.Rounds.{Stage}
 use Rattle.app_sssp.proofs.Stages.{AreEdges}
 use Rattle.delta_step.specs.declared.phase.Phase.TheVariants.{Light}
-use Rattle.delta_step.specs.Deltas.{DeltaState, delta_rules, activated}
+use Rattle.delta_step.specs.Deltas.{DeltaState, delta_rules, after_activation}
 use Rattle.delta_step.proofs.Ascending.{has_any, any_has}
 use Rattle.delta_step.proofs.Buckets.{Offers, is_light, active, calmed_stage, light_sent, opened}
 use Rattle.delta_step.proofs.OfferRounds.{vertex_at, stage_of, at_vertex, offer_round, was_at}
@@ -62,31 +62,31 @@ offers_same es sent x z y f g round =
 
 -- ---- Picked places
 
-pub has_pick : (test : Vertex → Bool) (vs : List Vertex) (p : ℕ) → ((get_or vs p unreached).improved && test (get_or vs p unreached)) ≡ true → Contains (picked test vs) p
+pub has_pick : (test : Vertex → Bool) (vs : List Vertex) (p : ℕ) → ((get_or vs p unreached_vertex).improved && test (get_or vs p unreached_vertex)) ≡ true → Contains (places_where test vs) p
 has_pick test vs p h =
-    let parts = and_parts (get_or vs p unreached).improved (test (get_or vs p unreached)) h in
+    let parts = and_parts (get_or vs p unreached_vertex).improved (test (get_or vs p unreached_vertex)) h in
     subst (λ ps. Contains ps p) (picks_all test vs)
-    (has_filtered (λ q. test (get_or vs q unreached)) (marked vs) p (subst (Contains (marked vs)) (let z : 0 + p ≡ p = omega arith in z) (has_mark 0 vs p parts.0)) parts.1)
+    (has_filtered (λ q. test (get_or vs q unreached_vertex)) (marked_places vs) p (subst (Contains (marked_places vs)) (let z : 0 + p ≡ p = omega arith in z) (has_mark 0 vs p parts.0)) parts.1)
 
-pub was_pick : (test : Vertex → Bool) (vs : List Vertex) (p : ℕ) → Contains (picked test vs) p → ((get_or vs p unreached).improved && test (get_or vs p unreached)) ≡ true
+pub was_pick : (test : Vertex → Bool) (vs : List Vertex) (p : ℕ) → Contains (places_where test vs) p → ((get_or vs p unreached_vertex).improved && test (get_or vs p unreached_vertex)) ≡ true
 was_pick test vs p h =
-    let f = was_filtered (λ q. test (get_or vs q unreached)) (marked vs) p (subst (λ ps. Contains ps p) (sym (picks_all test vs)) h) in
+    let f = was_filtered (λ q. test (get_or vs q unreached_vertex)) (marked_places vs) p (subst (λ ps. Contains ps p) (sym (picks_all test vs)) h) in
     let m = was_marked 0 vs p f.0 in
     let is : p ≡ m.0 = (let e : p ≡ 0 + m.0 = m.1 in omega arith) in
-    and_from (get_or vs p unreached).improved (test (get_or vs p unreached)) (ap (λ q. (get_or vs q unreached).improved) is ∙ m.3) f.1
+    and_from (get_or vs p unreached_vertex).improved (test (get_or vs p unreached_vertex)) (ap (λ q. (get_or vs q unreached_vertex).improved) is ∙ m.3) f.1
 
-pub picked_any : (test : Vertex → Bool) (vs : List Vertex) (p : ℕ) → list_any (eqb p) (picked test vs) ≡ ((get_or vs p unreached).improved && test (get_or vs p unreached))
+pub picked_any : (test : Vertex → Bool) (vs : List Vertex) (p : ℕ) → list_any (eqb p) (places_where test vs) ≡ ((get_or vs p unreached_vertex).improved && test (get_or vs p unreached_vertex))
 picked_any test vs p =
-    elim (cases_Bool ((get_or vs p unreached).improved && test (get_or vs p unreached))) [
-      | inl t ↦ any_has p (picked test vs) (has_pick test vs p t) ∙ sym t
-      | inr f ↦ elim (cases_Bool (list_any (eqb p) (picked test vs))) [
-        | inl t ↦ absurd (false≢true (sym f ∙ was_pick test vs p (has_any p (picked test vs) t)))
+    elim (cases_Bool ((get_or vs p unreached_vertex).improved && test (get_or vs p unreached_vertex))) [
+      | inl t ↦ any_has p (places_where test vs) (has_pick test vs p t) ∙ sym t
+      | inr f ↦ elim (cases_Bool (list_any (eqb p) (places_where test vs))) [
+        | inl t ↦ absurd (false≢true (sym f ∙ was_pick test vs p (has_any p (places_where test vs) t)))
         | inr g ↦ g ∙ sym f
       ]
     ]
 
-pub calm_at : (test : Vertex → Bool) (vs : List Vertex) (p : ℕ) → test unreached ≡ false → get_or (map (calm_if test) vs) p unreached ≡ calm_if test (get_or vs p unreached)
-calm_at test [] p h = sym (ap (λ b. cond b (calm unreached) unreached) h)
+pub calm_at : (test : Vertex → Bool) (vs : List Vertex) (p : ℕ) → test unreached_vertex ≡ false → get_or (map (calm_if test) vs) p unreached_vertex ≡ calm_if test (get_or vs p unreached_vertex)
+calm_at test [] p h = sym (ap (λ b. cond b (calm unreached_vertex) unreached_vertex) h)
 calm_at test (v ∷ vs) zero h = refl
 calm_at test (v ∷ vs) (suc p) h = calm_at test vs p h
 
@@ -116,14 +116,14 @@ module _ (es : List Triple) (rows width ranks n k b : ℕ) (ss : List DeltaState
     (all : InRound delta_rules ranks n shape most ss) (next_in : InRound delta_rules ranks k shape most (end_all delta_rules ss))
     (static : Static es rows width ranks ss) (bucket : (r : ℕ) (s : DeltaState) → slice_get ss r ≡ Some s → s.bucket ≡ b)
     (low : (v k : ℕ) → (stage_of ranks ss).found v ≡ Some k → k ≤ 2 ^ 60)
-    (becomes : (r : ℕ) (s : DeltaState) → slice_get ss r ≡ Some s → delta_rules.ended s (vote_sum delta_rules ss) ≡ activated s) where
+    (becomes : (r : ℕ) (s : DeltaState) → slice_get ss r ≡ Some s → delta_rules.ended s (vote_sum delta_rules ss) ≡ after_activation s) where
   abbrev begun : List DeltaState
   begun = end_all delta_rules ss
 
-  begun_at : (r : ℕ) (s : DeltaState) → slice_get ss r ≡ Some s → slice_get begun r ≡ Some (activated s)
+  begun_at : (r : ℕ) (s : DeltaState) → slice_get ss r ≡ Some s → slice_get begun r ≡ Some (after_activation s)
   begun_at r s at = get_map (λ t. delta_rules.ended t (vote_sum delta_rules ss)) ss r s at ∙ ap Some (becomes r s at)
 
-  begun_from : (r : ℕ) (t : DeltaState) → slice_get begun r ≡ Some t → (s : DeltaState) × (slice_get ss r ≡ Some s) × (t ≡ activated s)
+  begun_from : (r : ℕ) (t : DeltaState) → slice_get begun r ≡ Some t → (s : DeltaState) × (slice_get ss r ≡ Some s) × (t ≡ after_activation s)
   begun_from r t at =
       let s = got_map (λ t. delta_rules.ended t (vote_sum delta_rules ss)) ss r t at in
       (s.0, s.1, sym s.2 ∙ becomes r s.0 s.1)
@@ -140,17 +140,17 @@ module _ (es : List Triple) (rows width ranks n k b : ℕ) (ss : List DeltaState
 
   abbrev places_in : Option DeltaState → List ℕ
   places_in None = []
-  places_in (Some s) = picked (in_bucket s.width s.bucket) s.vertices
+  places_in (Some s) = places_where (in_bucket s.width s.bucket) s.vertices
 
   active_is : (r : ℕ) (s : DeltaState) (v : ℕ) → slice_get ss r ≡ Some s → v % ranks ≡ r
-      → active width b (stage_of ranks ss) v ≡ ((get_or s.vertices (v / ranks) unreached).improved && in_bucket s.width s.bucket (get_or s.vertices (v / ranks) unreached))
+      → active width b (stage_of ranks ss) v ≡ ((get_or s.vertices (v / ranks) unreached_vertex).improved && in_bucket s.width s.bucket (get_or s.vertices (v / ranks) unreached_vertex))
   active_is r s v at e =
       ap (λ (w : Vertex). w.improved && weight_in width b w.weight) (at_vertex ranks ss r s v at e)
-      ∙ ap (λ t. (get_or s.vertices (v / ranks) unreached).improved && t) (sym (test_is r s (get_or s.vertices (v / ranks) unreached) at))
+      ∙ ap (λ t. (get_or s.vertices (v / ranks) unreached_vertex).improved && t) (sym (test_is r s (get_or s.vertices (v / ranks) unreached_vertex) at))
 
   begun_vertex : (v : ℕ) → (r : ℕ) (s : DeltaState) → slice_get ss r ≡ Some s → v % ranks ≡ r → vertex_at ranks begun v ≡ calm_if (in_bucket s.width s.bucket) (vertex_at ranks ss v)
   begun_vertex v r s at e =
-      at_vertex ranks begun r (activated s) v (begun_at r s at) e
+      at_vertex ranks begun r (after_activation s) v (begun_at r s at) e
       ∙ calm_at (in_bucket s.width s.bucket) s.vertices (v / ranks) refl
       ∙ ap (calm_if (in_bucket s.width s.bucket)) (sym (at_vertex ranks ss r s v at e))
 
@@ -176,11 +176,11 @@ module _ (es : List Triple) (rows width ranks n k b : ℕ) (ss : List DeltaState
       → (t : Triple) × Contains es t × (t.i % ranks ≡ r) × (t.i / ranks ≡ p) × (edge_of ranks t ≡ e) × (sent t ≡ true)
   sound r t at p e listed kept =
       let s = begun_from r t at in
-      let there : Contains (picked (in_bucket s.0.width s.0.bucket) s.0.vertices) p = subst (λ o. Contains (places_in o) p) s.1 listed in
+      let there : Contains (places_where (in_bucket s.0.width s.0.bucket) s.0.vertices) p = subst (λ o. Contains (places_in o) p) s.1 listed in
       let edge = (static.light r s.0 s.1).sound p e (subst (λ o. Contains (get_or (table_in o) p []) e) s.1 kept) in
       let on : active width b (stage_of ranks ss) edge.0.i ≡ true =
       active_is r s.0 edge.0.i s.1 edge.2
-      ∙ ap (λ q. (get_or s.0.vertices q unreached).improved && in_bucket s.0.width s.0.bucket (get_or s.0.vertices q unreached)) edge.3
+      ∙ ap (λ q. (get_or s.0.vertices q unreached_vertex).improved && in_bucket s.0.width s.0.bucket (get_or s.0.vertices q unreached_vertex)) edge.3
       ∙ was_pick (in_bucket s.0.width s.0.bucket) s.0.vertices p there in
       (edge.0, edge.1, edge.2, edge.3, edge.4, and_from (is_light width edge.0) (active width b (stage_of ranks ss) edge.0.i) edge.5 on)
 
@@ -193,11 +193,11 @@ module _ (es : List Triple) (rows width ranks n k b : ℕ) (ss : List DeltaState
         subst (λ o. Contains (get_or (table_in o) (e.i / ranks) []) (edge_of ranks e)) (sym s.1) ((static.light r s.0 s.1).complete e has parts.0 own),
       )
 
-  sends : (r : ℕ) (t : DeltaState) → slice_get begun r ≡ Some t → t.outgoing ≡ offers (table_in (slice_get ss r)) t.vertices (places_in (slice_get ss r))
+  sends : (r : ℕ) (t : DeltaState) → slice_get begun r ≡ Some t → t.outgoing ≡ offers_by_place (table_in (slice_get ss r)) t.vertices (places_in (slice_get ss r))
   sends r t at =
       let s = begun_from r t at in
-      subst (λ o. t.outgoing ≡ offers (table_in o) t.vertices (places_in o)) (sym s.1)
-      (subst (λ (u : DeltaState). u.outgoing ≡ offers s.0.light u.vertices (picked (in_bucket s.0.width s.0.bucket) s.0.vertices)) (sym s.2) refl)
+      subst (λ o. t.outgoing ≡ offers_by_place (table_in o) t.vertices (places_in o)) (sym s.1)
+      (subst (λ (u : DeltaState). u.outgoing ≡ offers_by_place s.0.light u.vertices (places_where (in_bucket s.0.width s.0.bucket) s.0.vertices)) (sym s.2) refl)
 
   pub light_round : Offers es sent (calmed_stage width b (stage_of ranks ss)) (stage_of ranks light_later)
   light_round =
@@ -209,7 +209,7 @@ module _ (es : List Triple) (rows width ranks n k b : ℕ) (ss : List DeltaState
       (λ v k found. low v k (sym (same_found v) ∙ found)))
 
   -- a rank after the round, from what it was before
-  pub light_was : (r : ℕ) (t : DeltaState) → slice_get light_later r ≡ Some t → (s : DeltaState) × (vs : List Vertex) × (slice_get ss r ≡ Some s) × (t ≡ record (activated s) { vertices = vs })
+  pub light_was : (r : ℕ) (t : DeltaState) → slice_get light_later r ≡ Some t → (s : DeltaState) × (vs : List Vertex) × (slice_get ss r ≡ Some s) × (t ≡ record (after_activation s) { vertices = vs })
   light_was r t at =
       let u = was_at es rows ranks k begun shape most some edges next_in
       (λ r t at. (let s = begun_from r t at in ap (λ (u : DeltaState). u.rows) s.2 ∙ static.size r s.0 s.1))
@@ -227,8 +227,8 @@ module _ (es : List Triple) (rows width ranks n k b : ℕ) (ss : List DeltaState
       let w = light_was r t.0 t.1 in
       let s : DeltaState = w.0 in
       ap (λ a. open_of ranks ss v || a) (active_is r s v w.2 refl ∙ sym (picked_any (in_bucket s.width s.bucket) s.vertices (v / ranks)))
-      ∙ ap (λ a. a || list_any (eqb (v / ranks)) (picked (in_bucket s.width s.bucket) s.vertices)) (at_open ranks ss r s v w.2 refl)
-      ∙ sym (list_any-append (eqb (v / ranks)) s.settled (picked (in_bucket s.width s.bucket) s.vertices))
+      ∙ ap (λ a. a || list_any (eqb (v / ranks)) (places_where (in_bucket s.width s.bucket) s.vertices)) (at_open ranks ss r s v w.2 refl)
+      ∙ sym (list_any-append (eqb (v / ranks)) s.settled (places_where (in_bucket s.width s.bucket) s.vertices))
       ∙ sym (at_open ranks light_later r t.0 v t.1 refl ∙ ap (λ (u : DeltaState). list_any (eqb (v / ranks)) u.settled) w.3)
 
   pub light_static : Static es rows width ranks light_later

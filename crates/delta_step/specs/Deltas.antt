@@ -5,15 +5,15 @@ use Rattle.std.specs.Prelude.{min, Bool, true, false, List, [], ◌∷◌, Optio
 use Rattle.std.specs.List.{All, filter, list_any, range_with_len}
 use Rattle.bale_items.specs.declared.Item.{Item}
 use Rattle.bale_items.specs.declared.triple.Triple.{Triple}
-use Rattle.mtx_text.specs.Cells.{InOrder, raised}
+use Rattle.mtx_text.specs.Cells.{InOrder, with_value_raised}
 use Rattle.round_program.specs.Rules.{Rules}
 use Rattle.round_program.specs.Laws.{is_item}
 use Rattle.sparse_rows.specs.Owners.{places_for}
 use Rattle.least_walks.specs.declared.table.Edge.{Edge}
 use Rattle.least_walks.specs.declared.vertices.Vertex.{Vertex}
-use Rattle.least_walks.specs.Tables.{table_of, offers}
-use Rattle.least_walks.specs.Vertices.{improved_at, marked, in_bucket, picked, calm_if, least_marked}
-use Rattle.app_sssp.specs.Sssps.{edge_came, IsEdge, IsInside}
+use Rattle.least_walks.specs.Tables.{table_of, offers_by_place}
+use Rattle.least_walks.specs.Vertices.{improved_at, marked_places, in_bucket, places_where, calm_if, least_marked}
+use Rattle.app_sssp.specs.Sssps.{edge_came, IsEdge, IsInsideSquare}
 use Rattle.delta_step.specs.declared.phase.Phase.{Phase}
 use Rattle.delta_step.specs.declared.phase.Phase.TheVariants.{First, Find, Light, Heavy}
 
@@ -59,8 +59,8 @@ bucket_of width None = no_bucket
 bucket_of width (Some w) = min (w / width) no_bucket
 
 -- Every rank is told this rank's least bucket.
-abbrev pub announced : ℕ → ℕ → List (ℕ × Item)
-announced ranks bucket = map (λ d. (d, record { a = bucket; b = 0; c = 0 })) (range_with_len 0 ranks)
+abbrev pub announced_items : ℕ → ℕ → List (ℕ × Item)
+announced_items ranks bucket = map (λ d. (d, record { a = bucket; b = 0; c = 0 })) (range_with_len 0 ranks)
 
 -- Some places below n, ascending, each once.
 -- ascending 5 (3, 1, 3) = 1, 3
@@ -69,22 +69,22 @@ ascending n places = filter (λ p. list_any (λ q. p == q) places) (range_with_l
 
 -- ---- Absorbs
 
-abbrev pub offered : DeltaState → Item → List Vertex
-offered s x =
+abbrev pub offered_along : DeltaState → Item → List Vertex
+offered_along s x =
     if nat_lt x.a s.rows && x.a % s.ranks == s.rank then improved_at (x.a / s.ranks) x.b s.vertices else s.vertices
 
 abbrev pub absorbed_in : Phase → DeltaState → Item → DeltaState
-absorbed_in First s x = record s { arriving = raised (edge_came x) s.arriving }
+absorbed_in First s x = record s { arriving = with_value_raised (edge_came x) s.arriving }
 absorbed_in Find s x = record s { bucket = min s.bucket x.a }
-absorbed_in Light s x = record s { vertices = offered s x }
-absorbed_in Heavy s x = record s { vertices = offered s x }
+absorbed_in Light s x = record s { vertices = offered_along s x }
+absorbed_in Heavy s x = record s { vertices = offered_along s x }
 
 -- ---- Votes
 
 abbrev pub vote_in : Phase → DeltaState → ℕ
 vote_in First s = 1
-vote_in Find s = length (marked s.vertices)
-vote_in Light s = 1 + length (picked (in_bucket s.width s.bucket) s.vertices)
+vote_in Find s = length (marked_places s.vertices)
+vote_in Light s = 1 + length (places_where (in_bucket s.width s.bucket) s.vertices)
 vote_in Heavy s = 1
 
 -- ---- Ends of rounds
@@ -100,7 +100,7 @@ finding s =
       phase = Find;
       bucket = no_bucket;
       settled = [];
-      outgoing = announced s.ranks (bucket_of s.width (least_marked s.vertices));
+      outgoing = announced_items s.ranks (bucket_of s.width (least_marked s.vertices));
     }
 
 -- The edges that came are light or heavy.
@@ -113,31 +113,31 @@ sorted_out s =
     }
 
 -- The pending vertices of the bucket become active and settled, and a light round begins.
-abbrev pub activated : DeltaState → DeltaState
-activated s =
+abbrev pub after_activation : DeltaState → DeltaState
+after_activation s =
     record s {
       round = next_round s;
       phase = Light;
       vertices = map (calm_if (in_bucket s.width s.bucket)) s.vertices;
-      settled = s.settled ++ picked (in_bucket s.width s.bucket) s.vertices;
-      outgoing = offers s.light (map (calm_if (in_bucket s.width s.bucket)) s.vertices)
-          (picked (in_bucket s.width s.bucket) s.vertices);
+      settled = s.settled ++ places_where (in_bucket s.width s.bucket) s.vertices;
+      outgoing = offers_by_place s.light (map (calm_if (in_bucket s.width s.bucket)) s.vertices)
+          (places_where (in_bucket s.width s.bucket) s.vertices);
     }
 
 -- The bucket is done, and a heavy round begins.
-abbrev pub finished : DeltaState → DeltaState
-finished s =
+abbrev pub after_last_round : DeltaState → DeltaState
+after_last_round s =
     record s {
       round = next_round s;
       phase = Heavy;
       settled = ascending (length s.vertices) s.settled;
-      outgoing = offers s.heavy s.vertices (ascending (length s.vertices) s.settled);
+      outgoing = offers_by_place s.heavy s.vertices (ascending (length s.vertices) s.settled);
     }
 
 abbrev pub ended_in : Phase → DeltaState → ℕ → DeltaState
 ended_in First s votes = finding (sorted_out s)
-ended_in Find s votes = activated s
-ended_in Light s votes = if nat_lt s.ranks votes then activated s else finished s
+ended_in Find s votes = after_activation s
+ended_in Light s votes = if nat_lt s.ranks votes then after_activation s else after_last_round s
 ended_in Heavy s votes = finding s
 
 -- edges lie inside, there is a place for each own vertex, and what is sent fits
@@ -147,7 +147,7 @@ pub record IsDelta (s : DeltaState) : Type 0 where
   pub some : 0 < s.width
   pub narrow : s.width ≤ 1_000_000_000_000
   pub early : s.phase ≡ First → s.round ≡ 0
-  pub arrived : All (IsInside s.rows) s.arriving
+  pub arrived : All (IsInsideSquare s.rows) s.arriving
   pub ordered : InOrder s.arriving
   pub light_edges : All (All (IsEdge s.ranks s.rows)) s.light
   pub heavy_edges : All (All (IsEdge s.ranks s.rows)) s.heavy

@@ -7,8 +7,8 @@ ghost use Rattle.round_program.specs.Laws.{Fits};
 ghost use Rattle.round_program.specs.Batches.{taken_in};
 ghost use Rattle.least_walks.specs.Vertices.{least_marked};
 ghost use Rattle.delta_step.specs.declared.phase.Phase.TheVariants.{First, Find, Light, Heavy};
-ghost use Rattle.delta_step.specs.Deltas.{IsDelta, DeltaState, delta_rules, bucket_of, announced, no_bucket, ascending, offered, absorbed_in, finding, sorted_out, activated, finished};
-ghost use Rattle.delta_step.specs.code.DeltaSeats.{IsSeat, TakesIn, BeginsRound};
+ghost use Rattle.delta_step.specs.Deltas.{IsDelta, DeltaState, delta_rules, bucket_of, announced_items, no_bucket, ascending, offered_along, absorbed_in, finding, sorted_out, after_activation, after_last_round};
+ghost use Rattle.delta_step.specs.code.DeltaSeats.{IsDeltaSeat, DeltaTakesIn, BeginsRound};
 
 use crate::phase::Phase;
 use crate::seat::Seat;
@@ -227,7 +227,7 @@ impl Delta {
     /// Which items this rank may be sent, and what its round is for.
     #[inline(always)]
     fn seat(&self) -> Seat
-        ensures { IsSeat result self.now }
+        ensures { IsDeltaSeat result self.now }
     {
         Seat {
             rank: self.rank,
@@ -241,8 +241,8 @@ impl Delta {
     /// Takes in an item of a rank, where it fits.
     #[inline(always)]
     fn take_in(&mut self, seat: Seat, from: u32, item: Item) -> Result<(), NoMemory>
-        requires { IsSeat seat self.old }
-        ensures { TakesIn (taken_in delta_rules self.old from item) seat self.old self.new result }
+        requires { IsDeltaSeat seat self.old }
+        ensures { DeltaTakesIn (taken_in delta_rules self.old from item) seat self.old self.new result }
     {
         if seat.fits(from, item) {
             return self.absorb_on(seat, from, item);
@@ -253,9 +253,9 @@ impl Delta {
     /// Takes in an item that fits.
     #[inline(always)]
     fn absorb_on(&mut self, seat: Seat, from: u32, item: Item) -> Result<(), NoMemory>
-        requires seat { IsSeat seat self.old }
+        requires seat { IsDeltaSeat seat self.old }
         requires fits { Fits delta_rules self.old from item }
-        ensures { TakesIn (delta_rules.absorbed self.old from item) seat self.old self.new result }
+        ensures { DeltaTakesIn (delta_rules.absorbed self.old from item) seat self.old self.new result }
     {
         match seat.phase {
             Phase::First => self.take_edge(item),
@@ -292,8 +292,8 @@ impl Delta {
     /// Takes the offer of a weight in, where its vertex is an own one.
     #[inline(always)]
     fn take_offer(&mut self, seat: Seat, item: Item) -> Result<(), NoMemory>
-        requires seat { IsSeat seat self.old }
-        ensures { AllOrNothing (record self.old { vertices = offered self.old item }) self.old self.new result }
+        requires seat { IsDeltaSeat seat self.old }
+        ensures { AllOrNothing (record self.old { vertices = offered_along self.old item }) self.old self.new result }
     {
         if item.a < seat.rows as u64 && item.a as u32 % seat.ranks == seat.rank {
             self.vertices.improve(item.a as u32 / seat.ranks, item.b)?;
@@ -337,7 +337,7 @@ impl Delta {
     /// Begins a light round: the pending vertices of the bucket are active and settled.
     fn activate(&mut self) -> Result<(), NoMemory>
         requires { self.old.phase ≢ First }
-        ensures { BeginsRound (activated self.old) self.old self.new result }
+        ensures { BeginsRound (after_activation self.old) self.old self.new result }
     {
         let active = self.vertices.take_bucket(self.width, self.bucket)?;
         self.settled.extend_from_slice(&active)?;
@@ -351,7 +351,7 @@ impl Delta {
     /// Begins a heavy round: the settled vertices offer along their heavy edges.
     fn finish(&mut self) -> Result<(), NoMemory>
         requires { self.old.phase ≢ First }
-        ensures { BeginsRound (finished self.old) self.old self.new result }
+        ensures { BeginsRound (after_last_round self.old) self.old self.new result }
     {
         put_in_order(&mut self.settled, self.vertices.len());
         put_offers(&mut self.spare, &self.heavy, &self.vertices, &self.settled)?;
@@ -380,7 +380,8 @@ fn announce(
     vertices: &mut Vertices,
 ) -> Result<(), NoMemory>
     requires { 0 < width }
-    ensures told { OnOk result (outgoing.new.items ≡ announced ranks (bucket_of width (least_marked vertices.old))) }
+    ensures told { OnOk result (outgoing.new.items ≡ announced_items ranks (bucket_of width (least_marked
+        vertices.old))) }
     ensures same { vertices.new ≡ vertices.old }
 {
     let bucket = bucket_of(width, vertices.least());

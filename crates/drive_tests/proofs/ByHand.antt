@@ -2,7 +2,7 @@
 -- answered with the next number.
 use Rattle.std.proofs.Common.{◌≡◌, ℕ, zero, suc, [], ◌∷◌, refl}
 use Rattle.drive_tests.specs.Adders.{AdderState, adder_talk}
-use Rattle.round_program.specs.Replies.{carrying, queries_to, replies_of, heard_by, answered}
+use Rattle.round_program.specs.Replies.{carrying, queries_to, replies_of, heard_by, after_answers}
 
 abbrev asker : AdderState
 asker = record { rank = 0; ranks = 2; queries = (1, 5) ∷ (1, 6) ∷ (1, 7) ∷ []; heard = 0 ∷ 0 ∷ 0 ∷ [] }
@@ -24,5 +24,5 @@ replies = refl
 two_heard : (heard_by adder_talk asker (λ d. carrying 6 ∷ carrying 7 ∷ [])).heard ≡ 6 ∷ 7 ∷ 0 ∷ []
 two_heard = refl
 
-all_heard : (answered adder_talk all 0).heard ≡ 6 ∷ 7 ∷ 8 ∷ []
+all_heard : (after_answers adder_talk all 0).heard ≡ 6 ∷ 7 ∷ 8 ∷ []
 all_heard = refl

@@ -12,7 +12,7 @@ use Rattle.rank_node.specs.declared.via.Via.TheVariants.{Convey, Exstack}
 use Rattle.rank_node.specs.Movers.{manner_of}
 use Rattle.rank_node.specs.Movers.Manner.{ByConveyor, ByExstack}
 use Rattle.rank_group.specs.Ranks.{IsOrder}
-use Rattle.rank_group.specs.Told.{turns_of, turns_within}
+use Rattle.rank_group.specs.Transcript.{turns_of, turns_within}
 
 abbrev pub turned_at : Bool → ℕ → ℕ → ℕ
 turned_at reversed n k = cond reversed (n - 1 - k) k

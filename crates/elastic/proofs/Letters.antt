@@ -6,7 +6,7 @@ use Rattle.std.proofs.lemmas.Bool.Decides.{nat_tests}
 use Rattle.std.proofs.lemmas.List.{append_assoc, length-drop, length-append, take_at, drop_at}
 use Rattle.bale_items.specs.declared.Item.{Item}
 use Rattle.list_laws.proofs.Lists.{all_head, all_tail}
-use Rattle.elastic.specs.Spelling.{IsLetter, further, first_item, next_items, spelling, length_in, letter_from, letters_within, letters_of}
+use Rattle.elastic.specs.Spelling.{IsLetter, further, letter_head, next_items, spelling, length_in, letter_from, letters_within, letters_of}
 use Rattle.elastic.specs.Mails.{is_whole, letter_of}
 use Rattle.elastic.specs.Theorem.{SpellingsAreRead, FrontsAreRead}
 use Rattle.elastic.proofs.Pads.{letter_back}
@@ -107,24 +107,24 @@ next_len : (k : ℕ) (bytes : List ℕ) → length (next_items k bytes) ≡ k
 next_len zero bytes = refl
 next_len (suc k) bytes = ap suc (next_len k (drop 24 bytes))
 
-read_spelled : (l : List ℕ) (items : List Item) (k : ℕ) → further (length_in (first_item l)) ≡ k → (rest : List Item) → length rest ≡ k → letter_from (first_item l) rest ≡ l
-    → read_on [] (first_item l ∷ (rest ++ items)) ≡ l ∷ read_on [] items
-read_spelled l items zero e [] len is = step_whole [] (first_item l) items (eq-eqb 0 (further (length_in (first_item l))) (sym e)) ∙ ap (λ m. m ∷ read_on [] items) is
+read_spelled : (l : List ℕ) (items : List Item) (k : ℕ) → further (length_in (letter_head l)) ≡ k → (rest : List Item) → length rest ≡ k → letter_from (letter_head l) rest ≡ l
+    → read_on [] (letter_head l ∷ (rest ++ items)) ≡ l ∷ read_on [] items
+read_spelled l items zero e [] len is = step_whole [] (letter_head l) items (eq-eqb 0 (further (length_in (letter_head l))) (sym e)) ∙ ap (λ m. m ∷ read_on [] items) is
 read_spelled l items zero e (x ∷ rest) len is = absurd (omega arith)
 read_spelled l items (suc k) e rest len is =
     let long : suc k ≤ length (rest ++ items) = let a : length (rest ++ items) ≡ length rest + length items = length-append rest items in omega arith in
-    step_part [] (first_item l) (rest ++ items) (ne_eqb 0 (further (length_in (first_item l))) (λ q. absurd (omega arith)))
-    ∙ read_begun (first_item l) [] (rest ++ items) k (e ∙ zero_and (suc k))
-    ∙ ap (λ b. cond b [] (letter_from (first_item l) (take (suc k) (rest ++ items)) ∷ read_on [] (drop (suc k) (rest ++ items)))) (long_test (length (rest ++ items)) (suc k) long)
-    ∙ ap (λ m. letter_from (first_item l) m ∷ read_on [] (drop (suc k) (rest ++ items))) (take_at rest items (suc k) len)
-    ∙ ap (λ m. letter_from (first_item l) rest ∷ read_on [] m) (drop_at rest items (suc k) len)
+    step_part [] (letter_head l) (rest ++ items) (ne_eqb 0 (further (length_in (letter_head l))) (λ q. absurd (omega arith)))
+    ∙ read_begun (letter_head l) [] (rest ++ items) k (e ∙ zero_and (suc k))
+    ∙ ap (λ b. cond b [] (letter_from (letter_head l) (take (suc k) (rest ++ items)) ∷ read_on [] (drop (suc k) (rest ++ items)))) (long_test (length (rest ++ items)) (suc k) long)
+    ∙ ap (λ m. letter_from (letter_head l) m ∷ read_on [] (drop (suc k) (rest ++ items))) (take_at rest items (suc k) len)
+    ∙ ap (λ m. letter_from (letter_head l) rest ∷ read_on [] m) (drop_at rest items (suc k) len)
     ∙ ap (λ m. m ∷ read_on [] items) is
 
 read_spelling : (l : List ℕ) (items : List Item) → IsLetter l → read_on [] (spelling l ++ items) ≡ l ∷ read_on [] items
 read_spelling l items is =
     let short : length l ≤ 65_535 = is.short in
     let rest : List Item = next_items (further (length l)) (drop 16 l) in
-    let count : further (length_in (first_item l)) ≡ further (length l) = ap further (let m : length_in (first_item l) ≡ length l = omega arith in m) in
+    let count : further (length_in (letter_head l)) ≡ further (length l) = ap further (let m : length_in (letter_head l) ≡ length l = omega arith in m) in
     read_spelled l items (further (length l)) count rest (next_len (further (length l)) (drop 16 l)) (letter_back l is)
 
 pub read_spellings : (ls : List (List ℕ)) → All IsLetter ls → read_on [] (flat_map spelling ls) ≡ ls

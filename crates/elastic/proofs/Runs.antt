@@ -10,7 +10,7 @@ use Rattle.std.proofs.lemmas.Option.{slice_get-map, slice_get_past}
 use Rattle.bale_items.specs.declared.Item.{Item}
 use Rattle.list_laws.proofs.Lists.{all_head, all_tail, all_from_gets, all_get, got_map, get_map, find}
 use Rattle.round_program.specs.Laws.{Fits}
-use Rattle.round_program.specs.Canonical.{items_of, emitted_of, emitted_by, absorb_all, absorb_upto, absorbed_round, vote_sum, round_of, states_at, votes_at, shape_of, HasRounds, InRound, Member}
+use Rattle.round_program.specs.Canonical.{items_of, emitted_of, emitted_by, absorb_all, absorb_upto, absorbed_round, vote_sum, after_whole_round, states_at, votes_at, shape_of, HasRounds, InRound, Member}
 use Rattle.round_program.proofs.Items.{items_push}
 use Rattle.round_program.proofs.Members.{in_round_at}
 use Rattle.round_program.proofs.Orders.{every_order}
@@ -18,7 +18,7 @@ use Rattle.elastic.specs.Spelling.{IsLetter, spelling, letters_of}
 use Rattle.elastic.specs.LetterRules.{LetterRules}
 use Rattle.elastic.specs.LetterLaws.{LetterLaws}
 use Rattle.elastic.specs.LetterRuns.{letters_to_of, letters_by, absorb_letters, letters_upto, letters_absorbed, letter_votes, letter_round, letter_states, letter_votes_at, letter_shape, HasLetterRounds, LetterMember, InLetterRound}
-use Rattle.elastic.specs.Mails.{MailState, mailing, mail_rules, spelled, is_whole, letter_of, begun_with, item_absorbed}
+use Rattle.elastic.specs.Mails.{MailState, mailing, mail_rules, spelling_of, is_whole, letter_of, with_next_item, item_absorbed}
 use Rattle.elastic.specs.laws.MailLaws.{mail_laws, mailing_valid, sender_low}
 use Rattle.elastic.specs.Theorem.{EachLetterOnce, MailersRunLetters}
 use Rattle.elastic.proofs.Letters.{read_on, left_over, read_all, spellings_are_read}
@@ -37,7 +37,7 @@ record After {S : Type 0} (R : LetterRules S) (t u : MailState S) (f : ℕ) (ite
 after_all : {S : Type 0} (R : LetterRules S) (t : MailState S) (f : ℕ) (items : List Item) → f < length t.begun → After R t (absorb_all (mail_rules R) t f items) f items
 after_all R t f [] low = record { inner = refl; begun = sym (set-get_or t.begun f []) }
 after_all {S} R t f (x ∷ xs) low =
-    let items : List Item = begun_with t.begun f x in
+    let items : List Item = with_next_item t.begun f x in
     let left : List Item = cond (is_whole items) [] items in
     let u : MailState S = item_absorbed R t f x in
     let here : get_or u.begun f [] ≡ left = get_or-set_same t.begun f left [] low in
@@ -106,11 +106,11 @@ sent_one : (b : Bool) (l : List ℕ) (es : List (ℕ × List ℕ)) (to : ℕ) �
 sent_one true l es to = refl
 sent_one false l es to = refl
 
-sent_spelled : (d : ℕ) (letters : List (ℕ × List ℕ)) → items_of d (spelled letters) ≡ flat_map spelling (map (λ e. e.1) (filter (λ e. e.0 == d) letters))
+sent_spelled : (d : ℕ) (letters : List (ℕ × List ℕ)) → items_of d (spelling_of letters) ≡ flat_map spelling (map (λ e. e.1) (filter (λ e. e.0 == d) letters))
 sent_spelled d [] = refl
 sent_spelled d (e ∷ es) =
-    items_push d (map (λ x. (e.0, x)) (spelling e.1)) (spelled es)
-    ∙ ap (λ xs. xs ++ items_of d (spelled es)) (one_letter d e.0 (spelling e.1))
+    items_push d (map (λ x. (e.0, x)) (spelling e.1)) (spelling_of es)
+    ∙ ap (λ xs. xs ++ items_of d (spelling_of es)) (one_letter d e.0 (spelling e.1))
     ∙ ap (λ xs. cond (e.0 == d) (spelling e.1) [] ++ xs) (sent_spelled d es)
     ∙ sent_one (e.0 == d) e.1 (filter (λ w. w.0 == d) es) e.0
 
@@ -192,7 +192,7 @@ votes_same : {S : Type 0} (R : LetterRules S) → LetterLaws R → (ss : List S)
 votes_same R laws ss a =
     ap (λ n. min n (2 ^ 64 - 1)) (vote_inners R (absorbed_round (mail_rules R) (map (mailing R) ss)) ∙ ap (sum_by R.vote) (inners_absorbed R laws ss a))
 
-round_same : {S : Type 0} (R : LetterRules S) → LetterLaws R → (ss : List S) → All (Ranked R (length ss)) ss → round_of (mail_rules R) (map (mailing R) ss) ≡ map (mailing R) (letter_round R ss)
+round_same : {S : Type 0} (R : LetterRules S) → LetterLaws R → (ss : List S) → All (Ranked R (length ss)) ss → after_whole_round (mail_rules R) (map (mailing R) ss) ≡ map (mailing R) (letter_round R ss)
 round_same {S} R laws ss a =
     let ts : List (MailState S) = absorbed_round (mail_rules R) (map (mailing R) ss) in
     end_inners R (vote_sum (mail_rules R) ts) ts
@@ -238,7 +238,7 @@ at_round R laws p shape most starts zero all = record { states = refl; all = ran
 at_round R laws p shape most starts (suc n) all =
     let before : AtRound R starts n = at_round R laws p shape most starts n all in
     let states : states_at (mail_rules R) (map (mailing R) starts) (suc n) ≡ map (mailing R) (letter_states R starts (suc n)) =
-    ap (round_of (mail_rules R)) before.states ∙ round_same R laws (letter_states R starts n) before.all in
+    ap (after_whole_round (mail_rules R)) before.states ∙ round_same R laws (letter_states R starts n) before.all in
     record {
       states = states;
       all =

@@ -10,7 +10,7 @@ use Rattle.list_laws.proofs.Lists.{find, get_map, get_once, map_set}
 use Rattle.elastic.specs.Spelling.{IsLetter, next_item, next_items, spelling, length_in, bytes_in, letter_from}
 use Rattle.elastic.specs.LetterRules.{LetterRules}
 use Rattle.elastic.specs.LetterLaws.{LetterLaws, SameLetters, NextLetters, StillSends}
-use Rattle.elastic.specs.Mails.{MailState, IsMail, spelled, is_whole, begun_after}
+use Rattle.elastic.specs.Mails.{MailState, IsMail, spelling_of, is_whole, begun_after}
 use Rattle.elastic.specs.laws.MailLaws.{spelled_sent, mail_kept}
 
 -- ---- Reading
@@ -66,14 +66,14 @@ spell_more to old new total rest next some e n so_far =
     ∙ append_assoc old ((to, next_item rest) ∷ []) (map (λ x. (to, x)) (next_items ((length (drop 24 rest) + 23) / 24) (drop 24 rest)))
     ∙ ap (λ k. old ++ map (λ x. (to, x)) (next_items k rest)) (sym count) ∙ so_far
 
-spelled_append : (xs ys : List (ℕ × List ℕ)) → spelled (xs ++ ys) ≡ spelled xs ++ spelled ys
+spelled_append : (xs ys : List (ℕ × List ℕ)) → spelling_of (xs ++ ys) ≡ spelling_of xs ++ spelling_of ys
 spelled_append [] ys = refl
 spelled_append (x ∷ xs) ys =
-    ap (λ l. map (λ i. (x.0, i)) (spelling x.1) ++ l) (spelled_append xs ys) ∙ sym (append_assoc (map (λ i. (x.0, i)) (spelling x.1)) (spelled xs) (spelled ys))
+    ap (λ l. map (λ i. (x.0, i)) (spelling x.1) ++ l) (spelled_append xs ys) ∙ sym (append_assoc (map (λ i. (x.0, i)) (spelling x.1)) (spelling_of xs) (spelling_of ys))
 
 -- one more letter
 pub spelled_more : (letters : List (ℕ × List ℕ)) (i to : ℕ) (l : List ℕ) (old new : List (ℕ × Item)) → i < length letters → slice_get (map (λ e. e.0) letters) i ≡ Some to → slice_get (map (λ e. e.1) letters) i ≡ Some l
-    → old ≡ spelled (take i letters) → new ≡ old ++ map (λ x. (to, x)) (spelling l) → new ≡ spelled (take (i + 1) letters)
+    → old ≡ spelling_of (take i letters) → new ≡ old ++ map (λ x. (to, x)) (spelling l) → new ≡ spelling_of (take (i + 1) letters)
 spelled_more letters i to l old new low a b so_far e =
     let w : (w : ℕ × List ℕ) × (slice_get letters i ≡ Some w) = find letters i low in
     let first : to ≡ w.0.0 = get_once (map (λ e. e.0) letters) i to w.0.0 a (get_map (λ e. e.0) letters i w.0 w.1) in
@@ -81,7 +81,7 @@ spelled_more letters i to l old new low a b so_far e =
     let more : take (i + 1) letters ≡ take i letters ++ w.0 ∷ [] = take_more letters i w.0 low ∙ ap (λ x. take i letters ++ x ∷ []) (get_or_from_slice_get letters i w.0 w.0 w.1) in
     e ∙ ap (λ k. old ++ map (λ x. (k, x)) (spelling l)) first ∙ ap (λ m. old ++ map (λ x. (w.0.0, x)) (spelling m)) second
     ∙ ap (λ m. m ++ map (λ x. (w.0.0, x)) (spelling w.0.1)) so_far
-    ∙ sym (ap spelled more ∙ spelled_append (take i letters) (w.0 ∷ []) ∙ ap (λ m. spelled (take i letters) ++ m) (append-nil (map (λ x. (w.0.0, x)) (spelling w.0.1))))
+    ∙ sym (ap spelling_of more ∙ spelled_append (take i letters) (w.0 ∷ []) ∙ ap (λ m. spelling_of (take i letters) ++ m) (append-nil (map (λ x. (w.0.0, x)) (spelling w.0.1))))
 
 -- ---- Handing over
 
@@ -95,7 +95,7 @@ still_rank R laws i t f l (Err e) v low is ok err = (err.rank, err.ranks)
 -- ---- Mailers, from their fields
 
 -- one as it is made
-pub made_valid : {S : Type 0} (R : LetterRules S) → LetterLaws R → (s : S) (outgoing : List (ℕ × Item)) (begun : List (List Item)) → R.valid s → outgoing ≡ spelled (R.letters s) → begun ≡ replicate (R.ranks s) []
+pub made_valid : {S : Type 0} (R : LetterRules S) → LetterLaws R → (s : S) (outgoing : List (ℕ × Item)) (begun : List (List Item)) → R.valid s → outgoing ≡ spelling_of (R.letters s) → begun ≡ replicate (R.ranks s) []
     → IsMail R (record { inner = s; outgoing = outgoing; begun = begun })
 made_valid R laws s outgoing begun v e b =
     record {
@@ -107,7 +107,7 @@ made_valid R laws s outgoing begun v e b =
 
 -- and one whose round has ended
 pub ended_valid : {S : Type 0} (R : LetterRules S) → LetterLaws R → (s : MailState S) (t : S) (votes n : ℕ) (outgoing : List (ℕ × Item)) (begun : List (List Item)) → IsMail R s → votes < 2 ^ 64 → R.valid t
-    → t ≡ R.ended s.inner votes → outgoing ≡ spelled (R.letters t) → n ≡ length s.begun → begun ≡ replicate n [] → IsMail R (record { inner = t; outgoing = outgoing; begun = begun })
+    → t ≡ R.ended s.inner votes → outgoing ≡ spelling_of (R.letters t) → n ≡ length s.begun → begun ≡ replicate n [] → IsMail R (record { inner = t; outgoing = outgoing; begun = begun })
 ended_valid R laws s t votes n outgoing begun m low v e o len b =
     let k : NextLetters R s.inner (R.ended s.inner votes) = laws.next s.inner votes m.inner low in
     made_valid R laws t outgoing begun v o (b ∙ ap (λ i. replicate i []) (len ∙ m.senders ∙ sym (ap R.ranks e ∙ k.ranks)))

@@ -19,13 +19,13 @@ pub record MailState (S : Type 0) : Type 0 where
   pub begun : List (List Item)
 
 -- The spellings of letters, each item with the rank that its letter goes to.
-abbrev pub spelled : List (ℕ × List ℕ) → List (ℕ × Item)
-spelled letters = flat_map (λ e. map (λ x. (e.0, x)) (spelling e.1)) letters
+abbrev pub spelling_of : List (ℕ × List ℕ) → List (ℕ × Item)
+spelling_of letters = flat_map (λ e. map (λ x. (e.0, x)) (spelling e.1)) letters
 
 -- The mailer of a letter program as a round begins: all its letters are to be sent, and no sender
 -- has begun one.
 abbrev pub mailing : {S : Type 0} → LetterRules S → S → MailState S
-mailing R s = record { inner = s; outgoing = spelled (R.letters s); begun = replicate (R.ranks s) [] }
+mailing R s = record { inner = s; outgoing = spelling_of (R.letters s); begun = replicate (R.ranks s) [] }
 
 -- Whether items are a whole letter, where they are no more than one.
 abbrev pub is_whole : List Item → Bool
@@ -38,20 +38,20 @@ letter_of [] = []
 letter_of (x ∷ xs) = letter_from x xs
 
 -- What a sender has begun, with one more item.
-abbrev pub begun_with : List (List Item) → ℕ → Item → List Item
-begun_with begun from x = slice_index_or begun from [] ++ x ∷ []
+abbrev pub with_next_item : List (List Item) → ℕ → Item → List Item
+with_next_item begun from x = slice_index_or begun from [] ++ x ∷ []
 
 -- What all senders have begun after one more item: a letter that is whole isn't begun any more.
 abbrev pub begun_after : List (List Item) → ℕ → Item → List (List Item)
 begun_after begun from x =
-    slice_set begun from (if is_whole (begun_with begun from x) then [] else begun_with begun from x)
+    slice_set begun from (if is_whole (with_next_item begun from x) then [] else with_next_item begun from x)
 
 -- One more item was absorbed. Where it makes a letter whole, the letter program absorbs the letter.
 abbrev pub item_absorbed : {S : Type 0} → LetterRules S → MailState S → ℕ → Item → MailState S
 item_absorbed R s from x =
     record s {
-      inner = if is_whole (begun_with s.begun from x)
-          then R.absorbed s.inner from (letter_of (begun_with s.begun from x)) else s.inner;
+      inner = if is_whole (with_next_item s.begun from x)
+          then R.absorbed s.inner from (letter_of (with_next_item s.begun from x)) else s.inner;
       begun = begun_after s.begun from x;
     }
 

@@ -21,8 +21,8 @@ pad (suc k) (b ∷ bs) = b ∷ pad k bs
 -- The word that holds the first eight bytes of a list, from the lowest eight bits up; what isn't
 -- used is 0.
 -- "q" is 113, "ba" is 0x6162
-abbrev pub word_of : List ℕ → ℕ
-word_of bytes = from_le_bytes w64 (pad 8 bytes)
+abbrev pub packed_word : List ℕ → ℕ
+packed_word bytes = from_le_bytes w64 (pad 8 bytes)
 
 -- How many items spell what a first item doesn't hold of n bytes: one for each further 24 bytes
 -- begun.
@@ -32,13 +32,13 @@ further n = (n - 16 + 23) / 24
 
 -- The item that begins a letter: its length and its first 16 bytes.
 -- "abcdefghijklmnopq" begins with (17, 0x6867666564636261, 0x706f6e6d6c6b6a69)
-abbrev pub first_item : List ℕ → Item
-first_item l = record { a = length l; b = word_of l; c = word_of (drop 8 l) }
+abbrev pub letter_head : List ℕ → Item
+letter_head l = record { a = length l; b = packed_word l; c = packed_word (drop 8 l) }
 
 -- The items behind it: 24 bytes each.
 -- of "abcdefghijklmnopq" it is "q" that is left: (113, 0, 0)
 abbrev pub next_item : List ℕ → Item
-next_item bytes = record { a = word_of bytes; b = word_of (drop 8 bytes); c = word_of (drop 16 bytes) }
+next_item bytes = record { a = packed_word bytes; b = packed_word (drop 8 bytes); c = packed_word (drop 16 bytes) }
 
 abbrev pub next_items : ℕ → List ℕ → List Item
 next_items zero bytes = []
@@ -46,7 +46,7 @@ next_items (suc k) bytes = next_item bytes ∷ next_items k (drop 24 bytes)
 
 -- The spelling of a letter.
 abbrev pub spelling : List ℕ → List Item
-spelling l = first_item l ∷ next_items (further (length l)) (drop 16 l)
+spelling l = letter_head l ∷ next_items (further (length l)) (drop 16 l)
 
 -- The length of the letter that an item begins.
 abbrev pub length_in : Item → ℕ

@@ -2,7 +2,7 @@
 -- letter programs do.
 use Rattle.std.specs.Prelude.{ℕ, ◌≡◌, List, map}
 use Rattle.std.specs.List.{All, flat_map}
-use Rattle.list_laws.specs.Lists.{Begins}
+use Rattle.list_laws.specs.Lists.{IsPrefix}
 use Rattle.bale_items.specs.declared.Item.{Item}
 use Rattle.round_program.specs.Laws.{Fits}
 use Rattle.round_program.specs.Canonical.{items_of, emitted_by, states_at, votes_at, HasRounds, InRound, HaveEnded}
@@ -17,9 +17,9 @@ use Rattle.elastic.specs.Mails.{MailState, mailing, mail_rules}
 abbrev pub SpellingsAreRead : Type 0
 SpellingsAreRead = (ls : List (List ℕ)) → All IsLetter ls → letters_of (flat_map spelling ls) ≡ ls
 
--- And the letters of a front of any list are a front of its letters.
+-- And the letters of a prefix of any list are a prefix of its letters.
 abbrev pub FrontsAreRead : Type 0
-FrontsAreRead = (front whole : List Item) → Begins front whole → Begins (letters_of front) (letters_of whole)
+FrontsAreRead = (front whole : List Item) → IsPrefix front whole → IsPrefix (letters_of front) (letters_of whole)
 
 -- After each absorb, in whatever order the items of the senders came, the letter program has
 -- absorbed from each sender the letters of the items absorbed from it.

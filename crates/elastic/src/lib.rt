@@ -11,7 +11,7 @@
 //! |---|---|
 //! | [`LetterProgram`] | one rank's part of a computation in rounds, in which letters are sent |
 //! | [`Mailer`] | a program over a letter program: [`Mailer::new`], [`Mailer::inner`] |
-//! | [`letters_of_spellings`] | a theorem: a list of spellings spells the letters, and a front of it a front of them |
+//! | [`letters_of_spellings`] | a theorem: a list of spellings spells the letters, and a prefix of it a prefix of them |
 //! | [`letters_once`] | a theorem: after each absorb the letter program has absorbed each whole letter, in its sender's order, once |
 //! | [`mailers_run_letters`] | a theorem: mailers compute what their letter programs do |
 //!

@@ -3,7 +3,7 @@
 ghost use Rattle.std.specs.Prelude.{◌≡◌, ◌<◌, ◌++◌, ◌∷◌, [], true, IfOk, OnOk, cond, length, map, replicate, slice_set};
 ghost use Rattle.std.specs.List.{flat_map};
 ghost use Rattle.elastic.specs.Spelling.{further, bytes_in, letter_from};
-ghost use Rattle.elastic.specs.Mails.{is_whole, letter_of, begun_with, begun_after};
+ghost use Rattle.elastic.specs.Mails.{is_whole, letter_of, with_next_item, begun_after};
 
 use bale_items::{Item, NoMemory};
 
@@ -35,11 +35,11 @@ pub(crate) fn take_from(
 ) -> Result<bool, NoMemory>
     requires { from < length begun.old.items }
     ensures whole { IfOk result (λ whole. whole
-        ≡ is_whole (begun_with (map (λ l. l.items) begun.old.items) from item)) }
+        ≡ is_whole (with_next_item (map (λ l. l.items) begun.old.items) from item)) }
     ensures begun { OnOk result (map (λ l. l.items) begun.new.items
         ≡ begun_after (map (λ l. l.items) begun.old.items) from item) }
     ensures letter { IfOk result (λ whole. whole ≡ true → letter.new.items
-        ≡ letter_of (begun_with (map (λ l. l.items) begun.old.items) from item)) }
+        ≡ letter_of (with_next_item (map (λ l. l.items) begun.old.items) from item)) }
     ensures senders { length begun.new.items ≡ length begun.old.items }
 {
     take_in(&mut begun[from], letter, item)

@@ -1,8 +1,8 @@
 //! Letters as items.
 
 ghost use Rattle.std.specs.Prelude.{◌≡◌, ◌<◌, ◌++◌, OnOk, IfOk, length, map, drop};
-ghost use Rattle.elastic.specs.Spelling.{word_of, first_item, next_item, spelling};
-ghost use Rattle.elastic.specs.Mails.{spelled};
+ghost use Rattle.elastic.specs.Spelling.{packed_word, letter_head, next_item, spelling};
+ghost use Rattle.elastic.specs.Mails.{spelling_of};
 
 use crate::letter_program::LetterProgram;
 use bale_items::{Item, NoMemory};
@@ -16,7 +16,7 @@ const NEXT: usize = 24;
 
 /// What a letter program sends in its round, as items.
 pub(crate) fn spelled<Q: LetterProgram>(alloc: Global, q: &Q) -> Result<Vec<(u32, Item)>, NoMemory>
-    ensures { IfOk result (λ v. v.items ≡ spelled (Q.rules.letters q.now)) }
+    ensures { IfOk result (λ v. v.items ≡ spelling_of (Q.rules.letters q.now)) }
 {
     let count = q.count();
     let mut outgoing = Vec::with_capacity(alloc, count as usize)?;
@@ -41,7 +41,7 @@ pub(crate) fn spell(outgoing: &mut Vec<(u32, Item)>, to: u32, letter: &[u8]) -> 
 
 /// The item that begins a letter: its length and its first bytes.
 fn first_item(letter: &[u8]) -> Item
-    ensures { result ≡ first_item letter.now }
+    ensures { result ≡ letter_head letter.now }
 {
     Item {
         a: letter.len() as u64,
@@ -70,7 +70,7 @@ fn behind(bytes: &[u8], len: usize) -> &[u8]
 
 /// The first eight bytes as a word, from the lowest bits up; 0 where there is no byte.
 fn word_of(bytes: &[u8]) -> u64
-    ensures { result ≡ word_of bytes.now }
+    ensures { result ≡ packed_word bytes.now }
 {
     match bytes.first_chunk::<8>() {
         Some(word) => u64::from_le_bytes(*word),
@@ -81,7 +81,7 @@ fn word_of(bytes: &[u8]) -> u64
 /// Fewer than eight bytes as a word, from the lowest bits up.
 fn short_word(bytes: &[u8]) -> u64
     requires { length bytes.now < 8 }
-    ensures { result ≡ word_of bytes.now }
+    ensures { result ≡ packed_word bytes.now }
 {
     if bytes.is_empty() {
         return 0;

@@ -4,8 +4,8 @@ ghost use Rattle.elastic.specs.Theorem.{SpellingsAreRead, FrontsAreRead, EachLet
 
 use crate::letter_program::LetterProgram;
 
-/// The letters of a list of spellings are the letters spelled, and the letters of a front of a list
-/// are a front of its letters.
+/// The letters of a list of spellings are the letters spelled, and the letters of a prefix of a
+/// list are a prefix of its letters.
 pub fn letters_of_spellings()
     ensures spellings { SpellingsAreRead }
     ensures fronts { FrontsAreRead }

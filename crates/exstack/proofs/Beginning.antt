@@ -7,10 +7,10 @@ use Rattle.item_buffer.specs.Contents.{Shipped}
 use Rattle.port_bank.specs.Logs.{Logs, segment}
 use Rattle.exstack.specs.declared.stage.Stage.{Stage}
 use Rattle.exstack.specs.declared.stage.Stage.TheVariants.{Start, Proceeding, Filling, Exchanging, Full, AllDone}
-use Rattle.exstack.specs.Links.{Out, In, no_out, no_in, with_put_back, begun_out, begun_in}
-use Rattle.exstack.specs.State.{Stack, out_at, in_at, link_to, link_from, is_proceeding, is_exchanging, may_proceed, may_exchange, in_proceed, in_exchange}
-use Rattle.exstack.specs.Standing.{IsOut, IsIn, IsStack, IsKept, may_wait}
-use Rattle.exstack.specs.Cycles.{entries_exchanged, exchange_parcel, entries_in}
+use Rattle.exstack.specs.Links.{StackOut, StackIn, no_stack_out, no_stack_in, with_put_back, begun_out, begun_in}
+use Rattle.exstack.specs.State.{Stack, stack_out_at, stack_in_at, stack_link_to, stack_link_from, is_proceeding, is_exchanging, may_proceed, may_exchange, in_proceed, in_exchange}
+use Rattle.exstack.specs.Standing.{IsStackOut, IsStackIn, IsStack, IsKeptStack, may_wait}
+use Rattle.exstack.specs.Cycles.{entries_exchanged, exchange_parcel, entries_if_any}
 use Rattle.list_laws.specs.Lists.{Ends}
 use Rattle.exstack.specs.Agreement.{LinkAgrees, AgreesIn, rounds_in, cycle_after, back_first}
 use Rattle.exstack.proofs.Calls.{not_both}
@@ -33,7 +33,7 @@ none_due stage due b round = false_from_ne_true due (λ d. not_both (is_proceedi
 
 -- a proceed round begins
 module _ (cap : ℕ) (stage : Stage) (done0 done : Bool) (stays : done0 ≡ true → done ≡ true) where
-  pub out_proceeds : (o : Out) → Between stage → ((due : Bool) → may_wait stage due ≡ false) → IsOut cap stage done0 o → IsOut cap Proceeding done (begun_out o)
+  pub out_proceeds : (o : StackOut) → Between stage → ((due : Bool) → may_wait stage due ≡ false) → IsStackOut cap stage done0 o → IsStackOut cap Proceeding done (begun_out o)
   out_proceeds o b wait s = record {
     fits = s.fits;
     closed_empty = s.closed_empty;
@@ -45,11 +45,11 @@ module _ (cap : ℕ) (stage : Stage) (done0 done : Bool) (stays : done0 ≡ true
     sent_on = λ h. s.sent_on (wait o.due);
   }
 
-in_proceeds : (i : In) → IsIn Proceeding (begun_in i)
+in_proceeds : (i : StackIn) → IsStackIn Proceeding (begun_in i)
 in_proceeds i = record { due_open = λ h. not_false i.ended h; due_empty = λ h. refl; due_round = λ h. refl; read = λ h. refl; all_ended = λ h. absurd (false≢true h) }
 
 -- an exchange round begins
-out_exchanges : (cap : ℕ) (done : Bool) (o : Out) → IsOut cap Filling done o → IsOut cap Exchanging done (begun_out o)
+out_exchanges : (cap : ℕ) (done : Bool) (o : StackOut) → IsStackOut cap Filling done o → IsStackOut cap Exchanging done (begun_out o)
 out_exchanges cap done o s =
     let b : Between Filling = record { no_round = refl } in
     let d : o.due ≡ false = none_due Filling o.due b s.due_round in
@@ -64,22 +64,22 @@ out_exchanges cap done o s =
       sent_on = λ h. s.closed_empty (not_true o.closed h);
     }
 
-in_exchanges : (i : In) → IsIn Exchanging (begun_in i)
+in_exchanges : (i : StackIn) → IsStackIn Exchanging (begun_in i)
 in_exchanges i = record { due_open = λ h. not_false i.ended h; due_empty = λ h. refl; due_round = λ h. refl; read = λ h. absurd (false≢true (sym h)); all_ended = λ h. absurd (false≢true h) }
 
 -- the links of a state after its round began
-pub begun_outs : (outs : List Out) (b : ℕ) (d : Out) → b < length (map begun_out outs) → get_or (map begun_out outs) b d ≡ begun_out (get_or outs b no_out)
-begun_outs outs b d w = get_or-map begun_out outs b no_out d (omega (arith, w, length-map outs begun_out))
+pub begun_outs : (outs : List StackOut) (b : ℕ) (d : StackOut) → b < length (map begun_out outs) → get_or (map begun_out outs) b d ≡ begun_out (get_or outs b no_stack_out)
+begun_outs outs b d w = get_or-map begun_out outs b no_stack_out d (omega (arith, w, length-map outs begun_out))
 
-pub begun_ins : (ins : List In) (a : ℕ) (d : In) → a < length (map begun_in ins) → get_or (map begun_in ins) a d ≡ begun_in (get_or ins a no_in)
-begun_ins ins a d w = get_or-map begun_in ins a no_in d (omega (arith, w, length-map ins begun_in))
+pub begun_ins : (ins : List StackIn) (a : ℕ) (d : StackIn) → a < length (map begun_in ins) → get_or (map begun_in ins) a d ≡ begun_in (get_or ins a no_stack_in)
+begun_ins ins a d w = get_or-map begun_in ins a no_stack_in d (omega (arith, w, length-map ins begun_in))
 
 none_some : (a : ℕ) → None ≡ Some a → ⊥
 none_some a e = cc
 
-module _ (cap : ℕ) (st : Stack) (from : ℕ) (stage : Stage) (done : Bool) (k : IsKept cap st from) (each_out : (o : Out) → IsOut cap st.stage st.done o → IsOut cap stage done (begun_out o))
-    (each_in : (i : In) → IsIn stage (begun_in i)) where
-  pub begun_kept : IsKept cap (record st { stage = stage; done = done; outs = map begun_out st.outs; ins = map begun_in st.ins; popped = None }) from
+module _ (cap : ℕ) (st : Stack) (from : ℕ) (stage : Stage) (done : Bool) (k : IsKeptStack cap st from) (each_out : (o : StackOut) → IsStackOut cap st.stage st.done o → IsStackOut cap stage done (begun_out o))
+    (each_in : (i : StackIn) → IsStackIn stage (begun_in i)) where
+  pub begun_kept : IsKeptStack cap (record st { stage = stage; done = done; outs = map begun_out st.outs; ins = map begun_in st.ins; popped = None }) from
   begun_kept = record {
     standing = record {
       is_cap = k.standing.is_cap;
@@ -87,12 +87,12 @@ module _ (cap : ℕ) (st : Stack) (from : ℕ) (stage : Stage) (done : Bool) (k 
       few = k.standing.few;
       all_outs = length-map st.outs begun_out ∙ k.standing.all_outs;
       all_ins = length-map st.ins begun_in ∙ k.standing.all_ins;
-      each_out = λ b d w. subst (IsOut cap stage done) (sym (begun_outs st.outs b d w)) (each_out (get_or st.outs b no_out) (k.standing.each_out b no_out (omega (arith, w, length-map st.outs begun_out))));
-      each_in = λ a d w. subst (IsIn stage) (sym (begun_ins st.ins a d w)) (each_in (get_or st.ins a no_in));
+      each_out = λ b d w. subst (IsStackOut cap stage done) (sym (begun_outs st.outs b d w)) (each_out (get_or st.outs b no_stack_out) (k.standing.each_out b no_stack_out (omega (arith, w, length-map st.outs begun_out))));
+      each_in = λ a d w. subst (IsStackIn stage) (sym (begun_ins st.ins a d w)) (each_in (get_or st.ins a no_stack_in));
       can_unpop = λ a e. absurd (none_some a e);
     };
     from_high = k.from_high;
-    from_none = λ a w. ap (λ (i : In). i.unread) (begun_ins st.ins a no_in (omega (arith, w, k.from_high, k.standing.all_ins, length-map st.ins begun_in)));
+    from_none = λ a w. ap (λ (i : StackIn). i.unread) (begun_ins st.ins a no_stack_in (omega (arith, w, k.from_high, k.standing.all_ins, length-map st.ins begun_in)));
   }
 
 -- the stages in which a round may begin
@@ -113,15 +113,15 @@ exchange_filling Full m p = absurd (false≢true m)
 exchange_filling AllDone m p = absurd (false≢true m)
 
 -- so the exstack is one after the beginning
-pub proceed_kept : (cap : ℕ) (st : Stack) (from : ℕ) (done : Bool) → IsKept cap st from → may_proceed st.stage ≡ true → is_proceeding st.stage ≡ false → (st.done ≡ true → done ≡ true)
-    → IsKept cap (record st { stage = Proceeding; done = done; outs = map begun_out st.outs; ins = map begun_in st.ins; popped = None }) from
+pub proceed_kept : (cap : ℕ) (st : Stack) (from : ℕ) (done : Bool) → IsKeptStack cap st from → may_proceed st.stage ≡ true → is_proceeding st.stage ≡ false → (st.done ≡ true → done ≡ true)
+    → IsKeptStack cap (record st { stage = Proceeding; done = done; outs = map begun_out st.outs; ins = map begun_in st.ins; popped = None }) from
 proceed_kept cap st from done k may not_yet stays =
     let b = proceed_between st.stage may not_yet in
     begun_kept cap st from Proceeding done k (λ o s. out_proceeds cap st.stage st.done done stays o b.0 b.1 s) in_proceeds
 
-pub exchange_kept : (cap : ℕ) (st : Stack) (from : ℕ) → IsKept cap st from → st.stage ≡ Filling
-    → IsKept cap (record st { stage = Exchanging; outs = map begun_out st.outs; ins = map begun_in st.ins; popped = None }) from
-exchange_kept cap st from k filling = begun_kept cap st from Exchanging st.done k (λ o s. out_exchanges cap st.done o (subst (λ g. IsOut cap g st.done o) filling s)) in_exchanges
+pub exchange_kept : (cap : ℕ) (st : Stack) (from : ℕ) → IsKeptStack cap st from → st.stage ≡ Filling
+    → IsKeptStack cap (record st { stage = Exchanging; outs = map begun_out st.outs; ins = map begun_in st.ins; popped = None }) from
+exchange_kept cap st from k filling = begun_kept cap st from Exchanging st.done k (λ o s. out_exchanges cap st.done o (subst (λ g. IsStackOut cap g st.done o) filling s)) in_exchanges
 
 -- a link as its round begins: its parcel of the round is due, unless the link is through with the
 -- epoch
@@ -136,7 +136,7 @@ link_begun e rounds through due log none a = record {
 }
 
 -- without the right to unpop
-pub forget : {whole : List Entry} (popped : Option ℕ) (a : ℕ) (i : In) → Ends whole (back_first popped a i) → Ends whole i.unread
+pub forget : {whole : List Entry} (popped : Option ℕ) (a : ℕ) (i : StackIn) → Ends whole (back_first popped a i) → Ends whole i.unread
 forget None a i e = e
 forget (Some p) a i e = by_test (p == a) i.back e
   where
@@ -151,8 +151,8 @@ agrees_rest n st sent got a = record {
   ins = a.ins;
   shapes = a.shapes;
   law = a.law;
-  came = λ b w. forget st.popped b (in_at st b) (a.came b w);
-  in_cycle = λ b w. forget st.popped b (in_at st b) (a.in_cycle b w);
+  came = λ b w. forget st.popped b (stack_in_at st b) (a.came b w);
+  in_cycle = λ b w. forget st.popped b (stack_in_at st b) (a.in_cycle b w);
   own = a.own;
 }
 
@@ -162,31 +162,31 @@ module _ (cap n m : ℕ) (st : Stack) (stage : Stage) (done : Bool) (sent got : 
   begun : Stack
   begun = record st { stage = stage; done = done; outs = map begun_out st.outs; ins = map begun_in st.ins; popped = None }
 
-  out_begun : (b : ℕ) → b < st.ranks → get_or (map begun_out st.outs) b no_out ≡ begun_out (out_at st b)
-  out_begun b w = begun_outs st.outs b no_out (omega (arith, w, s.all_outs, length-map st.outs begun_out))
+  out_begun : (b : ℕ) → b < st.ranks → get_or (map begun_out st.outs) b no_stack_out ≡ begun_out (stack_out_at st b)
+  out_begun b w = begun_outs st.outs b no_stack_out (omega (arith, w, s.all_outs, length-map st.outs begun_out))
 
-  in_begun : (b : ℕ) → b < st.ranks → get_or (map begun_in st.ins) b no_in ≡ begun_in (in_at st b)
-  in_begun b w = begun_ins st.ins b no_in (omega (arith, w, s.all_ins, length-map st.ins begun_in))
+  in_begun : (b : ℕ) → b < st.ranks → get_or (map begun_in st.ins) b no_stack_in ≡ begun_in (stack_in_at st b)
+  in_begun b w = begun_ins st.ins b no_stack_in (omega (arith, w, s.all_ins, length-map st.ins begun_in))
 
-  empty : (b : ℕ) → b < st.ranks → [] ≡ (get_or (map begun_in st.ins) b no_in).unread
-  empty b w = sym (ap (λ (i : In). i.unread) (in_begun b w))
+  empty : (b : ℕ) → b < st.ranks → [] ≡ (get_or (map begun_in st.ins) b no_stack_in).unread
+  empty b w = sym (ap (λ (i : StackIn). i.unread) (in_begun b w))
 
   pub agrees_begun : AgreesIn m (record st { stage = stage; done = done; outs = map begun_out st.outs; ins = map begun_in st.ins; popped = None }) sent got
   agrees_begun = record {
     outs = λ b w.
-        let o : Out = out_at st b in
-        let d : o.due ≡ false = none_due st.stage o.due between (s.each_out b no_out (omega (arith, w, s.all_outs))).due_round in
-        subst (λ (z : Out). LinkAgrees st.epoch (rounds_in m stage) z.closed z.due (sent (link_to st b))) (sym (out_begun b w))
-        (subst (λ r. LinkAgrees st.epoch r o.closed (not o.closed) (sent (link_to st b))) (sym more) (link_begun st.epoch (rounds_in n st.stage) o.closed o.due (sent (link_to st b)) d (a.outs b w)));
+        let o : StackOut = stack_out_at st b in
+        let d : o.due ≡ false = none_due st.stage o.due between (s.each_out b no_stack_out (omega (arith, w, s.all_outs))).due_round in
+        subst (λ (z : StackOut). LinkAgrees st.epoch (rounds_in m stage) z.closed z.due (sent (stack_link_to st b))) (sym (out_begun b w))
+        (subst (λ r. LinkAgrees st.epoch r o.closed (not o.closed) (sent (stack_link_to st b))) (sym more) (link_begun st.epoch (rounds_in n st.stage) o.closed o.due (sent (stack_link_to st b)) d (a.outs b w)));
     ins = λ b w.
-        let i : In = in_at st b in
-        let d : i.due ≡ false = none_due st.stage i.due between (s.each_in b no_in (omega (arith, w, s.all_ins))).due_round in
-        subst (λ (z : In). LinkAgrees st.epoch (rounds_in m stage) z.ended z.due (got (link_from st b))) (sym (in_begun b w))
-        (subst (λ r. LinkAgrees st.epoch r i.ended (not i.ended) (got (link_from st b))) (sym more) (link_begun st.epoch (rounds_in n st.stage) i.ended i.due (got (link_from st b)) d (a.ins b w)));
+        let i : StackIn = stack_in_at st b in
+        let d : i.due ≡ false = none_due st.stage i.due between (s.each_in b no_stack_in (omega (arith, w, s.all_ins))).due_round in
+        subst (λ (z : StackIn). LinkAgrees st.epoch (rounds_in m stage) z.ended z.due (got (stack_link_from st b))) (sym (in_begun b w))
+        (subst (λ r. LinkAgrees st.epoch r i.ended (not i.ended) (got (stack_link_from st b))) (sym more) (link_begun st.epoch (rounds_in n st.stage) i.ended i.due (got (stack_link_from st b)) d (a.ins b w)));
     shapes = a.shapes;
     law = a.law;
-    came = λ b w. subst (Ends (entries_exchanged st.epoch (got (link_from st b)))) (empty b w) (ends_none (entries_exchanged st.epoch (got (link_from st b))));
-    in_cycle = λ b w. subst (Ends (entries_in (exchange_parcel st.epoch m (got (link_from st b))))) (empty b w) (ends_none (entries_in (exchange_parcel st.epoch m (got (link_from st b)))));
+    came = λ b w. subst (Ends (entries_exchanged st.epoch (got (stack_link_from st b)))) (empty b w) (ends_none (entries_exchanged st.epoch (got (stack_link_from st b))));
+    in_cycle = λ b w. subst (Ends (entries_if_any (exchange_parcel st.epoch m (got (stack_link_from st b))))) (empty b w) (ends_none (entries_if_any (exchange_parcel st.epoch m (got (stack_link_from st b)))));
     own = a.own;
   }
 

@@ -4,86 +4,86 @@
 use Rattle.std.proofs.Common.{◌≡◌, ◌≢◌, ℕ, ◌+◌, ◌<◌, Bool, true, false, cond, [], ◌∷◌, ◌++◌, length, slice_get, Some, inl, inr, refl, sym, ap, subst, ◌∙◌, arith, eq-eqb, ne_eqb}
 use Rattle.std.proofs.lemmas.Bool.{cases_eq}
 use Rattle.bale_items.specs.declared.item.Item.{Item}
-use Rattle.list_laws.specs.Lists.{Begins, changed}
+use Rattle.list_laws.specs.Lists.{IsPrefix, changed}
 use Rattle.port_bank.specs.Logs.{Logs, starting_at, ending_at}
 use Rattle.port_bank.specs.Machine.{Part, ItemLists, for_ranks, Step, after, MayComplete, NamesRank, Allows, IsOwnStep, IsStep, IsThrough, completed_of, done_of, EpochsClose}
 use Rattle.port_bank.specs.Machine.Step.{Push, Pull, Unpull, Done, Complete, Reset, Idle}
 use Rattle.port_bank.proofs.Owners.{sent_elsewhere, got_elsewhere}
 use Rattle.port_bank.proofs.Listing.{for_ranks-within, with-item_here, next_of, through_same, through_done, all_below}
 use Rattle.exstack.specs.State.{Stack}
-use Rattle.exstack.specs.Agreement.{AgreesWith}
-use Rattle.exstack.specs.Parts.{part_of, pushed_to, pulled_of, is_all_done, AreOwnSteps, proceed_steps}
+use Rattle.exstack.specs.Agreement.{StackAgrees}
+use Rattle.exstack.specs.Parts.{stack_part, stack_pushed_to, popped_of, is_all_done, AreOwnSteps, proceed_steps}
 use Rattle.exstack.specs.Standing.{IsStack}
-use Rattle.exstack.specs.Law.{AgreeTogether, IsCall, state_of, AreSteps}
+use Rattle.exstack.specs.Law.{StacksAgree, IsStackCall, stacks_state, AreSteps}
 use Rattle.exstack.proofs.BothEnds as ends
 
 for_all : (n m : ℕ) (lists : ItemLists) (e r : ℕ) → m ≡ n → r < n → for_ranks m lists e r ≡ lists e r
 for_all n m lists e r same h = ap (λ k. for_ranks k lists e r) same ∙ for_ranks-within n lists e r h
 
-module _ (ranks cap slots : ℕ) (all : ℕ → Stack) (sent got : Logs) (t : AgreeTogether ranks cap slots all sent got) where
-  -- what a rank pulled is the front of what its sender pushed
-  pub in_order : (e s d : ℕ) → s < ranks → d < ranks → Begins ((state_of ranks all sent got d).pulled e s) ((state_of ranks all sent got s).pushed e d)
+module _ (ranks cap slots : ℕ) (all : ℕ → Stack) (sent got : Logs) (t : StacksAgree ranks cap slots all sent got) where
+  -- what a rank pulled is a prefix of what its sender pushed
+  pub in_order : (e s d : ℕ) → s < ranks → d < ranks → IsPrefix ((stacks_state ranks all sent got d).pulled e s) ((stacks_state ranks all sent got s).pushed e d)
   in_order e s d from to =
-      subst (λ xs. Begins xs ((state_of ranks all sent got s).pushed e d)) (sym (for_all ranks (all d).ranks (pulled_of (all d) (ending_at (ranks ∷ []) d got)) e s (t.same_ranks d to) from))
-      (subst (Begins (pulled_of (all d) (ending_at (ranks ∷ []) d got) e s)) (sym (for_all ranks (all s).ranks (pushed_to (all s) (starting_at (ranks ∷ []) s sent)) e d (t.same_ranks s from) to))
+      subst (λ xs. IsPrefix xs ((stacks_state ranks all sent got s).pushed e d)) (sym (for_all ranks (all d).ranks (popped_of (all d) (ending_at (ranks ∷ []) d got)) e s (t.same_ranks d to) from))
+      (subst (IsPrefix (popped_of (all d) (ending_at (ranks ∷ []) d got) e s)) (sym (for_all ranks (all s).ranks (stack_pushed_to (all s) (starting_at (ranks ∷ []) s sent)) e d (t.same_ranks s from) to))
       (ends.in_order ranks cap slots all sent got t s d from to e))
 
-  pub all_of : (e s d : ℕ) → s < ranks → d < ranks → e < completed_of (state_of ranks all sent got d) → (state_of ranks all sent got d).pulled e s ≡ (state_of ranks all sent got s).pushed e d
+  pub all_of : (e s d : ℕ) → s < ranks → d < ranks → e < completed_of (stacks_state ranks all sent got d) → (stacks_state ranks all sent got d).pulled e s ≡ (stacks_state ranks all sent got s).pushed e d
   all_of e s d from to h =
-      for_all ranks (all d).ranks (pulled_of (all d) (ending_at (ranks ∷ []) d got)) e s (t.same_ranks d to) from
+      for_all ranks (all d).ranks (popped_of (all d) (ending_at (ranks ∷ []) d got)) e s (t.same_ranks d to) from
       ∙ (ends.whole ranks cap slots all sent got t s d from to e h
-      ∙ sym (for_all ranks (all s).ranks (pushed_to (all s) (starting_at (ranks ∷ []) s sent)) e d (t.same_ranks s from) to))
+      ∙ sym (for_all ranks (all s).ranks (stack_pushed_to (all s) (starting_at (ranks ∷ []) s sent)) e d (t.same_ranks s from) to))
 
-  pub is_through : (e s d : ℕ) → s < ranks → d < ranks → e < completed_of (state_of ranks all sent got d) → IsThrough e (state_of ranks all sent got s)
+  pub is_through : (e s d : ℕ) → s < ranks → d < ranks → e < completed_of (stacks_state ranks all sent got d) → IsThrough e (stacks_state ranks all sent got s)
   is_through e s d from to h =
       ends.through ranks cap slots all sent got t s d from to e
       (ends.ended_sent ranks cap slots all sent got t s d from to e (ends.ended ranks cap slots all sent got t s d from to e h))
 
   -- a complete rank
-  pub may_complete : (d : ℕ) → d < ranks → is_all_done (all d).stage ≡ true → MayComplete ranks d (state_of ranks all sent got)
+  pub may_complete : (d : ℕ) → d < ranks → is_all_done (all d).stage ≡ true → MayComplete ranks d (stacks_state ranks all sent got)
   may_complete d to c =
-      let now : (all d).epoch < completed_of (state_of ranks all sent got d) = subst (λ b. (all d).epoch < cond b ((all d).epoch + 1) (all d).epoch) (sym c) (omega arith) in
+      let now : (all d).epoch < completed_of (stacks_state ranks all sent got d) = subst (λ b. (all d).epoch < cond b ((all d).epoch + 1) (all d).epoch) (sym c) (omega arith) in
       record {
         through = λ s from. is_through (all d).epoch s d from to now;
         all = λ s from. all_of (all d).epoch s d from to now;
       }
 
-  pub close : EpochsClose ranks (state_of ranks all sent got)
+  pub close : EpochsClose ranks (stacks_state ranks all sent got)
   close = record {
     begins = λ r s e to from. in_order e s r from to;
     all_done = λ r s to from.
-        all_below (completed_of (state_of ranks all sent got r)) (done_of (state_of ranks all sent got s))
-        (λ e h. through_done e (state_of ranks all sent got s) (is_through e s r from to h));
+        all_below (completed_of (stacks_state ranks all sent got r)) (done_of (stacks_state ranks all sent got s))
+        (λ e h. through_done e (stacks_state ranks all sent got s) (is_through e s r from to h));
     whole = λ r s e to from h. all_of e s r from to h;
   }
 
 module _ (ranks cap slots r : ℕ) (old new : ℕ → Stack) (sent sent' got got' : Logs)
-    (t : AgreeTogether ranks cap slots old sent got) (c : IsCall ranks cap slots r old new sent sent' got got') where
+    (t : StacksAgree ranks cap slots old sent got) (c : IsStackCall ranks cap slots r old new sent sent' got got') where
   -- what holds of the rank that is called and of all others, holds of each
   each_rank : (P : ℕ → Type 0) → P r → ((q : ℕ) → q < ranks → q ≢ r → P q) → (q : ℕ) → q < ranks → P q
   each_rank P here other q h = elim (cases_eq q r) [ inl same ↦ subst P (sym same) here | inr ne ↦ other q h ne ]
 
-  agrees_other : (q : ℕ) → q < ranks → q ≢ r → AgreesWith (new q) (starting_at (ranks ∷ []) q sent') (ending_at (ranks ∷ []) q got')
+  agrees_other : (q : ℕ) → q < ranks → q ≢ r → StackAgrees (new q) (starting_at (ranks ∷ []) q sent') (ending_at (ranks ∷ []) q got')
   agrees_other q h ne =
-      subst (λ b. AgreesWith b (starting_at (ranks ∷ []) q sent') (ending_at (ranks ∷ []) q got')) (sym (c.others q h ne))
-      (subst (λ s. AgreesWith (old q) s (ending_at (ranks ∷ []) q got')) (sym (sent_elsewhere (ranks ∷ []) r q sent sent' ne c.sent_elsewhere))
-      (subst (λ g. AgreesWith (old q) (starting_at (ranks ∷ []) q sent) g) (sym (got_elsewhere (ranks ∷ []) r q got got' ne c.got_elsewhere)) (t.agree q h)))
+      subst (λ b. StackAgrees b (starting_at (ranks ∷ []) q sent') (ending_at (ranks ∷ []) q got')) (sym (c.others q h ne))
+      (subst (λ s. StackAgrees (old q) s (ending_at (ranks ∷ []) q got')) (sym (sent_elsewhere (ranks ∷ []) r q sent sent' ne c.sent_elsewhere))
+      (subst (λ g. StackAgrees (old q) (starting_at (ranks ∷ []) q sent) g) (sym (got_elsewhere (ranks ∷ []) r q got got' ne c.got_elsewhere)) (t.agree q h)))
 
-  pub stays_together : AgreeTogether ranks cap slots new sent' got'
+  pub stays_together : StacksAgree ranks cap slots new sent' got'
   stays_together = record {
     few = t.few;
     links_keep = c.links_keep;
     same_ranks = each_rank (λ q. (new q).ranks ≡ ranks) c.same_ranks (λ q h ne. ap (λ (b : Stack). b.ranks) (c.others q h ne) ∙ t.same_ranks q h);
     same_rank = each_rank (λ q. (new q).rank ≡ q) c.same_rank (λ q h ne. ap (λ (b : Stack). b.rank) (c.others q h ne) ∙ t.same_rank q h);
     standing = each_rank (λ q. IsStack cap (new q)) c.standing (λ q h ne. subst (IsStack cap) (sym (c.others q h ne)) (t.standing q h));
-    agree = each_rank (λ q. AgreesWith (new q) (starting_at (ranks ∷ []) q sent') (ending_at (ranks ∷ []) q got')) c.agrees agrees_other;
+    agree = each_rank (λ q. StackAgrees (new q) (starting_at (ranks ∷ []) q sent') (ending_at (ranks ∷ []) q got')) c.agrees agrees_other;
   }
 
   before : ℕ → Part
-  before = state_of ranks old sent got
+  before = stacks_state ranks old sent got
 
   later : ℕ → Part
-  later = state_of ranks new sent' got'
+  later = stacks_state ranks new sent' got'
 
   other_parts : (q : ℕ) → q < ranks → q ≢ r → later q ≡ before q
   unfolding before later
@@ -91,7 +91,7 @@ module _ (ranks cap slots r : ℕ) (old new : ℕ → Stack) (sent sent' got got
       let b = c.others q h ne in
       let s = sent_elsewhere (ranks ∷ []) r q sent sent' ne c.sent_elsewhere in
       let g = got_elsewhere (ranks ∷ []) r q got got' ne c.got_elsewhere in
-      λ i. part_of (b i) (s i) (g i)
+      λ i. stack_part (b i) (s i) (g i)
 
   -- a state in which the other ranks are as after the call
   module _ (mid : ℕ → Part) (others : (q : ℕ) → q < ranks → q ≢ r → later q ≡ mid q) where
@@ -105,8 +105,8 @@ module _ (ranks cap slots r : ℕ) (old new : ℕ → Stack) (sent sent' got got
         let grown : (later r).pulled e s ≡ (mid r).pulled e s ++ x ∷ [] = ap (λ p. p.pulled e s) own.is ∙ with-item_here (mid r).pulled e s x in
         let stay : (later s).pushed e r ≡ (mid s).pushed e r = ap (λ f. f e r) (stays (λ p. p.pushed) (ap (λ p. p.pushed) own.is) s h) in
         next_of ((mid r).pulled e s) ((mid s).pushed e r) x
-        (subst (λ ys. Begins ((mid r).pulled e s ++ x ∷ []) ys) stay
-        (subst (λ xs. Begins xs ((later s).pushed e r)) grown (in_order ranks cap slots new sent' got' stays_together e s r h c.rank)))
+        (subst (λ ys. IsPrefix ((mid r).pulled e s ++ x ∷ []) ys) stay
+        (subst (λ xs. IsPrefix xs ((later s).pushed e r)) grown (in_order ranks cap slots new sent' got' stays_together e s r h c.rank)))
 
     complete_allowed : IsOwnStep Complete (mid r) (later r) → MayComplete ranks r mid
     unfolding later
@@ -135,8 +135,8 @@ module _ (ranks cap slots r : ℕ) (old new : ℕ → Stack) (sent sent' got got
     made : (step : Step) → NamesRank ranks step → IsOwnStep step (mid r) (later r) → IsStep ranks r step mid later
     made step named own = record { allowed = allowed step named own; own = own; others = others }
 
-  pub is_step : (step : Step) → NamesRank ranks step → IsOwnStep step (state_of ranks old sent got r) (state_of ranks new sent' got' r)
-      → IsStep ranks r step (state_of ranks old sent got) (state_of ranks new sent' got')
+  pub is_step : (step : Step) → NamesRank ranks step → IsOwnStep step (stacks_state ranks old sent got r) (stacks_state ranks new sent' got' r)
+      → IsStep ranks r step (stacks_state ranks old sent got) (stacks_state ranks new sent' got')
   unfolding before later
   is_step step named own = made before other_parts step named own
 
@@ -163,8 +163,8 @@ module _ (ranks cap slots r : ℕ) (old new : ℕ → Stack) (sent sent' got got
   noted : ℕ → Part
   noted = changed before r (after Done (before r))
 
-  pub are_steps : (was now complete : Bool) → AreOwnSteps (proceed_steps was now complete) (state_of ranks old sent got r) (state_of ranks new sent' got' r)
-      → AreSteps ranks r (proceed_steps was now complete) (state_of ranks old sent got) (state_of ranks new sent' got')
+  pub are_steps : (was now complete : Bool) → AreOwnSteps (proceed_steps was now complete) (stacks_state ranks old sent got r) (stacks_state ranks new sent' got' r)
+      → AreSteps ranks r (proceed_steps was now complete) (stacks_state ranks old sent got) (stacks_state ranks new sent' got')
   unfolding before later noted
   are_steps false true true own =
       let mid : ℕ → Part = changed before r (after Done (before r)) in

@@ -2,14 +2,14 @@
 use Rattle.std.proofs.Common.{◌≡◌, ◌≢◌, ℕ, ◌<◌, Bool, true, false, cond, List, [], ◌∷◌, ◌++◌, length, refl, sym, ap, ◌∙◌, arith}
 use Rattle.std.proofs.lemmas.List.{length-append, append-nil}
 use Rattle.std.proofs.lemmas.Nat.{same_from_place}
-use Rattle.list_laws.specs.Lists.{Begins}
-use Rattle.exstack.specs.Links.{Out, In, parcel_of, gone, came}
+use Rattle.list_laws.specs.Lists.{IsPrefix}
+use Rattle.exstack.specs.Links.{StackOut, StackIn, parcel_of, gone, came}
 use Rattle.item_buffer.specs.Contents.{Shipped}
 use Rattle.port_bank.specs.declared.port.Port.{Ghosts}
 use Rattle.port_bank.specs.Logs.{Logs}
 use Rattle.port_bank.specs.Frames.{OutsElsewhere, InsElsewhere}
 use Rattle.exstack.specs.State.{number}
-use Rattle.exstack.specs.Steps.{latest, was_moved, WasPosted, WasCollected, InVain}
+use Rattle.exstack.specs.Steps.{latest, was_moved, WasPostedInRound, WasCollected, InVain}
 
 -- what a port shows of a link out: its log, how often the port looked for room, and whether it is
 -- crowded; and of a link in: its log, what was noted of it, and whether it is idle
@@ -35,16 +35,16 @@ pub in_seen : {P : Type 0} {cap : ℕ} {M : Type 0} (G : Ghosts P cap M) (l : �
 in_seen G l old new e m ne = λ i. record { log = e.got m ne i; count = e.noted m ne i; stuck = e.idle m ne i }
 
 -- the steps of a sweep over links out, and over links in
-abbrev pub Posted : Bool → ℕ → Out → Out → Sight → Sight → Type 0
-Posted last epoch o o' s s' = WasPosted last epoch o o' s.log s'.log
+abbrev pub Posted : Bool → ℕ → StackOut → StackOut → Sight → Sight → Type 0
+Posted last epoch o o' s s' = WasPostedInRound last epoch o o' s.log s'.log
 
-abbrev pub Served : Out → Out → Sight → Sight → Type 0
+abbrev pub Served : StackOut → StackOut → Sight → Sight → Type 0
 Served o o' s s' = o'.due ≡ true → InVain s.count s'.count s'.stuck
 
-abbrev pub Collected : Bool → In → In → Sight → Sight → Type 0
+abbrev pub Collected : Bool → StackIn → StackIn → Sight → Sight → Type 0
 Collected exchange i i' s s' = WasCollected exchange i i' s.log s'.log
 
-abbrev pub Asked : In → In → Sight → Sight → Type 0
+abbrev pub Asked : StackIn → StackIn → Sight → Sight → Type 0
 Asked i i' s s' = i'.due ≡ true → InVain s.count s'.count s'.stuck
 
 -- the number of the link into r from a
@@ -56,12 +56,12 @@ unmoved : (b : Bool) → was_moved b b ≡ false
 unmoved true = refl
 unmoved false = refl
 
-pub none_posted : (last : Bool) (epoch : ℕ) (o : Out) (s : Sight) → Posted last epoch o o s s
+pub none_posted : (last : Bool) (epoch : ℕ) (o : StackOut) (s : Sight) → Posted last epoch o o s s
 none_posted last epoch o s =
     let e : was_moved o.due o.due ≡ false = unmoved o.due in
     record { link = sym (ap (λ b. cond b (gone last) o) e); sent = sym (ap (λ b. cond b (s.log ++ parcel_of last epoch o ∷ []) s.log) e) }
 
-pub none_collected : (exchange : Bool) (i : In) (s : Sight) → Collected exchange i i s s
+pub none_collected : (exchange : Bool) (i : StackIn) (s : Sight) → Collected exchange i i s s
 none_collected exchange i s =
     let e : was_moved i.due i.due ≡ false = unmoved i.due in
     record { link = sym (ap (λ b. cond b (came exchange (latest s.log)) i) e); got = sym (ap (λ b. cond b (s.log ++ latest s.log ∷ []) s.log) e) }
@@ -74,7 +74,7 @@ pub in_apart : (n r i k : ℕ) → r < n → k ≢ i → number n k r ≢ number
 in_apart n r i k w ne e = ne (same_from_place k r i r n w w e).0
 
 -- a log between two equal ones is the same
-pub begins_between : {T : Type 0} (a b c : List T) → Begins a b → Begins b c → c ≡ a → b ≡ a
+pub begins_between : {T : Type 0} (a b c : List T) → IsPrefix a b → IsPrefix b c → c ≡ a → b ≡ a
 begins_between a b c p q e = nothing_more a p.rest (omega (arith, ap length p.is, ap length q.is, ap length e, length-append a p.rest, length-append b q.rest)) p.is
   where
     nothing_more : {T : Type 0} (a more : List T) {b : List T} → length more ≡ 0 → b ≡ a ++ more → b ≡ a

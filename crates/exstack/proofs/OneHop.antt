@@ -11,7 +11,7 @@ use Rattle.route_tensor.specs.Link.{links, link}
 use Rattle.route_tensor.specs.Tag.{IsFair, digit}
 use Rattle.route_tensor.specs.Ends.{hop_at, sender_at, reader_at}
 use Rattle.route_tensor.proofs.Ends.{hop_at_has}
-use Rattle.port_bank.specs.Logs.{Logs, added}
+use Rattle.port_bank.specs.Logs.{Logs, with_parcel}
 use Rattle.port_bank.specs.Flow.{hop_link}
 use Rattle.port_bank.specs.Relay.{RelayLaw, HasFairTags}
 use Rattle.port_bank.proofs.Routes.{sender-on_route, reader-on_route, link-on_route}
@@ -102,7 +102,7 @@ no_tag_fair dims g = record {
 
 -- a parcel of entries without tags may be posted
 pub plain_law : (dims : List ℕ) (r : ℕ) (sent got : Logs) (l : ℕ) (p : Shipped) → IsGrid dims → length dims ≡ 1 → l < links dims → All (λ (e : Entry). e.tag ≡ no_tag) p.entries
-    → RelayLaw dims r sent got → RelayLaw dims r (added sent l p) got
+    → RelayLaw dims r sent got → RelayLaw dims r (with_parcel sent l p) got
 plain_law dims r sent got l p g one below plain law =
     let h = hop_at_has dims l below in
     let first : hop_at dims l ≡ 1 = omega (arith, h.first, h.last, one) in

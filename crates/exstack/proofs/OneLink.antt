@@ -11,9 +11,9 @@ use Rattle.port_bank.specs.Logs.{lasts, segment, lasts_in}
 use Rattle.port_bank.specs.Shapes.{IsExstackShape}
 use Rattle.port_bank.proofs.Segments.{lasts-append, lasts_first}
 use Rattle.port_bank.proofs.Posts.{segment_now, segment_then}
-use Rattle.exstack.specs.Links.{Out, In, parcel_of, gone, came}
-use Rattle.exstack.specs.Steps.{was_moved, WasPosted, WasCollected, latest}
-use Rattle.exstack.specs.Cycles.{odd_ones, entries_exchanged, exchange_parcel, entries_in}
+use Rattle.exstack.specs.Links.{StackOut, StackIn, parcel_of, gone, came}
+use Rattle.exstack.specs.Steps.{was_moved, WasPostedInRound, WasCollected, latest}
+use Rattle.exstack.specs.Cycles.{odd_ones, entries_exchanged, exchange_parcel, entries_if_any}
 use Rattle.list_laws.specs.Lists.{Ends}
 use Rattle.exstack.specs.Agreement.{LinkAgrees}
 
@@ -60,25 +60,25 @@ pub open_due : (e rounds : ℕ) (through due : Bool) (log : List Shipped) → th
 open_due e rounds through due log t d a = subst (λ x. LinkAgrees e rounds x true log) t (subst (λ x. LinkAgrees e rounds through x log) d a)
 
 -- a link out in a round
-module _ (e rounds : ℕ) (last : Bool) (o o' : Out) (log log' : List Shipped) (due_open : o.due ≡ true → o.closed ≡ false) (a : LinkAgrees e rounds o.closed o.due log) where
+module _ (e rounds : ℕ) (last : Bool) (o o' : StackOut) (log log' : List Shipped) (due_open : o.due ≡ true → o.closed ≡ false) (a : LinkAgrees e rounds o.closed o.due log) where
   out_by : (b : Bool) → was_moved o.due o'.due ≡ b → o' ≡ cond b (gone last) o → log' ≡ cond b (log ++ parcel_of last e o ∷ []) log → LinkAgrees e rounds o'.closed o'.due log'
   out_by true m link sent =
       let d : o.due ≡ true = moved_due o.due o'.due m in
       let new = link_moved e rounds log (parcel_of last e o) (open_due e rounds o.closed o.due log (due_open d) d a) in
-      subst (λ (z : Out). LinkAgrees e rounds z.closed z.due log') (sym link) (subst (λ g. LinkAgrees e rounds last false g) (sym sent) new)
-  out_by false m link sent = subst (λ (z : Out). LinkAgrees e rounds z.closed z.due log') (sym link) (subst (λ g. LinkAgrees e rounds o.closed o.due g) (sym sent) a)
+      subst (λ (z : StackOut). LinkAgrees e rounds z.closed z.due log') (sym link) (subst (λ g. LinkAgrees e rounds last false g) (sym sent) new)
+  out_by false m link sent = subst (λ (z : StackOut). LinkAgrees e rounds z.closed z.due log') (sym link) (subst (λ g. LinkAgrees e rounds o.closed o.due g) (sym sent) a)
 
-  pub out_agrees : WasPosted last e o o' log log' → LinkAgrees e rounds o'.closed o'.due log'
+  pub out_agrees : WasPostedInRound last e o o' log log' → LinkAgrees e rounds o'.closed o'.due log'
   out_agrees w = out_by (was_moved o.due o'.due) refl w.link w.sent
 
 -- a link in in a round
-module _ (e rounds : ℕ) (exchange : Bool) (i i' : In) (log log' : List Shipped) (due_open : i.due ≡ true → i.ended ≡ false) (a : LinkAgrees e rounds i.ended i.due log) where
+module _ (e rounds : ℕ) (exchange : Bool) (i i' : StackIn) (log log' : List Shipped) (due_open : i.due ≡ true → i.ended ≡ false) (a : LinkAgrees e rounds i.ended i.due log) where
   in_by : (p : Shipped) (b : Bool) → was_moved i.due i'.due ≡ b → i' ≡ cond b (came exchange p) i → log' ≡ cond b (log ++ p ∷ []) log → LinkAgrees e rounds i'.ended i'.due log'
   in_by p true m link got =
       let d : i.due ≡ true = moved_due i.due i'.due m in
       let new = link_moved e rounds log p (open_due e rounds i.ended i.due log (due_open d) d a) in
-      subst (λ (z : In). LinkAgrees e rounds z.ended z.due log') (sym link) (subst (λ g. LinkAgrees e rounds p.last false g) (sym got) new)
-  in_by p false m link got = subst (λ (z : In). LinkAgrees e rounds z.ended z.due log') (sym link) (subst (λ g. LinkAgrees e rounds i.ended i.due g) (sym got) a)
+      subst (λ (z : StackIn). LinkAgrees e rounds z.ended z.due log') (sym link) (subst (λ g. LinkAgrees e rounds p.last false g) (sym got) new)
+  in_by p false m link got = subst (λ (z : StackIn). LinkAgrees e rounds z.ended z.due log') (sym link) (subst (λ g. LinkAgrees e rounds i.ended i.due g) (sym got) a)
 
   pub in_agrees : WasCollected exchange i i' log log' → LinkAgrees e rounds i'.ended i'.due log'
   in_agrees w = in_by (latest log') (was_moved i.due i'.due) refl w.link w.got
@@ -151,15 +151,15 @@ exchanged_then e log p other = ap (λ (xs : List Shipped). flat_map (λ (q : Shi
 -- cycle
 pub record Reads (e n : ℕ) (log : List Shipped) (unread : List Entry) : Type 0 where
   pub came : Ends (entries_exchanged e log) unread
-  pub in_cycle : Ends (entries_in (exchange_parcel e n log)) unread
+  pub in_cycle : Ends (entries_if_any (exchange_parcel e n log)) unread
 
-module _ (e n rounds : ℕ) (exchange : Bool) (i i' : In) (log log' : List Shipped) (due_open : i.due ≡ true → i.ended ≡ false) (a : LinkAgrees e rounds i.ended i.due log)
+module _ (e n rounds : ℕ) (exchange : Bool) (i i' : StackIn) (log log' : List Shipped) (due_open : i.due ≡ true → i.ended ≡ false) (a : LinkAgrees e rounds i.ended i.due log)
     (odd : exchange ≡ true → rounds ≡ 2 * n + 2) where
   reads_by : (p : Shipped) (b : Bool) → was_moved i.due i'.due ≡ b → i' ≡ cond b (came exchange p) i → log' ≡ cond b (log ++ p ∷ []) log → Reads e n log i.unread → Reads e n log' i'.unread
   reads_by p true m link got r =
       let d : i.due ≡ true = moved_due i.due i'.due m in
       let t = open_due e rounds i.ended i.due log (due_open d) d a in
-      subst (λ (z : In). Reads e n log' z.unread) (sym link) (subst (λ g. Reads e n g (cond exchange p.entries [])) (sym got) (by_kind exchange refl t))
+      subst (λ (z : StackIn). Reads e n log' z.unread) (sym link) (subst (λ g. Reads e n g (cond exchange p.entries [])) (sym got) (by_kind exchange refl t))
     where
       by_kind : (x : Bool) → exchange ≡ x → LinkAgrees e rounds false true log → Reads e n (log ++ p ∷ []) (cond x p.entries [])
       by_kind true x t =
@@ -167,16 +167,16 @@ module _ (e n rounds : ℕ) (exchange : Bool) (i i' : In) (log log' : List Shipp
           let size : length (segment e log) ≡ 2 * n + 1 = omega (arith, one, odd x) in
           record {
             came = subst (λ es. Ends es p.entries) (sym (exchanged_more e n log p t.ended size)) (ends_back (entries_exchanged e log) p.entries);
-            in_cycle = subst (λ o. Ends (entries_in o) p.entries) (sym (exchange_is e n log p t.ended size)) (ends_all p.entries);
+            in_cycle = subst (λ o. Ends (entries_if_any o) p.entries) (sym (exchange_is e n log p t.ended size)) (ends_all p.entries);
           }
-      by_kind false x t = record { came = ends_none (entries_exchanged e (log ++ p ∷ [])); in_cycle = ends_none (entries_in (exchange_parcel e n (log ++ p ∷ []))) }
-  reads_by p false m link got r = subst (λ (z : In). Reads e n log' z.unread) (sym link) (subst (λ g. Reads e n g i.unread) (sym got) r)
+      by_kind false x t = record { came = ends_none (entries_exchanged e (log ++ p ∷ [])); in_cycle = ends_none (entries_if_any (exchange_parcel e n (log ++ p ∷ []))) }
+  reads_by p false m link got r = subst (λ (z : StackIn). Reads e n log' z.unread) (sym link) (subst (λ g. Reads e n g i.unread) (sym got) r)
 
   pub reads_after : WasCollected exchange i i' log log' → Reads e n log i.unread → Reads e n log' i'.unread
   reads_after w r = reads_by (latest log') (was_moved i.due i'.due) refl w.link w.got r
 
   -- and where it came in this round, it is that parcel whole
-  pub whole_after : exchange ≡ true → i.due ≡ true → i'.due ≡ false → WasCollected exchange i i' log log' → i'.unread ≡ entries_in (exchange_parcel e n log')
+  pub whole_after : exchange ≡ true → i.due ≡ true → i'.due ≡ false → WasCollected exchange i i' log log' → i'.unread ≡ entries_if_any (exchange_parcel e n log')
   whole_after x d d' w =
       let p : Shipped = latest log' in
       let m : was_moved i.due i'.due ≡ true = λ j. was_moved (d j) (d' j) in
@@ -184,4 +184,4 @@ module _ (e n rounds : ℕ) (exchange : Bool) (i i' : In) (log log' : List Shipp
       let got : log' ≡ log ++ p ∷ [] = w.got ∙ ap (λ b. cond b (log ++ p ∷ []) log) m in
       let t = open_due e rounds i.ended i.due log (due_open d) d a in
       let size : length (segment e log) ≡ 2 * n + 1 = omega (arith, t.each_round refl, odd x) in
-      ap (λ (z : In). z.unread) link ∙ (ap (λ b. cond b p.entries []) x ∙ sym (ap (λ g. entries_in (exchange_parcel e n g)) got ∙ ap entries_in (exchange_is e n log p t.ended size)))
+      ap (λ (z : StackIn). z.unread) link ∙ (ap (λ b. cond b p.entries []) x ∙ sym (ap (λ g. entries_if_any (exchange_parcel e n g)) got ∙ ap entries_if_any (exchange_is e n log p t.ended size)))

@@ -9,8 +9,8 @@ use Rattle.bale_items.specs.declared.item.Entry.{Entry}
 use Rattle.item_buffer.specs.Contents.{Shipped}
 use Rattle.port_bank.specs.Logs.{lasts, segment}
 use Rattle.port_bank.proofs.Posts.{segment_now, segment_then}
-use Rattle.exstack.specs.Links.{Out, In, parcel_of, gone, came}
-use Rattle.exstack.specs.Steps.{was_moved, WasPosted, WasCollected, latest}
+use Rattle.exstack.specs.Links.{StackOut, StackIn, parcel_of, gone, came}
+use Rattle.exstack.specs.Steps.{was_moved, WasPostedInRound, WasCollected, latest}
 use Rattle.exstack.specs.Cycles.{entries_sent, entries_exchanged, items}
 use Rattle.exstack.specs.Agreement.{LinkAgrees}
 use Rattle.exstack.proofs.OneLink.{moved_due, open_due, exchanged_proceed, exchanged_more, exchanged_then}
@@ -59,15 +59,15 @@ post_moves d e log p now = elim (cases_eq d e) [
       ∙ ap (λ t. items (entries_sent d log) ++ t) (sym (off_epoch d e (items p.entries) [] other)))
 ]
 
-module _ (d e rounds : ℕ) (last : Bool) (o o' : Out) (log log' : List Shipped) (due_open : o.due ≡ true → o.closed ≡ false) (a : LinkAgrees e rounds o.closed o.due log) where
+module _ (d e rounds : ℕ) (last : Bool) (o o' : StackOut) (log log' : List Shipped) (due_open : o.due ≡ true → o.closed ≡ false) (a : LinkAgrees e rounds o.closed o.due log) where
   pushed_by : (b : Bool) → was_moved o.due o'.due ≡ b → o' ≡ cond b (gone last) o → log' ≡ cond b (log ++ parcel_of last e o ∷ []) log → pushed_on_link d e log' o'.waiting ≡ pushed_on_link d e log o.waiting
   pushed_by true m link sent =
       let t = moved_due o.due o'.due m in
       let now : lasts log ≡ e = (open_due e rounds o.closed o.due log (due_open t) t a).ended in
-      ap (λ (z : Out). pushed_on_link d e log' z.waiting) link ∙ (ap (λ g. pushed_on_link d e g []) sent ∙ post_moves d e log (parcel_of last e o) now)
-  pushed_by false m link sent = ap (λ (z : Out). pushed_on_link d e log' z.waiting) link ∙ ap (λ g. pushed_on_link d e g o.waiting) sent
+      ap (λ (z : StackOut). pushed_on_link d e log' z.waiting) link ∙ (ap (λ g. pushed_on_link d e g []) sent ∙ post_moves d e log (parcel_of last e o) now)
+  pushed_by false m link sent = ap (λ (z : StackOut). pushed_on_link d e log' z.waiting) link ∙ ap (λ g. pushed_on_link d e g o.waiting) sent
 
-  pub pushed_after : WasPosted last e o o' log log' → pushed_on_link d e log' o'.waiting ≡ pushed_on_link d e log o.waiting
+  pub pushed_after : WasPostedInRound last e o o' log log' → pushed_on_link d e log' o'.waiting ≡ pushed_on_link d e log o.waiting
   pushed_after w = pushed_by (was_moved o.due o'.due) refl w.link w.sent
 
 length-items : (es : List Entry) → length (items es) ≡ length es
@@ -89,7 +89,7 @@ pulled_front e front unread =
 pub pulled_then : (d e : ℕ) (all unread unread' : List Entry) → d ≢ e → pulled_of_all d e all unread' ≡ pulled_of_all d e all unread
 pulled_then d e all unread unread' other = ap (λ k. take (length (items all) - k) (items all)) (off_epoch d e (length unread') 0 other ∙ sym (off_epoch d e (length unread) 0 other))
 
-module _ (d e n rounds : ℕ) (exchange : Bool) (i i' : In) (log log' : List Shipped) (due_open : i.due ≡ true → i.ended ≡ false) (due_empty : i.due ≡ true → i.unread ≡ []) (a : LinkAgrees e rounds i.ended i.due log)
+module _ (d e n rounds : ℕ) (exchange : Bool) (i i' : StackIn) (log log' : List Shipped) (due_open : i.due ≡ true → i.ended ≡ false) (due_empty : i.due ≡ true → i.unread ≡ []) (a : LinkAgrees e rounds i.ended i.due log)
     (odd : exchange ≡ true → rounds ≡ 2 * n + 2) (even : exchange ≡ false → rounds ≡ 2 * n + 1) where
   came_pulls : (p : Shipped) (x : Bool) → exchange ≡ x → LinkAgrees e rounds false true log → i.unread ≡ [] → pulled_of_all d e (entries_exchanged d (log ++ p ∷ [])) (cond x p.entries []) ≡ pulled_of_all d e (entries_exchanged d log) i.unread
   came_pulls p x is t empty = elim (cases_eq d e) [
@@ -120,9 +120,9 @@ module _ (d e n rounds : ℕ) (exchange : Bool) (i i' : In) (log log' : List Shi
       → pulled_of_all d e (entries_exchanged d log') i'.unread ≡ pulled_of_all d e (entries_exchanged d log) i.unread
   pulled_by p true m link got =
       let t = moved_due i.due i'.due m in
-      ap (λ (z : In). pulled_of_all d e (entries_exchanged d log') z.unread) link
+      ap (λ (z : StackIn). pulled_of_all d e (entries_exchanged d log') z.unread) link
       ∙ (ap (λ g. pulled_of_all d e (entries_exchanged d g) (cond exchange p.entries [])) got ∙ came_pulls p exchange refl (open_due e rounds i.ended i.due log (due_open t) t a) (due_empty t))
-  pulled_by p false m link got = ap (λ (z : In). pulled_of_all d e (entries_exchanged d log') z.unread) link ∙ ap (λ g. pulled_of_all d e (entries_exchanged d g) i.unread) got
+  pulled_by p false m link got = ap (λ (z : StackIn). pulled_of_all d e (entries_exchanged d log') z.unread) link ∙ ap (λ g. pulled_of_all d e (entries_exchanged d g) i.unread) got
 
   pub pulled_after : WasCollected exchange i i' log log' → pulled_of_all d e (entries_exchanged d log') i'.unread ≡ pulled_of_all d e (entries_exchanged d log) i.unread
   pulled_after w = pulled_by (latest log') (was_moved i.due i'.due) refl w.link w.got

@@ -12,16 +12,16 @@ use Rattle.exstack.specs.declared.stage.Poll.{Poll}
 use Rattle.exstack.specs.declared.stage.Poll.TheVariants as poll
 use Rattle.exstack.specs.declared.stage.Proceed.{Proceed}
 use Rattle.exstack.specs.declared.stage.Proceed.TheVariants as proceed
-use Rattle.exstack.specs.Links.{Out, In, no_out, no_in}
-use Rattle.exstack.specs.State.{Stack, out_at, in_at, link_to, link_from, missing_link, missing_out, missing_in, all_ended, stage_of_proceed, stage_of_exchange}
-use Rattle.exstack.specs.Standing.{IsOut, IsIn, IsStack, IsKept}
+use Rattle.exstack.specs.Links.{StackOut, StackIn, no_stack_out, no_stack_in}
+use Rattle.exstack.specs.State.{Stack, stack_out_at, stack_in_at, stack_link_to, stack_link_from, missing_link, missing_out, missing_in, all_ended, stage_of_proceed, stage_of_exchange}
+use Rattle.exstack.specs.Standing.{IsStackOut, IsStackIn, IsStack, IsKeptStack}
 use Rattle.exstack.specs.Agreement.{LinkAgrees, AgreesIn, rounds_in}
 use Rattle.exstack.specs.Steps.{AsksOnce}
 use Rattle.exstack.proofs.Calls.{not_both}
 use Rattle.exstack.proofs.Places.{none_passes}
 
 -- where the round waits for no link, no parcel is due
-out_none : (ranks rank : ℕ) (o : Option ℕ) (ins : List In) → missing_out ranks rank o ins ≡ None → o ≡ None
+out_none : (ranks rank : ℕ) (o : Option ℕ) (ins : List StackIn) → missing_out ranks rank o ins ≡ None → o ≡ None
 out_none ranks rank None ins h = refl
 out_none ranks rank (Some b) ins h = let z : Some (rank * ranks + b) ≡ None = h in cc
 
@@ -30,21 +30,21 @@ in_none ranks rank None h = refl
 in_none ranks rank (Some a) h = let z : Some (a * ranks + rank) ≡ None = h in cc
 
 module _ (cap : ℕ) (st : Stack) (s : IsStack cap st) (none : missing_link st ≡ None) where
-  no_out_due : position (λ (o : Out). o.due) st.outs ≡ None
-  no_out_due = out_none st.ranks st.rank (position (λ (o : Out). o.due) st.outs) st.ins none
+  no_out_due : position (λ (o : StackOut). o.due) st.outs ≡ None
+  no_out_due = out_none st.ranks st.rank (position (λ (o : StackOut). o.due) st.outs) st.ins none
 
-  no_in_due : position (λ (i : In). i.due) st.ins ≡ None
-  no_in_due = in_none st.ranks st.rank (position (λ (i : In). i.due) st.ins) (ap (λ o. missing_out st.ranks st.rank o st.ins) (sym no_out_due) ∙ none)
+  no_in_due : position (λ (i : StackIn). i.due) st.ins ≡ None
+  no_in_due = in_none st.ranks st.rank (position (λ (i : StackIn). i.due) st.ins) (ap (λ o. missing_out st.ranks st.rank o st.ins) (sym no_out_due) ∙ none)
 
-  pub out_settled : (b : ℕ) → b < length st.outs → (out_at st b).due ≡ false
-  out_settled b w = none_passes (λ (o : Out). o.due) st.outs no_out no_out_due b w
+  pub out_settled : (b : ℕ) → b < length st.outs → (stack_out_at st b).due ≡ false
+  out_settled b w = none_passes (λ (o : StackOut). o.due) st.outs no_stack_out no_out_due b w
 
-  pub in_settled : (a : ℕ) → a < length st.ins → (in_at st a).due ≡ false
-  in_settled a w = none_passes (λ (i : In). i.due) st.ins no_in no_in_due a w
+  pub in_settled : (a : ℕ) → a < length st.ins → (stack_in_at st a).due ≡ false
+  in_settled a w = none_passes (λ (i : StackIn). i.due) st.ins no_stack_in no_in_due a w
 
 -- links on which nothing is due, in another stage
 module _ (cap : ℕ) (stage new : Stage) (done : Bool) where
-  pub out_other : (o : Out) → o.due ≡ false → (may_be : (due : Bool) → due ≡ false → o.waiting ≡ []) → IsOut cap stage done o → IsOut cap new done o
+  pub out_other : (o : StackOut) → o.due ≡ false → (may_be : (due : Bool) → due ≡ false → o.waiting ≡ []) → IsStackOut cap stage done o → IsStackOut cap new done o
   out_other o d empty s = record {
     fits = s.fits;
     closed_empty = s.closed_empty;
@@ -56,12 +56,12 @@ module _ (cap : ℕ) (stage new : Stage) (done : Bool) where
     sent_on = λ h. empty o.due d;
   }
 
-  pub in_other : (i : In) → i.due ≡ false → i.unread ≡ [] → i.ended ≡ true → IsIn new i
+  pub in_other : (i : StackIn) → i.due ≡ false → i.unread ≡ [] → i.ended ≡ true → IsStackIn new i
   in_other i d empty ended = record { due_open = λ h. absurd (not_both i.due h d); due_empty = λ h. empty; due_round = λ h. absurd (not_both i.due h d); read = λ h. empty; all_ended = λ h. ended }
 
-module _ (cap : ℕ) (st : Stack) (from : ℕ) (new : Stage) (k : IsKept cap st from) (forgotten : st.popped ≡ None)
-    (each_out : (b : ℕ) → b < length st.outs → IsOut cap new st.done (out_at st b)) (each_in : (a : ℕ) → a < length st.ins → IsIn new (in_at st a)) where
-  pub settled : IsKept cap (record st { stage = new }) from
+module _ (cap : ℕ) (st : Stack) (from : ℕ) (new : Stage) (k : IsKeptStack cap st from) (forgotten : st.popped ≡ None)
+    (each_out : (b : ℕ) → b < length st.outs → IsStackOut cap new st.done (stack_out_at st b)) (each_in : (a : ℕ) → a < length st.ins → IsStackIn new (stack_in_at st a)) where
+  pub settled : IsKeptStack cap (record st { stage = new }) from
   settled = record {
     standing = record {
       is_cap = k.standing.is_cap;
@@ -69,8 +69,8 @@ module _ (cap : ℕ) (st : Stack) (from : ℕ) (new : Stage) (k : IsKept cap st 
       few = k.standing.few;
       all_outs = k.standing.all_outs;
       all_ins = k.standing.all_ins;
-      each_out = λ b d w. subst (IsOut cap new st.done) (get_or_default st.outs b no_out d w) (each_out b w);
-      each_in = λ a d w. subst (IsIn new) (get_or_default st.ins a no_in d w) (each_in a w);
+      each_out = λ b d w. subst (IsStackOut cap new st.done) (get_or_default st.outs b no_stack_out d w) (each_out b w);
+      each_in = λ a d w. subst (IsStackIn new) (get_or_default st.ins a no_stack_in d w) (each_in a w);
       can_unpop = λ a e. absurd (none_some a (sym forgotten ∙ e));
     };
     from_high = k.from_high;
@@ -80,45 +80,45 @@ module _ (cap : ℕ) (st : Stack) (from : ℕ) (new : Stage) (k : IsKept cap st 
     none_some a e = cc
 
 -- after a proceed round
-module _ (cap : ℕ) (st : Stack) (from : ℕ) (k : IsKept cap st from) (forgotten : st.popped ≡ None) (none : missing_link st ≡ None) where
-  was_out : (stage : Stage) → st.stage ≡ stage → (b : ℕ) → b < length st.outs → IsOut cap stage st.done (out_at st b)
-  was_out stage is b w = subst (λ g. IsOut cap g st.done (out_at st b)) is (k.standing.each_out b no_out w)
+module _ (cap : ℕ) (st : Stack) (from : ℕ) (k : IsKeptStack cap st from) (forgotten : st.popped ≡ None) (none : missing_link st ≡ None) where
+  was_out : (stage : Stage) → st.stage ≡ stage → (b : ℕ) → b < length st.outs → IsStackOut cap stage st.done (stack_out_at st b)
+  was_out stage is b w = subst (λ g. IsStackOut cap g st.done (stack_out_at st b)) is (k.standing.each_out b no_stack_out w)
 
-  was_in : (stage : Stage) → st.stage ≡ stage → (a : ℕ) → a < length st.ins → IsIn stage (in_at st a)
-  was_in stage is a w = subst (λ g. IsIn g (in_at st a)) is (k.standing.each_in a no_in w)
+  was_in : (stage : Stage) → st.stage ≡ stage → (a : ℕ) → a < length st.ins → IsStackIn stage (stack_in_at st a)
+  was_in stage is a w = subst (λ g. IsStackIn g (stack_in_at st a)) is (k.standing.each_in a no_stack_in w)
 
-  pub filling_kept : st.stage ≡ Proceeding → IsKept cap (record st { stage = Filling }) from
+  pub filling_kept : st.stage ≡ Proceeding → IsKeptStack cap (record st { stage = Filling }) from
   filling_kept is = settled cap st from Filling k forgotten
-      (λ b w. let d = out_settled cap st k.standing none b w in out_other cap Proceeding Filling st.done (out_at st b) d (λ due h. (was_out Proceeding is b w).sent_on refl) (was_out Proceeding is b w))
+      (λ b w. let d = out_settled cap st k.standing none b w in out_other cap Proceeding Filling st.done (stack_out_at st b) d (λ due h. (was_out Proceeding is b w).sent_on refl) (was_out Proceeding is b w))
       (λ a w.
-      let i : In = in_at st a in
+      let i : StackIn = stack_in_at st a in
       let d = in_settled cap st k.standing none a w in
       let e = (was_in Proceeding is a w).read refl in
       record { due_open = λ h. absurd (not_both i.due h d); due_empty = λ h. e; due_round = λ h. absurd (not_both i.due h d); read = λ h. e; all_ended = λ h. absurd (false≢true h) })
 
-  pub all_done_kept : st.stage ≡ Proceeding → all_ended st ≡ true → IsKept cap (record st { stage = AllDone }) from
+  pub all_done_kept : st.stage ≡ Proceeding → all_ended st ≡ true → IsKeptStack cap (record st { stage = AllDone }) from
   all_done_kept is ended = settled cap st from AllDone k forgotten
-      (λ b w. let d = out_settled cap st k.standing none b w in out_other cap Proceeding AllDone st.done (out_at st b) d (λ due h. (was_out Proceeding is b w).sent_on refl) (was_out Proceeding is b w))
+      (λ b w. let d = out_settled cap st k.standing none b w in out_other cap Proceeding AllDone st.done (stack_out_at st b) d (λ due h. (was_out Proceeding is b w).sent_on refl) (was_out Proceeding is b w))
       (λ a w.
-      let i : In = in_at st a in
+      let i : StackIn = stack_in_at st a in
       let d = in_settled cap st k.standing none a w in
       let e = (was_in Proceeding is a w).read refl in
-      in_other cap Proceeding AllDone st.done i d e (true_from_ne_false i.ended (λ h. not_both (all_ended st) ended (list_all_at (λ (x : In). x.ended) st.ins a no_in w h))))
+      in_other cap Proceeding AllDone st.done i d e (true_from_ne_false i.ended (λ h. not_both (all_ended st) ended (list_all_at (λ (x : StackIn). x.ended) st.ins a no_stack_in w h))))
 
   -- and after an exchange round
-  pub full_kept : st.stage ≡ Exchanging → IsKept cap (record st { stage = Full }) from
+  pub full_kept : st.stage ≡ Exchanging → IsKeptStack cap (record st { stage = Full }) from
   full_kept is = settled cap st from Full k forgotten
-      (λ b w. let d = out_settled cap st k.standing none b w in out_other cap Exchanging Full st.done (out_at st b) d (λ due h. (was_out Exchanging is b w).sent_on d) (was_out Exchanging is b w))
+      (λ b w. let d = out_settled cap st k.standing none b w in out_other cap Exchanging Full st.done (stack_out_at st b) d (λ due h. (was_out Exchanging is b w).sent_on d) (was_out Exchanging is b w))
       (λ a w.
-      let i : In = in_at st a in
+      let i : StackIn = stack_in_at st a in
       let d = in_settled cap st k.standing none a w in
       record { due_open = λ h. absurd (not_both i.due h d); due_empty = λ h. absurd (not_both i.due h d); due_round = λ h. absurd (not_both i.due h d); read = λ h. absurd (false≢true (sym h)); all_ended = λ h. absurd (false≢true h) })
 
 -- a stage in which as many rounds have begun
 pub agrees_staged : (n : ℕ) (st : Stack) (new : Stage) (sent got : Logs) → rounds_in n st.stage ≡ rounds_in n new → AgreesIn n st sent got → AgreesIn n (record st { stage = new }) sent got
 agrees_staged n st new sent got same a = record {
-  outs = λ b w. subst (λ r. LinkAgrees st.epoch r (out_at st b).closed (out_at st b).due (sent (link_to st b))) same (a.outs b w);
-  ins = λ b w. subst (λ r. LinkAgrees st.epoch r (in_at st b).ended (in_at st b).due (got (link_from st b))) same (a.ins b w);
+  outs = λ b w. subst (λ r. LinkAgrees st.epoch r (stack_out_at st b).closed (stack_out_at st b).due (sent (stack_link_to st b))) same (a.outs b w);
+  ins = λ b w. subst (λ r. LinkAgrees st.epoch r (stack_in_at st b).ended (stack_in_at st b).due (got (stack_link_from st b))) same (a.ins b w);
   shapes = a.shapes;
   law = a.law;
   came = a.came;

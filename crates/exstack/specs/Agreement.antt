@@ -3,15 +3,15 @@ use Rattle.std.specs.Prelude.{◌≡◌, ℕ, ◌+◌, ◌*◌, ◌<◌, ◌≤�
 use Rattle.std.specs.Prelude.{if◌then◌else◌}
 use Rattle.bale_items.specs.declared.item.Entry.{Entry}
 use Rattle.item_buffer.specs.Contents.{Shipped}
-use Rattle.list_laws.specs.Lists.{Begins, Ends}
+use Rattle.list_laws.specs.Lists.{IsPrefix, Ends}
 use Rattle.port_bank.specs.Logs.{Logs, lasts, segment, EndsLast, lasts_in}
 use Rattle.port_bank.specs.Shapes.{IsExstackShape}
 use Rattle.port_bank.specs.Relay.{RelayLaw}
 use Rattle.exstack.specs.declared.stage.Stage.{Stage}
 use Rattle.exstack.specs.declared.stage.Stage.TheVariants.{Start, Proceeding, Filling, Exchanging, Full, AllDone}
-use Rattle.exstack.specs.Links.{In, with_put_back}
-use Rattle.exstack.specs.State.{Stack, out_at, in_at, dims_of, link_to, link_from}
-use Rattle.exstack.specs.Cycles.{exchange_parcel, entries_in, entries_exchanged}
+use Rattle.exstack.specs.Links.{StackIn, with_put_back}
+use Rattle.exstack.specs.State.{Stack, stack_out_at, stack_in_at, stack_dims, stack_link_to, stack_link_from}
+use Rattle.exstack.specs.Cycles.{exchange_parcel, entries_if_any, entries_exchanged}
 
 -- How many rounds of its epoch an exstack has begun, in cycle n: each cycle has a proceed round and
 -- an exchange round.
@@ -49,7 +49,7 @@ pub record LinkAgrees (epoch rounds : ℕ) (through due : Bool) (log : List Ship
   pub until : through ≡ true → length (segment epoch log) ≤ rounds
 
 -- The entry that an unpop would put back at a link, if any, and then the unread ones.
-abbrev pub back_first : Option ℕ → ℕ → In → List Entry
+abbrev pub back_first : Option ℕ → ℕ → StackIn → List Entry
 back_first None a i = i.unread
 back_first (Some p) a i = if p == a then (with_put_back i.back i).unread else i.unread
 
@@ -60,21 +60,21 @@ back_first (Some p) a i = if p == a then (with_put_back i.back i).unread else i.
 -- came: what is unread of a sender, or may be put back, is the latest that came in exchange parcels
 -- of this epoch.
 -- in_cycle: and it is the end of the exchange parcel of cycle n.
--- own: on the link from the rank to itself, what was got is the front of what was sent.
+-- own: on the link from the rank to itself, what was got is a prefix of what was sent.
 pub record AgreesIn (n : ℕ) (st : Stack) (sent got : Logs) : Type 0 where
   pub outs : (b : ℕ) → b < st.ranks
-      → LinkAgrees st.epoch (rounds_in n st.stage) (out_at st b).closed (out_at st b).due (sent (link_to st b))
+      → LinkAgrees st.epoch (rounds_in n st.stage) (stack_out_at st b).closed (stack_out_at st b).due (sent (stack_link_to st b))
   pub ins : (a : ℕ) → a < st.ranks
-      → LinkAgrees st.epoch (rounds_in n st.stage) (in_at st a).ended (in_at st a).due (got (link_from st a))
-  pub shapes : (b : ℕ) → b < st.ranks → IsExstackShape (sent (link_to st b))
-  pub law : RelayLaw (dims_of st) st.rank sent got
+      → LinkAgrees st.epoch (rounds_in n st.stage) (stack_in_at st a).ended (stack_in_at st a).due (got (stack_link_from st a))
+  pub shapes : (b : ℕ) → b < st.ranks → IsExstackShape (sent (stack_link_to st b))
+  pub law : RelayLaw (stack_dims st) st.rank sent got
   pub came : (a : ℕ) → a < st.ranks
-      → Ends (entries_exchanged st.epoch (got (link_from st a))) (back_first st.popped a (in_at st a))
+      → Ends (entries_exchanged st.epoch (got (stack_link_from st a))) (back_first st.popped a (stack_in_at st a))
   pub in_cycle : (a : ℕ) → a < st.ranks
-      → Ends (entries_in (exchange_parcel st.epoch n (got (link_from st a)))) (back_first st.popped a (in_at st a))
-  pub own : Begins (got (link_to st st.rank)) (sent (link_to st st.rank))
+      → Ends (entries_if_any (exchange_parcel st.epoch n (got (stack_link_from st a)))) (back_first st.popped a (stack_in_at st a))
+  pub own : IsPrefix (got (stack_link_to st st.rank)) (sent (stack_link_to st st.rank))
 
 -- They agree, in some cycle.
-pub record AgreesWith (st : Stack) (sent got : Logs) : Type 0 where
+pub record StackAgrees (st : Stack) (sent got : Logs) : Type 0 where
   pub cycle : ℕ
   pub agrees : AgreesIn cycle st sent got

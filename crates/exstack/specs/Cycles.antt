@@ -17,9 +17,9 @@ abbrev pub exchange_parcel : ℕ → ℕ → List Shipped → Option Shipped
 exchange_parcel e n log = slice_get (segment e log) (2 * n + 1)
 
 -- The entries of a parcel that may not be there.
-abbrev pub entries_in : Option Shipped → List Entry
-entries_in None = []
-entries_in (Some p) = p.entries
+abbrev pub entries_if_any : Option Shipped → List Entry
+entries_if_any None = []
+entries_if_any (Some p) = p.entries
 
 -- The parcels of odd number of a segment, in order: its exchange parcels.
 -- Of p, q, r, s they are q and s.

@@ -9,24 +9,24 @@ use Rattle.port_bank.specs.Machine.{Part, Step, IsOwnStep, after, for_ranks}
 use Rattle.port_bank.specs.Machine.Step.{Pull, Unpull, Done, Complete, Idle}
 use Rattle.exstack.specs.declared.stage.Stage.{Stage}
 use Rattle.exstack.specs.declared.stage.Stage.TheVariants.{Start, Proceeding, Filling, Exchanging, Full, AllDone}
-use Rattle.exstack.specs.State.{Stack, dims_of, out_at, in_at, link_to, link_from, unread_of, lowest_unread, pop_from}
+use Rattle.exstack.specs.State.{Stack, stack_dims, stack_out_at, stack_in_at, stack_link_to, stack_link_from, stack_unread, lowest_unread_sender, pop_from}
 use Rattle.exstack.specs.State.{popped_from}
 use Rattle.exstack.specs.Cycles.{entries_sent, entries_exchanged, items}
-use Rattle.exstack.specs.Agreement.{AgreesIn, AgreesWith}
+use Rattle.exstack.specs.Agreement.{AgreesIn, StackAgrees}
 
 -- What a rank pushed toward d in an epoch: what it sent there and, in its current epoch, what waits
 -- for d.
 -- With [x] sent and [y] waiting it is [x, y].
-abbrev pub pushed_to : Stack → Logs → ℕ → ℕ → List Item
-pushed_to st sent e d =
-    items (entries_sent e (sent (link_to st d))) ++ (if e == st.epoch then items (out_at st d).waiting else [])
+abbrev pub stack_pushed_to : Stack → Logs → ℕ → ℕ → List Item
+stack_pushed_to st sent e d =
+    items (entries_sent e (sent (stack_link_to st d))) ++ (if e == st.epoch then items (stack_out_at st d).waiting else [])
 
 -- What it pulled of s: what came in exchange parcels, less what is unread.
 -- With [x, y] come and y unread it is [x].
-abbrev pub pulled_of : Stack → Logs → ℕ → ℕ → List Item
-pulled_of st got e s =
-    let all : List Item = items (entries_exchanged e (got (link_from st s))) in
-    take (length all - (if e == st.epoch then length (in_at st s).unread else 0)) all
+abbrev pub popped_of : Stack → Logs → ℕ → ℕ → List Item
+popped_of st got e s =
+    let all : List Item = items (entries_exchanged e (got (stack_link_from st s))) in
+    take (length all - (if e == st.epoch then length (stack_in_at st s).unread else 0)) all
 
 abbrev pub is_all_done : Stage → Bool
 is_all_done Start = false
@@ -37,61 +37,61 @@ is_all_done Full = false
 is_all_done AllDone = true
 
 -- The rank's part of the machine.
-abbrev pub part_of : Stack → Logs → Logs → Part
-part_of st sent got = record {
+abbrev pub stack_part : Stack → Logs → Logs → Part
+stack_part st sent got = record {
   epoch = st.epoch;
   done = st.done;
   complete = is_all_done st.stage;
   latest = st.popped;
-  pushed = for_ranks st.ranks (pushed_to st sent);
-  pulled = for_ranks st.ranks (pulled_of st got);
+  pushed = for_ranks st.ranks (stack_pushed_to st sent);
+  pulled = for_ranks st.ranks (popped_of st got);
 }
 
 -- A call is a step of the rank's part of the exchange machine, over the lists of a port that the
 -- call doesn't see.
-abbrev pub IsStepOf : Step → Stack → Stack → Type 0
-IsStepOf step old new = (n : ℕ) (sent got : Logs) → AgreesIn n old sent got
-    → IsOwnStep step (part_of old sent got) (part_of new sent got)
+abbrev pub IsStackStep : Step → Stack → Stack → Type 0
+IsStackStep step old new = (n : ℕ) (sent got : Logs) → AgreesIn n old sent got
+    → IsOwnStep step (stack_part old sent got) (stack_part new sent got)
 
 -- A call keeps the agreement with a port that it doesn't see.
-abbrev pub KeepsAgreement : Stack → Stack → Type 0
-KeepsAgreement old new = (n : ℕ) (sent got : Logs) → AgreesIn n old sent got → AgreesIn n new sent got
+abbrev pub StackKeepsAgreement : Stack → Stack → Type 0
+StackKeepsAgreement old new = (n : ℕ) (sent got : Logs) → AgreesIn n old sent got → AgreesIn n new sent got
 
 -- The port is the exstack's own: of its grid and its rank, and with lists that agree with it.
-pub record IsAtPort {P : Type 0} {cap : ℕ} {M : Type 0} (G : Ghosts P cap M) (st : Stack) (port : P) : Type 0 where
-  pub same_dims : G.dims port ≡ dims_of st
+pub record IsStackAtPort {P : Type 0} {cap : ℕ} {M : Type 0} (G : Ghosts P cap M) (st : Stack) (port : P) : Type 0 where
+  pub same_dims : G.dims port ≡ stack_dims st
   pub same_rank : G.rank port ≡ st.rank
-  pub agrees : AgreesWith st (G.sent port) (G.got port)
+  pub agrees : StackAgrees st (G.sent port) (G.got port)
 
 -- What any call at the port keeps: the exstack agrees with it again, and both are those of the same
 -- rank.
-pub record KeepsPort {P : Type 0} {cap : ℕ} {M : Type 0} (G : Ghosts P cap M) (old new : Stack)
+pub record StackKeepsPort {P : Type 0} {cap : ℕ} {M : Type 0} (G : Ghosts P cap M) (old new : Stack)
     (port port' : P) : Type 0 where
-  pub agrees : AgreesWith new (G.sent port') (G.got port')
+  pub agrees : StackAgrees new (G.sent port') (G.got port')
   pub ranks : new.ranks ≡ old.ranks
   pub rank : new.rank ≡ old.rank
   pub same_port : SamePort G port port'
 
 -- A call that the port doesn't see: the exstack stays that of its rank, and keeps the agreement.
-pub record StaysWithRank (old new : Stack) : Type 0 where
+pub record StackStaysWithRank (old new : Stack) : Type 0 where
   pub ranks : new.ranks ≡ old.ranks
   pub rank : new.rank ≡ old.rank
-  pub kept : (sent got : Logs) → AgreesWith old sent got → AgreesWith new sent got
+  pub kept : (sent got : Logs) → StackAgrees old sent got → StackAgrees new sent got
 
 -- What a pop is to a port that it doesn't see and to the machine, by its answer: an item of a rank,
 -- or nothing unread.
 pub record IsPop (answer : Option (ℕ × Item)) (old new : Stack) : Type 0 where
   pub sender : IfSome answer (λ p. p.0 < old.ranks)
-  pub none_unread : answer ≡ None → unread_of old ≡ 0
-  pub kept : KeepsAgreement old new
-  pub step_item : IfSome answer (λ p. IsStepOf (Pull p.0 p.1) old new)
-  pub step_none : answer ≡ None → IsStepOf Idle old new
+  pub none_unread : answer ≡ None → stack_unread old ≡ 0
+  pub kept : StackKeepsAgreement old new
+  pub step_item : IfSome answer (λ p. IsStackStep (Pull p.0 p.1) old new)
+  pub step_none : answer ≡ None → IsStackStep Idle old new
 
 -- And an unpop, by its answer.
 pub record IsUnpop (back : Bool) (old new : Stack) : Type 0 where
-  pub kept : KeepsAgreement old new
-  pub step_back : back ≡ true → IsStepOf Unpull old new
-  pub step_none : back ≡ false → IsStepOf Idle old new
+  pub kept : StackKeepsAgreement old new
+  pub step_back : back ≡ true → IsStackStep Unpull old new
+  pub step_none : back ≡ false → IsStackStep Idle old new
 
 -- Several steps of a rank's own part, one after the other.
 abbrev pub AreOwnSteps : List Step → Part → Part → Type 0
@@ -108,7 +108,7 @@ proceed_steps was now complete =
 
 -- The next pop gives this item of this sender: it is a step of the rank's part of the exchange
 -- machine, and keeps the agreement.
-pub record GivesNext (st : Stack) (from : ℕ) (item : Item) : Type 0 where
-  pub value : pop_from st (lowest_unread st) ≡ Some (from, item)
-  pub step : IsStepOf (Pull from item) st (popped_from st (lowest_unread st))
-  pub kept : KeepsAgreement st (popped_from st (lowest_unread st))
+pub record PopGivesNext (st : Stack) (from : ℕ) (item : Item) : Type 0 where
+  pub value : pop_from st (lowest_unread_sender st) ≡ Some (from, item)
+  pub step : IsStackStep (Pull from item) st (popped_from st (lowest_unread_sender st))
+  pub kept : StackKeepsAgreement st (popped_from st (lowest_unread_sender st))

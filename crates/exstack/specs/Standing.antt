@@ -4,8 +4,8 @@ use Rattle.item_buffer.specs.Capacity.{IsCap}
 use Rattle.list_laws.specs.Lists.{EachAt}
 use Rattle.exstack.specs.declared.stage.Stage.{Stage}
 use Rattle.exstack.specs.declared.stage.Stage.TheVariants.{Start, Proceeding, Filling, Exchanging, Full, AllDone}
-use Rattle.exstack.specs.Links.{Out, In}
-use Rattle.exstack.specs.State.{Stack, in_at, is_proceeding, is_exchanging, may_read}
+use Rattle.exstack.specs.Links.{StackOut, StackIn}
+use Rattle.exstack.specs.State.{Stack, stack_in_at, is_proceeding, is_exchanging, may_read}
 use Rattle.exstack.specs.Parts.{is_all_done}
 
 -- Whether entries may wait on a link out: while buffers are filled, and in the exchange until they
@@ -21,7 +21,7 @@ may_wait AllDone due = false
 -- A link out holds at most its capacity. It is closed only where the rank is done, and where the
 -- rank is done it is closed unless its parcel is due; a closed one is empty, and nothing is due on
 -- it. Parcels are due within rounds alone, and exchange parcels from ranks alone that aren't done.
-pub record IsOut (cap : ℕ) (stage : Stage) (done : Bool) (o : Out) : Type 0 where
+pub record IsStackOut (cap : ℕ) (stage : Stage) (done : Bool) (o : StackOut) : Type 0 where
   pub fits : length o.waiting ≤ cap
   pub closed_empty : o.closed ≡ true → o.waiting ≡ []
   pub closed_done : o.closed ≡ true → done ≡ true
@@ -33,7 +33,7 @@ pub record IsOut (cap : ℕ) (stage : Stage) (done : Bool) (o : Out) : Type 0 wh
 
 -- A link in on which a parcel is due is empty and hasn't ended; outside of exchanges every link in
 -- is empty, and at AllDone each has ended.
-pub record IsIn (stage : Stage) (i : In) : Type 0 where
+pub record IsStackIn (stage : Stage) (i : StackIn) : Type 0 where
   pub due_open : i.due ≡ true → i.ended ≡ false
   pub due_empty : i.due ≡ true → i.unread ≡ []
   pub due_round : i.due ≡ true → (is_proceeding stage || is_exchanging stage) ≡ true
@@ -43,8 +43,8 @@ pub record IsIn (stage : Stage) (i : In) : Type 0 where
 -- The sender of the item that was popped last: that item can be put back.
 pub record CanUnpop (st : Stack) (a : ℕ) : Type 0 where
   pub within : a < st.ranks
-  pub back : IsSome (in_at st a).back
-  pub came : (in_at st a).due ≡ false
+  pub back : IsSome (stack_in_at st a).back
+  pub came : (stack_in_at st a).due ≡ false
   pub reading : may_read st.stage ≡ true
 
 -- An exstack for parcels of capacity cap.
@@ -54,12 +54,12 @@ pub record IsStack (cap : ℕ) (st : Stack) : Type 0 where
   pub few : st.ranks ≤ 64
   pub all_outs : length st.outs ≡ st.ranks
   pub all_ins : length st.ins ≡ st.ranks
-  pub each_out : EachAt (λ b o. IsOut cap st.stage st.done o) st.outs
-  pub each_in : EachAt (λ a i. IsIn st.stage i) st.ins
+  pub each_out : EachAt (λ b o. IsStackOut cap st.stage st.done o) st.outs
+  pub each_in : EachAt (λ a i. IsStackIn st.stage i) st.ins
   pub can_unpop : (a : ℕ) → st.popped ≡ Some a → CanUnpop st a
 
 -- What the code keeps besides: a sender below which no inbox has an unread item.
-pub record IsKept (cap : ℕ) (st : Stack) (from : ℕ) : Type 0 where
+pub record IsKeptStack (cap : ℕ) (st : Stack) (from : ℕ) : Type 0 where
   pub standing : IsStack cap st
   pub from_high : from ≤ st.ranks
-  pub from_none : (a : ℕ) → a < from → (in_at st a).unread ≡ []
+  pub from_none : (a : ℕ) → a < from → (stack_in_at st a).unread ≡ []

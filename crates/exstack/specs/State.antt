@@ -10,8 +10,8 @@ use Rattle.exstack.specs.declared.stage.Poll.{Poll}
 use Rattle.exstack.specs.declared.stage.Poll.TheVariants as poll
 use Rattle.exstack.specs.declared.stage.Proceed.{Proceed}
 use Rattle.exstack.specs.declared.stage.Proceed.TheVariants as proceed
-use Rattle.exstack.specs.Links.{Out, In, no_out, no_in, with_entry, with_first_read, with_put_back, plain, headroom_of}
-use Rattle.exstack.specs.Links.{has_unread, begun_out, begun_in, reopened, resumed}
+use Rattle.exstack.specs.Links.{StackOut, StackIn, no_stack_out, no_stack_in, with_waiting_entry, with_first_read, with_put_back, plain_entry, headroom_of}
+use Rattle.exstack.specs.Links.{has_unread, begun_out, begun_in, stack_out_in_new_epoch, stack_in_in_new_epoch}
 
 -- An exstack: how many ranks there are, whose it is, its stage, whether the rank said that it is
 -- done in this epoch, the epoch, its links out and in by the rank at their other end, and the
@@ -22,8 +22,8 @@ pub record Stack : Type 0 where
   pub stage : Stage
   pub done : Bool
   pub epoch : ℕ
-  pub outs : List Out
-  pub ins : List In
+  pub outs : List StackOut
+  pub ins : List StackIn
   pub popped : Option ℕ
 
 -- A new exstack.
@@ -35,20 +35,20 @@ new_stack ranks rank =
       stage = Start;
       done = false;
       epoch = 0;
-      outs = replicate ranks no_out;
-      ins = replicate ranks no_in;
+      outs = replicate ranks no_stack_out;
+      ins = replicate ranks no_stack_in;
       popped = None;
     }
 
-abbrev pub out_at : Stack → ℕ → Out
-out_at st b = slice_index_or st.outs b no_out
+abbrev pub stack_out_at : Stack → ℕ → StackOut
+stack_out_at st b = slice_index_or st.outs b no_stack_out
 
-abbrev pub in_at : Stack → ℕ → In
-in_at st a = slice_index_or st.ins a no_in
+abbrev pub stack_in_at : Stack → ℕ → StackIn
+stack_in_at st a = slice_index_or st.ins a no_stack_in
 
 -- The grid: one hop between all ranks.
-abbrev pub dims_of : Stack → List ℕ
-dims_of st = st.ranks ∷ []
+abbrev pub stack_dims : Stack → List ℕ
+stack_dims st = st.ranks ∷ []
 
 -- On one hop the link from rank a to rank b has the number a * P + b, for P ranks.
 -- Among 4 ranks the link from 1 to 2 has the number 6.
@@ -56,49 +56,49 @@ abbrev pub number : ℕ → ℕ → ℕ → ℕ
 number ranks a b = a * ranks + b
 
 -- The numbers of the rank's link to b and of its link from a.
-abbrev pub link_to : Stack → ℕ → ℕ
-link_to st b = number st.ranks st.rank b
+abbrev pub stack_link_to : Stack → ℕ → ℕ
+stack_link_to st b = number st.ranks st.rank b
 
-abbrev pub link_from : Stack → ℕ → ℕ
-link_from st a = number st.ranks a st.rank
+abbrev pub stack_link_from : Stack → ℕ → ℕ
+stack_link_from st a = number st.ranks a st.rank
 
 -- How many entries may still be pushed toward that rank for which it is least.
-abbrev pub least_headroom : ℕ → List Out → ℕ
+abbrev pub least_headroom : ℕ → List StackOut → ℕ
 least_headroom cap [] = cap
 least_headroom cap (o ∷ os) = min (headroom_of cap o) (least_headroom cap os)
 
 -- How many items are unread.
-abbrev pub unread_of : Stack → ℕ
-unread_of st = sum_by (λ i. length i.unread) st.ins
+abbrev pub stack_unread : Stack → ℕ
+stack_unread st = sum_by (λ i. length i.unread) st.ins
 
 -- The lowest sender of an unread item.
-abbrev pub lowest_unread : Stack → Option ℕ
-lowest_unread st = position has_unread st.ins
+abbrev pub lowest_unread_sender : Stack → Option ℕ
+lowest_unread_sender st = position has_unread st.ins
 
 -- What a push leaves.
 abbrev pub pushed_on : Stack → Item → ℕ → Stack
-pushed_on st item to = record st { outs = slice_set st.outs to (with_entry (out_at st to) (plain item)); popped = None }
+pushed_on st item to = record st { outs = slice_set st.outs to (with_waiting_entry (stack_out_at st to) (plain_entry item)); popped = None }
 
 -- What a pop gives where the lowest sender of an unread item is this one, and what it leaves.
 abbrev pub pop_from : Stack → Option ℕ → Option (ℕ × Item)
 pop_from st None = None
-pop_from st (Some a) = option_map (λ e. (a, e.item)) (slice_get (in_at st a).unread 0)
+pop_from st (Some a) = option_map (λ e. (a, e.item)) (slice_get (stack_in_at st a).unread 0)
 
 abbrev pub popped_from : Stack → Option ℕ → Stack
 popped_from st None = record st { popped = None }
-popped_from st (Some a) = record st { ins = slice_set st.ins a (with_first_read (in_at st a)); popped = Some a }
+popped_from st (Some a) = record st { ins = slice_set st.ins a (with_first_read (stack_in_at st a)); popped = Some a }
 
 -- What n pops leave, one after the other.
 -- Of the inboxes [], [x, y], [z] two leave [z], and three nothing.
 abbrev pub pops : ℕ → Stack → Stack
 pops zero st = st
-pops (suc n) st = popped_from (pops n st) (lowest_unread (pops n st))
+pops (suc n) st = popped_from (pops n st) (lowest_unread_sender (pops n st))
 
 -- What an unpop leaves.
-abbrev pub unpopped : Stack → Option ℕ → Stack
-unpopped st None = st
-unpopped st (Some a) =
-    record st { ins = slice_set st.ins a (with_put_back (in_at st a).back (in_at st a)); popped = None }
+abbrev pub after_unpop : Stack → Option ℕ → Stack
+after_unpop st None = st
+after_unpop st (Some a) =
+    record st { ins = slice_set st.ins a (with_put_back (stack_in_at st a).back (stack_in_at st a)); popped = None }
 
 -- What a reset leaves.
 abbrev pub after_reset : Stack → Stack
@@ -107,8 +107,8 @@ after_reset st =
       stage = Start;
       done = false;
       epoch = st.epoch + 1;
-      outs = map reopened st.outs;
-      ins = map resumed st.ins;
+      outs = map stack_out_in_new_epoch st.outs;
+      ins = map stack_in_in_new_epoch st.ins;
       popped = None;
     }
 
@@ -179,7 +179,7 @@ abbrev pub missing_in : ℕ → ℕ → Option ℕ → Option ℕ
 missing_in ranks rank None = None
 missing_in ranks rank (Some a) = Some (number ranks a rank)
 
-abbrev pub missing_out : ℕ → ℕ → Option ℕ → List In → Option ℕ
+abbrev pub missing_out : ℕ → ℕ → Option ℕ → List StackIn → Option ℕ
 missing_out ranks rank None ins = missing_in ranks rank (position (λ i. i.due) ins)
 missing_out ranks rank (Some b) ins = Some (number ranks rank b)
 

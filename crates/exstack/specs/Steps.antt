@@ -5,13 +5,13 @@ use Rattle.std.specs.Prelude.{slice_index_or}
 use Rattle.bale_items.specs.Counters.{RoseOrFull}
 use Rattle.item_buffer.specs.Contents.{Shipped}
 use Rattle.port_bank.specs.declared.port.Port.{Ghosts}
-use Rattle.port_bank.specs.Calls.{Call, swept}
+use Rattle.port_bank.specs.Calls.{Call, sweep_calls}
 use Rattle.port_bank.specs.Calls.Call.{Post, Collect}
 use Rattle.port_bank.specs.Frames.{SamePort, SameIns, SameOuts}
 use Rattle.port_bank.specs.Logs.{Logs}
-use Rattle.list_laws.specs.Lists.{Begins}
-use Rattle.exstack.specs.Links.{Out, In, no_out, no_in, parcel_of, gone, came}
-use Rattle.exstack.specs.State.{Stack, out_at, in_at, number, link_to, link_from}
+use Rattle.list_laws.specs.Lists.{IsPrefix}
+use Rattle.exstack.specs.Links.{StackOut, StackIn, no_stack_out, no_stack_in, parcel_of, gone, came}
+use Rattle.exstack.specs.State.{Stack, stack_out_at, stack_in_at, number, stack_link_to, stack_link_from}
 
 -- A parcel was due, and isn't any more.
 abbrev pub was_moved : Bool → Bool → Bool
@@ -23,13 +23,13 @@ latest log = slice_index_or log (length log - 1) (record { entries = []; last = 
 
 -- A link out in a round: where its parcel was posted it stands at the end of the log, and nothing
 -- else changes.
-pub record WasPosted (last : Bool) (epoch : ℕ) (old new : Out) (log log' : List Shipped) : Type 0 where
+pub record WasPostedInRound (last : Bool) (epoch : ℕ) (old new : StackOut) (log log' : List Shipped) : Type 0 where
   pub link : new ≡ (if was_moved old.due new.due then gone last else old)
   pub sent : log' ≡ (if was_moved old.due new.due then log ++ parcel_of last epoch old ∷ [] else log)
 
 -- A link in in a round: where a parcel was collected it stands at the end of the log, and nothing
 -- else changes.
-pub record WasCollected (exchange : Bool) (old new : In) (log log' : List Shipped) : Type 0 where
+pub record WasCollected (exchange : Bool) (old new : StackIn) (log log' : List Shipped) : Type 0 where
   pub link : new ≡ (if was_moved old.due new.due then came exchange (latest log') else old)
   pub got : log' ≡ (if was_moved old.due new.due then log ++ latest log' ∷ [] else log)
 
@@ -43,36 +43,36 @@ pub record InVain (count count' : ℕ) (stuck : Bool) : Type 0 where
 -- for each parcel that is due as it begins.
 -- Of two ranks rank 0, whose parcels are both due, posts on link 0 and then on link 1, and collects
 -- from link 0 and then from link 2.
-abbrev pub posts_to : ℕ → ℕ → List Out → ℕ → List Call
-posts_to ranks rank outs n = swept (λ b. (slice_index_or outs b no_out).due) (λ b. Post (number ranks rank b)) n
+abbrev pub posts_to : ℕ → ℕ → List StackOut → ℕ → List Call
+posts_to ranks rank outs n = sweep_calls (λ b. (slice_index_or outs b no_stack_out).due) (λ b. Post (number ranks rank b)) n
 
-abbrev pub collects_from : ℕ → ℕ → List In → ℕ → List Call
-collects_from ranks rank ins n = swept (λ a. (slice_index_or ins a no_in).due) (λ a. Collect (number ranks a rank)) n
+abbrev pub collects_from : ℕ → ℕ → List StackIn → ℕ → List Call
+collects_from ranks rank ins n = sweep_calls (λ a. (slice_index_or ins a no_stack_in).due) (λ a. Collect (number ranks a rank)) n
 
 -- Where a round without memory stopped: at a link out whose parcel is due still, after the posts on
 -- the links below it.
-pub record StopsAt (ranks rank : ℕ) (begun outs : List Out) (before calls : List Call) : Type 0 where
+pub record StackStopsAt (ranks rank : ℕ) (begun outs : List StackOut) (before calls : List Call) : Type 0 where
   pub to : ℕ
   pub below : to < ranks
-  pub due : (slice_index_or outs to no_out).due ≡ true
+  pub due : (slice_index_or outs to no_stack_out).due ≡ true
   pub calls_are : calls ≡ before ++ posts_to ranks rank begun to
 
 -- What posts leave of a port: its links in, and what was sent.
-pub record LeftByPosts {P : Type 0} {cap : ℕ} {M : Type 0} (G : Ghosts P cap M) (port port' : P) : Type 0 where
-  pub grows : (l : ℕ) → Begins (G.sent port l) (G.sent port' l)
+pub record LeftByStackPosts {P : Type 0} {cap : ℕ} {M : Type 0} (G : Ghosts P cap M) (port port' : P) : Type 0 where
+  pub grows : (l : ℕ) → IsPrefix (G.sent port l) (G.sent port' l)
   pub same_ins : SameIns G port port'
   pub same_port : SamePort G port port'
 
 -- What collects leave of a port: its links out, and what was got. A link is as crowded as before
 -- unless something was got on it.
-pub record LeftByCollects {P : Type 0} {cap : ℕ} {M : Type 0} (G : Ghosts P cap M) (port port' : P) : Type 0 where
-  pub grows : (l : ℕ) → Begins (G.got port l) (G.got port' l)
+pub record LeftByStackCollects {P : Type 0} {cap : ℕ} {M : Type 0} (G : Ghosts P cap M) (port port' : P) : Type 0 where
+  pub grows : (l : ℕ) → IsPrefix (G.got port l) (G.got port' l)
   pub crowded : (l : ℕ) → G.got port' l ≡ G.got port l → G.crowded port' l ≡ G.crowded port l
   pub same_outs : SameOuts G port port'
   pub same_port : SamePort G port port'
 
 -- A port of rank me, on a grid of one hop with so many ranks.
-pub record IsPortOf {P : Type 0} {cap : ℕ} {M : Type 0} (G : Ghosts P cap M) (ranks me : ℕ) (port : P) : Type 0 where
+pub record IsStackPort {P : Type 0} {cap : ℕ} {M : Type 0} (G : Ghosts P cap M) (ranks me : ℕ) (port : P) : Type 0 where
   pub dims : G.dims port ≡ ranks ∷ []
   pub rank : G.rank port ≡ me
   pub within : me < ranks
@@ -82,11 +82,11 @@ pub record IsPortOf {P : Type 0} {cap : ℕ} {M : Type 0} (G : Ghosts P cap M) (
 -- most one collect.
 pub record MadeRound (last exchange : Bool) (old new : Stack) (sent sent' got got' : Logs) : Type 0 where
   pub posted : (b : ℕ) → b < old.ranks
-      → WasPosted last old.epoch (out_at old b) (out_at new b) (sent (link_to old b)) (sent' (link_to old b))
+      → WasPostedInRound last old.epoch (stack_out_at old b) (stack_out_at new b) (sent (stack_link_to old b)) (sent' (stack_link_to old b))
   pub collected : (a : ℕ) → a < old.ranks
-      → WasCollected exchange (in_at old a) (in_at new a) (got (link_from old a)) (got' (link_from old a))
-  pub sent_grows : (l : ℕ) → Begins (sent l) (sent' l)
-  pub got_grows : (l : ℕ) → Begins (got l) (got' l)
+      → WasCollected exchange (stack_in_at old a) (stack_in_at new a) (got (stack_link_from old a)) (got' (stack_link_from old a))
+  pub sent_grows : (l : ℕ) → IsPrefix (sent l) (sent' l)
+  pub got_grows : (l : ℕ) → IsPrefix (got l) (got' l)
 
 -- What a round asks of its port where it has memory: its posts, and then its collects.
 -- looked, crowded: for a link out whose parcel is due still the port looked for room in this call,
@@ -94,16 +94,16 @@ pub record MadeRound (last exchange : Bool) (old new : Stack) (sent sent' got go
 -- asked: on a link in whose parcel is due still it listened in vain.
 pub record AsksOnce {P : Type 0} {cap : ℕ} {M : Type 0} (G : Ghosts P cap M) (begun new : Stack)
     (port port' : P) : Type 0 where
-  pub looked : (b : ℕ) → b < begun.ranks → (out_at new b).due ≡ true
-      → RoseOrFull (G.looks_out port (link_to begun b)) (G.looks_out port' (link_to begun b))
-  pub crowded : (b : ℕ) → b < begun.ranks → (out_at new b).due ≡ true
-      → G.got port' (link_to begun b) ≡ G.got port (link_to begun b)
-      → G.crowded port' (link_to begun b) ≡ true
-  pub asked : (a : ℕ) → a < begun.ranks → (in_at new a).due ≡ true
-      → InVain (G.noted port (link_from begun a)) (G.noted port' (link_from begun a)) (G.idle port' (link_from begun a))
+  pub looked : (b : ℕ) → b < begun.ranks → (stack_out_at new b).due ≡ true
+      → RoseOrFull (G.looks_out port (stack_link_to begun b)) (G.looks_out port' (stack_link_to begun b))
+  pub crowded : (b : ℕ) → b < begun.ranks → (stack_out_at new b).due ≡ true
+      → G.got port' (stack_link_to begun b) ≡ G.got port (stack_link_to begun b)
+      → G.crowded port' (stack_link_to begun b) ≡ true
+  pub asked : (a : ℕ) → a < begun.ranks → (stack_in_at new a).due ≡ true
+      → InVain (G.noted port (stack_link_from begun a)) (G.noted port' (stack_link_from begun a)) (G.idle port' (stack_link_from begun a))
   pub calls : G.calls port' ≡ (G.calls port ++ posts_to begun.ranks begun.rank begun.outs begun.ranks)
       ++ collects_from begun.ranks begun.rank begun.ins begun.ranks
 
 -- And without memory: it stops at the link that found none, and collects nothing.
 abbrev pub StopsShort : {P : Type 0} {cap : ℕ} {M : Type 0} → Ghosts P cap M → Stack → Stack → P → P → Type 0
-StopsShort G begun new port port' = StopsAt new.ranks new.rank begun.outs new.outs (G.calls port) (G.calls port')
+StopsShort G begun new port port' = StackStopsAt new.ranks new.rank begun.outs new.outs (G.calls port) (G.calls port')

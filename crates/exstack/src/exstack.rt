@@ -5,11 +5,11 @@ ghost use Rattle.route_tensor.specs.Grid.{ranks};
 ghost use Rattle.port_bank.specs.Logs.{Logs};
 ghost use Rattle.port_bank.specs.Machine.Step.{Push, Reset, Idle};
 ghost use Rattle.exstack.specs.Links.{headroom_of};
-ghost use Rattle.exstack.specs.State.{new_stack, out_at, in_at, dims_of, least_headroom, unread_of, lowest_unread, pushed_on, pop_from, popped_from, pops, unpopped, after_reset};
+ghost use Rattle.exstack.specs.State.{new_stack, stack_out_at, stack_in_at, stack_dims, least_headroom, stack_unread, lowest_unread_sender, pushed_on, pop_from, popped_from, pops, after_unpop, after_reset};
 ghost use Rattle.exstack.specs.Agreement.{AgreesIn};
-ghost use Rattle.exstack.specs.Parts.{IsStepOf, KeepsAgreement, GivesNext, IsPop, IsUnpop};
+ghost use Rattle.exstack.specs.Parts.{IsStackStep, StackKeepsAgreement, PopGivesNext, IsPop, IsUnpop};
 ghost use Rattle.exstack.specs.Standing.{IsStack};
-ghost use Rattle.exstack.specs.Demands.{MayPush};
+ghost use Rattle.exstack.specs.Demands.{MayPushTo};
 
 use crate::in_link::InLink;
 use crate::out_link::OutLink;
@@ -46,7 +46,7 @@ impl<const CAP: usize> Model for Exstack<CAP> {
 
     ghost Value = { Stack };
 
-    ghost use Rattle.exstack.specs.Standing.{IsKept};
+    ghost use Rattle.exstack.specs.Standing.{IsKeptStack};
 
     ghost view = { λ s. record {
       ranks = s.ranks;
@@ -59,7 +59,7 @@ impl<const CAP: usize> Model for Exstack<CAP> {
       popped = s.popped;
     } };
 
-    ghost invariant = { λ s. IsKept CAP (record {
+    ghost invariant = { λ s. IsKeptStack CAP (record {
       ranks = s.ranks;
       rank = s.rank;
       stage = s.stage;
@@ -78,7 +78,7 @@ impl<const CAP: usize> Exstack<CAP> {
         requires one_hop { length grid.now ≡ 1 }
         requires rank { rank < ranks grid.now }
         ensures made { IfOk result (λ s. s ≡ new_stack (ranks grid.now) rank) }
-        ensures grid { IfOk result (λ s. dims_of s ≡ grid.now) }
+        ensures grid { IfOk result (λ s. stack_dims s ≡ grid.now) }
         ensures agrees { IfOk result (λ s. AgreesIn 0 s (λ l. []) (λ l. [])) }
     {
         let ranks = grid.ranks();
@@ -114,7 +114,7 @@ impl<const CAP: usize> Exstack<CAP> {
 
     /// How many items came and are unread.
     pub fn unread(&self) -> u64
-        ensures { result ≡ unread_of self.now }
+        ensures { result ≡ stack_unread self.now }
     {
         unread_in(&self.ins)
     }
@@ -123,7 +123,7 @@ impl<const CAP: usize> Exstack<CAP> {
     #[inline]
     pub fn headroom(&self, to: u32) -> u64
         requires { to < self.now.ranks }
-        ensures { result ≡ headroom_of CAP (out_at self.now to) }
+        ensures { result ≡ headroom_of CAP (stack_out_at self.now to) }
     {
         self.outs[to as usize].headroom()
     }
@@ -139,13 +139,13 @@ impl<const CAP: usize> Exstack<CAP> {
     /// there before: 0 is the refusal.
     #[inline]
     pub fn push(&mut self, item: Item, to: u32) -> u64
-        requires may { MayPush self.old to }
-        ensures headroom { result ≡ headroom_of CAP (out_at self.old to) }
+        requires may { MayPushTo self.old to }
+        ensures headroom { result ≡ headroom_of CAP (stack_out_at self.old to) }
         ensures pushed { 0 < result → self.new ≡ pushed_on self.old item to }
         ensures full { result ≡ 0 → self.new ≡ record self.old { popped = None } }
-        ensures kept { KeepsAgreement self.old self.new }
-        ensures step_pushed { 0 < result → IsStepOf (Push to item) self.old self.new }
-        ensures step_full { result ≡ 0 → IsStepOf Idle self.old self.new }
+        ensures kept { StackKeepsAgreement self.old self.new }
+        ensures step_pushed { 0 < result → IsStackStep (Push to item) self.old self.new }
+        ensures step_full { result ≡ 0 → IsStackStep Idle self.old self.new }
     {
         self.popped = None;
         let entry = Entry {
@@ -162,8 +162,8 @@ impl<const CAP: usize> Exstack<CAP> {
     /// The first unread item of the lowest sender that has one, with that sender.
     #[inline]
     pub fn pop(&mut self) -> Option<(u32, Item)>
-        ensures value { result ≡ pop_from self.old (lowest_unread self.old) }
-        ensures state { self.new ≡ popped_from self.old (lowest_unread self.old) }
+        ensures value { result ≡ pop_from self.old (lowest_unread_sender self.old) }
+        ensures state { self.new ≡ popped_from self.old (lowest_unread_sender self.old) }
         ensures is { IsPop result self.old self.new }
     {
         self.popped = None;
@@ -180,10 +180,10 @@ impl<const CAP: usize> Exstack<CAP> {
     /// The sender of the item that the next pop gives: the lowest that has an unread one.
     #[inline]
     pub fn next_sender(&mut self) -> Option<u32>
-        ensures value { result ≡ lowest_unread self.old }
+        ensures value { result ≡ lowest_unread_sender self.old }
         ensures state { self.new ≡ record self.old { popped = None } }
-        ensures kept { KeepsAgreement self.old self.new }
-        ensures step { IsStepOf Idle self.old self.new }
+        ensures kept { StackKeepsAgreement self.old self.new }
+        ensures step { IsStackStep Idle self.old self.new }
     {
         self.popped = None;
         let sender = next_unread(&self.ins, self.from)?;
@@ -194,20 +194,20 @@ impl<const CAP: usize> Exstack<CAP> {
     /// The unread entries of that sender, in order. As many pops give their items.
     #[inline]
     pub fn batch(&self, sender: u32) -> &[Entry]
-        requires lowest { lowest_unread self.now ≡ Some sender }
-        ensures value { result.now ≡ (in_at self.now sender).unread }
+        requires lowest { lowest_unread_sender self.now ≡ Some sender }
+        ensures value { result.now ≡ (stack_in_at self.now sender).unread }
         ensures gives { (i : ℕ) (e : Entry) → slice_get result.now i ≡ Some e
-            → GivesNext (pops i self.now) sender e.item }
+            → PopGivesNext (pops i self.now) sender e.item }
     {
         self.ins[sender as usize].unread()
     }
 
     /// Pops all unread items of that sender.
     pub fn pop_all(&mut self, sender: u32)
-        requires lowest { lowest_unread self.old ≡ Some sender }
-        ensures state { self.new ≡ pops (length (in_at self.old sender).unread) self.old }
+        requires lowest { lowest_unread_sender self.old ≡ Some sender }
+        ensures state { self.new ≡ pops (length (stack_in_at self.old sender).unread) self.old }
         ensures same { self.new ≡ record self.old { ins = self.new.ins; popped = self.new.popped } }
-        ensures kept { KeepsAgreement self.old self.new }
+        ensures kept { StackKeepsAgreement self.old self.new }
     {
         self.ins[sender as usize].read_all();
         self.from = sender;
@@ -217,7 +217,7 @@ impl<const CAP: usize> Exstack<CAP> {
     /// Makes the item of the latest call unread again, if that was a pop that gave one.
     pub fn unpop(&mut self) -> bool
         ensures value { result ≡ is_some self.old.popped }
-        ensures state { self.new ≡ unpopped self.old self.old.popped }
+        ensures state { self.new ≡ after_unpop self.old self.old.popped }
         ensures is { IsUnpop result self.old self.new }
     {
         match self.popped {
@@ -237,7 +237,7 @@ impl<const CAP: usize> Exstack<CAP> {
         requires epochs { self.old.epoch < 2 ^ 63 }
         ensures state { self.new ≡ after_reset self.old }
         ensures kept { (n : ℕ) (sent got : Logs) → AgreesIn n self.old sent got → AgreesIn 0 self.new sent got }
-        ensures step { IsStepOf Reset self.old self.new }
+        ensures step { IsStackStep Reset self.old self.new }
     {
         self.popped = None;
         reopen_all(&mut self.outs);

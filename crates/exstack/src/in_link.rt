@@ -1,6 +1,6 @@
 //! One link into a rank: the parcel that came over it and is being read.
 ghost use Rattle.std.specs.Prelude.{◌≡◌, ◌++◌, ◌<◌, ◌≤◌, true, length, slice_get, None, IsSome, IfOk};
-ghost use Rattle.list_laws.specs.Lists.{Begins};
+ghost use Rattle.list_laws.specs.Lists.{IsPrefix};
 ghost use Rattle.item_buffer.specs.declared.capacity.TheConstants.{MOST_ENTRIES};
 ghost use Rattle.item_buffer.specs.Capacity.{IsCap};
 ghost use Rattle.route_tensor.specs.Link.{links};
@@ -9,8 +9,8 @@ ghost use Rattle.port_bank.specs.Logs.{lasts};
 ghost use Rattle.port_bank.specs.Calls.{once_if};
 ghost use Rattle.port_bank.specs.Calls.Call.{Collect};
 ghost use Rattle.port_bank.specs.Frames.{InsElsewhere};
-ghost use Rattle.exstack.specs.Links.{no_in, with_first_read, with_put_back, read_on, begun_in, resumed, has_unread};
-ghost use Rattle.exstack.specs.Steps.{WasCollected, InVain, LeftByCollects};
+ghost use Rattle.exstack.specs.Links.{no_stack_in, with_first_read, with_put_back, stack_read_on, begun_in, stack_in_in_new_epoch, has_unread};
+ghost use Rattle.exstack.specs.Steps.{WasCollected, InVain, LeftByStackCollects};
 
 use bale_items::{Entry, NoMemory};
 use item_buffer::Parcel;
@@ -31,9 +31,9 @@ pub struct InLink<const CAP: usize> {
 impl<const CAP: usize> Model for InLink<CAP> {
     ghost use Rattle.std.specs.Prelude.{◌≡◌, true};
     ghost use Rattle.item_buffer.specs.Contents.{blank};
-    ghost use Rattle.exstack.specs.Links.{In};
+    ghost use Rattle.exstack.specs.Links.{StackIn};
 
-    ghost Value = { In };
+    ghost Value = { StackIn };
 
     ghost view = { λ i. record { unread = i.parcel.untaken; back = i.parcel.back; ended = i.ended; due = i.due } };
 
@@ -44,7 +44,7 @@ impl<const CAP: usize> InLink<CAP> {
     /// A link on which nothing came.
     pub fn new(alloc: Global) -> Result<Self, NoMemory>
         requires cap { IsCap CAP }
-        ensures { IfOk result (λ i. i ≡ no_in) }
+        ensures { IfOk result (λ i. i ≡ no_stack_in) }
     {
         Ok(InLink {
             parcel: Parcel::new(alloc)?,
@@ -92,7 +92,7 @@ impl<const CAP: usize> InLink<CAP> {
     /// Reads all unread entries.
     #[inline]
     pub fn read_all(&mut self)
-        ensures { self.new ≡ read_on (length self.old.unread) self.old }
+        ensures { self.new ≡ stack_read_on (length self.old.unread) self.old }
     {
         let count = self.parcel.untaken().len();
         self.parcel.skip(count);
@@ -132,7 +132,7 @@ impl<const CAP: usize> InLink<CAP> {
 
     /// A new epoch begins.
     pub fn resume(&mut self)
-        ensures { self.new ≡ resumed self.old }
+        ensures { self.new ≡ stack_in_in_new_epoch self.old }
     {
         self.ended = false;
     }
@@ -149,9 +149,9 @@ impl<const CAP: usize> InLink<CAP> {
         ensures calls { P.calls port.new ≡ P.calls port.old ++ once_if self.old.due (Collect link) }
         ensures elsewhere { InsElsewhere P.Port link port.old port.new }
         ensures own { sender_at (P.dims port.old) link ≡ P.rank port.old
-            → Begins (P.got port.old link) (P.sent port.old link)
-            → Begins (P.got port.new link) (P.sent port.new link) }
-        ensures left { LeftByCollects P.Port port.old port.new }
+            → IsPrefix (P.got port.old link) (P.sent port.old link)
+            → IsPrefix (P.got port.new link) (P.sent port.new link) }
+        ensures left { LeftByStackCollects P.Port port.old port.new }
     {
         if !self.due {
             return;

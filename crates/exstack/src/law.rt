@@ -1,20 +1,20 @@
 //! The laws that tie the exstacks of all ranks together.
-ghost use Rattle.exstack.specs.Law.{StaysTogether, ExchangeLaw, ProceedLaw, ClosesLaw, CyclesLaw};
+ghost use Rattle.exstack.specs.Law.{StacksStayTogether, StackExchangeLaw, ProceedLaw, StackClosesLaw, CyclesLaw};
 ghost use Rattle.exstack.specs.Lockstep.{RoomLaw, ArrivalLaw};
 
 /// Where the exstacks of all ranks agree with the ports of one bank, every call on any of them, in
 /// any order, is a step of the exchange machine, and a proceed poll one or two, after which they
 /// agree again.
 pub fn exchange_law()
-    ensures together { StaysTogether }
-    ensures step { ExchangeLaw }
+    ensures together { StacksStayTogether }
+    ensures step { StackExchangeLaw }
     ensures proceed { ProceedLaw }
 {}
 
-/// Where they agree so, what a rank pulled is the front of what its sender pushed; and in each
+/// Where they agree so, what a rank pulled is a prefix of what its sender pushed; and in each
 /// epoch that some rank has completed every rank was done, and what was pulled is what was pushed.
 pub fn closes_law()
-    ensures { ClosesLaw }
+    ensures { StackClosesLaw }
 {}
 
 /// The n-th exchange on one side meets the n-th on the other, although no rank waits.

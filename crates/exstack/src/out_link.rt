@@ -9,8 +9,8 @@ ghost use Rattle.port_bank.specs.Calls.{once_if};
 ghost use Rattle.port_bank.specs.Calls.Call.{Post};
 ghost use Rattle.port_bank.specs.Relay.{RelayLaw};
 ghost use Rattle.port_bank.specs.Frames.{OutsElsewhere};
-ghost use Rattle.exstack.specs.Links.{no_out, no_tag, with_entry, headroom_of, begun_out, reopened};
-ghost use Rattle.exstack.specs.Steps.{WasPosted, InVain, LeftByPosts};
+ghost use Rattle.exstack.specs.Links.{no_stack_out, no_tag, with_waiting_entry, headroom_of, begun_out, stack_out_in_new_epoch};
+ghost use Rattle.exstack.specs.Steps.{WasPostedInRound, InVain, LeftByStackPosts};
 
 use bale_items::{Entry, NoMemory};
 use item_buffer::Parcel;
@@ -32,9 +32,9 @@ pub struct OutLink<const CAP: usize> {
 impl<const CAP: usize> Model for OutLink<CAP> {
     ghost use Rattle.std.specs.Prelude.{◌≡◌};
     ghost use Rattle.std.specs.List.{All};
-    ghost use Rattle.exstack.specs.Links.{Out, no_tag};
+    ghost use Rattle.exstack.specs.Links.{StackOut, no_tag};
 
-    ghost Value = { Out };
+    ghost Value = { StackOut };
 
     ghost view = { λ o. record { waiting = o.parcel.untaken; closed = o.closed; due = o.due } };
 
@@ -45,7 +45,7 @@ impl<const CAP: usize> OutLink<CAP> {
     /// A link on which nothing waits.
     pub fn new(alloc: Global) -> Result<Self, NoMemory>
         requires cap { IsCap CAP }
-        ensures { IfOk result (λ o. o ≡ no_out) }
+        ensures { IfOk result (λ o. o ≡ no_stack_out) }
     {
         Ok(OutLink {
             parcel: Parcel::new(alloc)?,
@@ -59,7 +59,7 @@ impl<const CAP: usize> OutLink<CAP> {
     pub fn push(&mut self, entry: Entry) -> u64
         requires { entry.tag ≡ no_tag }
         ensures headroom { result ≡ headroom_of CAP self.old }
-        ensures pushed { 0 < result → self.new ≡ with_entry self.old entry }
+        ensures pushed { 0 < result → self.new ≡ with_waiting_entry self.old entry }
         ensures full { result ≡ 0 → self.new ≡ self.old }
         ensures fits { length self.new.waiting ≤ CAP }
     {
@@ -93,7 +93,7 @@ impl<const CAP: usize> OutLink<CAP> {
 
     /// A new epoch begins.
     pub fn reopen(&mut self)
-        ensures { self.new ≡ reopened self.old }
+        ensures { self.new ≡ stack_out_in_new_epoch self.old }
     {
         self.closed = false;
     }
@@ -115,7 +115,7 @@ impl<const CAP: usize> OutLink<CAP> {
         requires starts_here { sender_at (P.dims port.old) link ≡ P.rank port.old }
         requires epoch { self.old.due ≡ true → lasts (P.sent port.old link) ≡ epoch }
         requires law { RelayLaw (P.dims port.old) (P.rank port.old) (P.sent port.old) (P.got port.old) }
-        ensures moved { WasPosted last epoch self.old self.new (P.sent port.old link) (P.sent port.new link) }
+        ensures moved { WasPostedInRound last epoch self.old self.new (P.sent port.old link) (P.sent port.new link) }
         ensures in_vain { IsOk result → self.new.due ≡ true
             → InVain (P.looks_out port.old link) (P.looks_out port.new link) (P.crowded port.new link) }
         ensures calls { OnOk result (P.calls port.new ≡ P.calls port.old ++ once_if self.old.due (Post link)) }
@@ -124,7 +124,7 @@ impl<const CAP: usize> OutLink<CAP> {
         ensures still_due { IsErr result → self.new.due ≡ true }
         ensures law { RelayLaw (P.dims port.old) (P.rank port.old) (P.sent port.new) (P.got port.old) }
         ensures memory { P.Memory.GROWS ≡ false → IsOk result }
-        ensures left { LeftByPosts P.Port port.old port.new }
+        ensures left { LeftByStackPosts P.Port port.old port.new }
     {
         if !self.due {
             return Ok(());

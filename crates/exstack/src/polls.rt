@@ -3,12 +3,12 @@ ghost use Rattle.std.specs.Prelude.{◌≡◌, ℕ, ◌<◌, ◌&&◌, ◌||◌,
 ghost use Rattle.port_bank.specs.Machine.{IsOwnStep};
 ghost use Rattle.port_bank.specs.Machine.Step.{Idle};
 ghost use Rattle.port_bank.specs.Frames.{SamePort};
-ghost use Rattle.exstack.specs.State.{in_at, link_from, unread_of};
+ghost use Rattle.exstack.specs.State.{stack_in_at, stack_link_from, stack_unread};
 ghost use Rattle.exstack.specs.State.{is_proceeding, is_exchanging, may_proceed, may_exchange, in_proceed, in_exchange, missing_link, all_ended, proceed_answer, exchange_answer, stage_of_proceed, stage_of_exchange};
 ghost use Rattle.exstack.specs.Steps.{MadeRound, AsksOnce, StopsShort};
-ghost use Rattle.exstack.specs.Agreement.{AgreesIn, AgreesWith, cycle_after};
-ghost use Rattle.exstack.specs.Cycles.{exchange_parcel, entries_in};
-ghost use Rattle.exstack.specs.Parts.{AreOwnSteps, proceed_steps, is_all_done, part_of, IsAtPort};
+ghost use Rattle.exstack.specs.Agreement.{AgreesIn, StackAgrees, cycle_after};
+ghost use Rattle.exstack.specs.Cycles.{exchange_parcel, entries_if_any};
+ghost use Rattle.exstack.specs.Parts.{AreOwnSteps, proceed_steps, is_all_done, stack_part, IsStackAtPort};
 ghost use Rattle.exstack.specs.Standing.{IsStack};
 
 use crate::exstack::Exstack;
@@ -31,13 +31,13 @@ impl<const CAP: usize> Exstack<CAP> {
         done: bool,
     ) -> Result<Proceed, NoMemory>
         requires may { may_proceed self.old.stage ≡ true }
-        requires at_port { IsAtPort P.Port self.old port.old }
-        requires read { unread_of self.old ≡ 0 }
+        requires at_port { IsStackAtPort P.Port self.old port.old }
+        requires read { stack_unread self.old ≡ 0 }
         requires done_stays { self.old.done ≡ true → done ≡ true }
         requires same_done { self.old.stage ≡ Stage.Proceeding → done ≡ self.old.done }
 
         // The exstack agrees with the port again.
-        ensures agrees { AgreesWith self.new (P.sent port.new) (P.got port.new) }
+        ensures agrees { StackAgrees self.new (P.sent port.new) (P.got port.new) }
         ensures cycle { (n : ℕ) → AgreesIn n self.old (P.sent port.old) (P.got port.old)
             → AgreesIn (cycle_after n self.old.stage) self.new (P.sent port.new) (P.got port.new) }
         ensures same { self.new ≡ record self.old {
@@ -57,8 +57,8 @@ impl<const CAP: usize> Exstack<CAP> {
 
         // It is these steps of the rank's part of the exchange machine.
         ensures steps { AreOwnSteps (proceed_steps self.old.done done (is_all_done self.new.stage))
-            (part_of self.old (P.sent port.old) (P.got port.old))
-            (part_of self.new (P.sent port.new) (P.got port.new)) }
+            (stack_part self.old (P.sent port.old) (P.got port.old))
+            (stack_part self.new (P.sent port.new) (P.got port.new)) }
 
         // What was posted and collected.
         ensures round { MadeRound done false (in_proceed done self.old) self.new (P.sent port.old) (P.sent port.new)
@@ -81,10 +81,10 @@ impl<const CAP: usize> Exstack<CAP> {
     /// may be made again.
     pub fn poll_exchange<P: Port<CAP>>(&mut self, port: &mut P) -> Result<Poll, NoMemory>
         requires may { may_exchange self.old.stage ≡ true }
-        requires at_port { IsAtPort P.Port self.old port.old }
+        requires at_port { IsStackAtPort P.Port self.old port.old }
 
         // The exstack agrees with the port again.
-        ensures agrees { AgreesWith self.new (P.sent port.new) (P.got port.new) }
+        ensures agrees { StackAgrees self.new (P.sent port.new) (P.got port.new) }
         ensures cycle { (n : ℕ) → AgreesIn n self.old (P.sent port.old) (P.got port.old)
             → AgreesIn n self.new (P.sent port.new) (P.got port.new) }
         ensures same { self.new ≡ record self.old {
@@ -102,8 +102,8 @@ impl<const CAP: usize> Exstack<CAP> {
         ensures memory { P.Memory.GROWS ≡ false → IsOk result }
 
         // It is a step of the rank's part of the exchange machine.
-        ensures step { IsOwnStep Idle (part_of self.old (P.sent port.old) (P.got port.old))
-            (part_of self.new (P.sent port.new) (P.got port.new)) }
+        ensures step { IsOwnStep Idle (stack_part self.old (P.sent port.old) (P.got port.old))
+            (stack_part self.new (P.sent port.new) (P.got port.new)) }
 
         // What was posted and collected.
         ensures round { MadeRound false true (in_exchange self.old) self.new (P.sent port.old) (P.sent port.new)
@@ -116,9 +116,9 @@ impl<const CAP: usize> Exstack<CAP> {
         // A parcel that this poll collected is the exchange parcel of its cycle, and all of it is
         // unread.
         ensures whole { (n a : ℕ) → AgreesIn n self.old (P.sent port.old) (P.got port.old) → a < self.old.ranks
-            → (in_at (in_exchange self.old) a).due ≡ true → (in_at self.new a).due ≡ false
-            → (in_at self.new a).unread
-            ≡ entries_in (exchange_parcel self.old.epoch n (P.got port.new (link_from self.old a))) }
+            → (stack_in_at (in_exchange self.old) a).due ≡ true → (stack_in_at self.new a).due ≡ false
+            → (stack_in_at self.new a).unread
+            ≡ entries_if_any (exchange_parcel self.old.epoch n (P.got port.new (stack_link_from self.old a))) }
     {
         self.begin_exchange();
         let missing = self.go_round(port, false, true)?;
@@ -127,7 +127,7 @@ impl<const CAP: usize> Exstack<CAP> {
 
     fn begin_proceed(&mut self, done: bool)
         requires may { may_proceed self.old.stage ≡ true }
-        requires read { unread_of self.old ≡ 0 }
+        requires read { stack_unread self.old ≡ 0 }
         requires done_stays { self.old.done ≡ true → done ≡ true }
         ensures state { self.new ≡ in_proceed done self.old }
         ensures standing { IsStack CAP self.old }
@@ -168,7 +168,7 @@ impl<const CAP: usize> Exstack<CAP> {
         requires exchange { exchange ≡ is_exchanging self.old.stage }
         requires last { last ≡ (self.old.done && not exchange) }
         requires forgotten { self.old.popped ≡ None }
-        requires at_port { IsAtPort P.Port self.old port.old }
+        requires at_port { IsStackAtPort P.Port self.old port.old }
         ensures standing { IsStack CAP self.old }
         ensures same { self.new ≡ record self.old { outs = self.new.outs; ins = self.new.ins } }
         ensures cycle { (n : ℕ) → AgreesIn n self.old (P.sent port.old) (P.got port.old)

@@ -2,14 +2,14 @@
 //! it still waits for.
 ghost use Rattle.std.specs.Prelude.{◌≡◌, ℕ, ◌+◌, ◌*◌, ◌<◌, ◌≤◌, ◌++◌, true, false, map, replicate, length, slice_index_or, IfOk, IfSome, OnOk, IsOk, IsErr};
 ghost use Rattle.std.specs.List.{list_all, position, sum_by};
-ghost use Rattle.list_laws.specs.Lists.{Begins};
+ghost use Rattle.list_laws.specs.Lists.{IsPrefix};
 ghost use Rattle.item_buffer.specs.Capacity.{IsCap};
 ghost use Rattle.port_bank.specs.Logs.{lasts};
 ghost use Rattle.port_bank.specs.Relay.{RelayLaw};
-ghost use Rattle.exstack.specs.Links.{no_out, no_in, has_unread, begun_out, begun_in, reopened, resumed};
+ghost use Rattle.exstack.specs.Links.{no_stack_out, no_stack_in, has_unread, begun_out, begun_in, stack_out_in_new_epoch, stack_in_in_new_epoch};
 ghost use Rattle.exstack.specs.State.{number, missing_out, least_headroom};
 ghost use Rattle.exstack.specs.Demands.{NoneBelow};
-ghost use Rattle.exstack.specs.Steps.{WasPosted, WasCollected, InVain, StopsAt, posts_to, collects_from, LeftByPosts, LeftByCollects, IsPortOf};
+ghost use Rattle.exstack.specs.Steps.{WasPostedInRound, WasCollected, InVain, StackStopsAt, posts_to, collects_from, LeftByStackPosts, LeftByStackCollects, IsStackPort};
 
 use crate::in_link::InLink;
 use crate::out_link::OutLink;
@@ -20,7 +20,7 @@ use std::alloc::Global;
 /// So many links out, on which nothing waits.
 pub fn links_out<const CAP: usize>(alloc: Global, count: u32) -> Result<Vec<OutLink<CAP>>, NoMemory>
     requires cap { IsCap CAP }
-    ensures { IfOk result (λ links. links.items ≡ replicate count no_out) }
+    ensures { IfOk result (λ links. links.items ≡ replicate count no_stack_out) }
 {
     let mut links = Vec::with_capacity(alloc, count as usize)?;
     for _ in 0..count {
@@ -32,7 +32,7 @@ pub fn links_out<const CAP: usize>(alloc: Global, count: u32) -> Result<Vec<OutL
 /// So many links in, on which nothing came.
 pub fn links_in<const CAP: usize>(alloc: Global, count: u32) -> Result<Vec<InLink<CAP>>, NoMemory>
     requires cap { IsCap CAP }
-    ensures { IfOk result (λ links. links.items ≡ replicate count no_in) }
+    ensures { IfOk result (λ links. links.items ≡ replicate count no_stack_in) }
 {
     let mut links = Vec::with_capacity(alloc, count as usize)?;
     for _ in 0..count {
@@ -61,7 +61,7 @@ pub fn begin_ins<const CAP: usize>(links: &mut Vec<InLink<CAP>>)
 
 /// A new epoch begins on every link out.
 pub fn reopen_all<const CAP: usize>(links: &mut Vec<OutLink<CAP>>)
-    ensures { links.new.items ≡ map reopened links.old.items }
+    ensures { links.new.items ≡ map stack_out_in_new_epoch links.old.items }
 {
     for i in 0..links.len() {
         links[i].reopen();
@@ -70,7 +70,7 @@ pub fn reopen_all<const CAP: usize>(links: &mut Vec<OutLink<CAP>>)
 
 /// A new epoch begins on every link in.
 pub fn resume_all<const CAP: usize>(links: &mut Vec<InLink<CAP>>)
-    ensures { links.new.items ≡ map resumed links.old.items }
+    ensures { links.new.items ≡ map stack_in_in_new_epoch links.old.items }
 {
     for i in 0..links.len() {
         links[i].resume();
@@ -88,27 +88,28 @@ pub fn post_all<const CAP: usize, P: Port<CAP>>(
     epoch: u64,
     last: bool,
 ) -> Result<(), NoMemory>
-    requires port { IsPortOf P.Port (length outs.old.items) rank port.old }
-    requires epoch { (b : ℕ) → b < length outs.old.items → (slice_index_or outs.old.items b no_out).due ≡ true
+    requires port { IsStackPort P.Port (length outs.old.items) rank port.old }
+    requires epoch { (b : ℕ) → b < length outs.old.items → (slice_index_or outs.old.items b no_stack_out).due ≡ true
         → lasts (P.sent port.old (number (length outs.old.items) rank b)) ≡ epoch }
     requires law { RelayLaw (P.dims port.old) (P.rank port.old) (P.sent port.old) (P.got port.old) }
     ensures count { length outs.new.items ≡ length outs.old.items }
     ensures moved { (b : ℕ) → b < length outs.old.items
-        → WasPosted last epoch (slice_index_or outs.old.items b no_out) (slice_index_or outs.new.items b no_out)
+        → WasPostedInRound last epoch (slice_index_or outs.old.items b no_stack_out) (slice_index_or outs.new.items
+        b no_stack_out)
         (P.sent port.old (number (length outs.old.items) rank b))
         (P.sent port.new (number (length outs.old.items) rank b)) }
     ensures in_vain { IsOk result → (b : ℕ) → b < length outs.old.items
-        → (slice_index_or outs.new.items b no_out).due ≡ true
+        → (slice_index_or outs.new.items b no_stack_out).due ≡ true
         → InVain (P.looks_out port.old (number (length outs.old.items) rank b))
         (P.looks_out port.new (number (length outs.old.items) rank b))
         (P.crowded port.new (number (length outs.old.items) rank b)) }
     ensures calls { OnOk result (P.calls port.new
         ≡ P.calls port.old ++ posts_to (length outs.old.items) rank outs.old.items (length outs.old.items)) }
-    ensures stops { IsErr result → StopsAt (length outs.old.items) rank outs.old.items outs.new.items
+    ensures stops { IsErr result → StackStopsAt (length outs.old.items) rank outs.old.items outs.new.items
         (P.calls port.old) (P.calls port.new) }
     ensures law { RelayLaw (P.dims port.old) (P.rank port.old) (P.sent port.new) (P.got port.old) }
     ensures memory { P.Memory.GROWS ≡ false → IsOk result }
-    ensures left { LeftByPosts P.Port port.old port.new }
+    ensures left { LeftByStackPosts P.Port port.old port.new }
 {
     let ranks = outs.len() as u32;
     for b in 0..outs.len() {
@@ -125,25 +126,26 @@ pub fn collect_all<const CAP: usize, P: Port<CAP>>(
     epoch: u64,
     exchange: bool,
 )
-    requires port { IsPortOf P.Port (length ins.old.items) rank port.old }
-    requires epoch { (a : ℕ) → a < length ins.old.items → (slice_index_or ins.old.items a no_in).due ≡ true
+    requires port { IsStackPort P.Port (length ins.old.items) rank port.old }
+    requires epoch { (a : ℕ) → a < length ins.old.items → (slice_index_or ins.old.items a no_stack_in).due ≡ true
         → lasts (P.got port.old (number (length ins.old.items) a rank)) ≡ epoch }
     ensures count { length ins.new.items ≡ length ins.old.items }
     ensures moved { (a : ℕ) → a < length ins.old.items
-        → WasCollected exchange (slice_index_or ins.old.items a no_in) (slice_index_or ins.new.items a no_in)
+        → WasCollected exchange (slice_index_or ins.old.items a no_stack_in) (slice_index_or ins.new.items a
+        no_stack_in)
         (P.got port.old (number (length ins.old.items) a rank))
         (P.got port.new (number (length ins.old.items) a rank)) }
-    ensures in_vain { (a : ℕ) → a < length ins.old.items → (slice_index_or ins.new.items a no_in).due ≡ true
+    ensures in_vain { (a : ℕ) → a < length ins.old.items → (slice_index_or ins.new.items a no_stack_in).due ≡ true
         → InVain (P.noted port.old (number (length ins.old.items) a rank))
         (P.noted port.new (number (length ins.old.items) a rank))
         (P.idle port.new (number (length ins.old.items) a rank)) }
     ensures calls { P.calls port.new
         ≡ P.calls port.old ++ collects_from (length ins.old.items) rank ins.old.items (length ins.old.items) }
-    ensures own { Begins (P.got port.old (number (length ins.old.items) rank rank))
+    ensures own { IsPrefix (P.got port.old (number (length ins.old.items) rank rank))
         (P.sent port.old (number (length ins.old.items) rank rank))
-        → Begins (P.got port.new (number (length ins.old.items) rank rank))
+        → IsPrefix (P.got port.new (number (length ins.old.items) rank rank))
         (P.sent port.new (number (length ins.old.items) rank rank)) }
-    ensures left { LeftByCollects P.Port port.old port.new }
+    ensures left { LeftByStackCollects P.Port port.old port.new }
 {
     let ranks = ins.len() as u32;
     for a in 0..ins.len() {

@@ -16,7 +16,7 @@ use Rattle.route_tensor.proofs.Neighbours.{hop_to_has, hop_to_is, number_made, n
 use Rattle.hop_core.specs.declared.phase.Phase.TheVariants as phase
 use Rattle.hop_core.specs.Lent.Lent.{Nothing}
 use Rattle.hop_core.specs.Link.{Out, In, no_out, no_in, is_empty, is_finished, with_back}
-use Rattle.hop_core.specs.State.{State, at_end, ins_of_hop, all_closed, all_read, phase_of, reopened, resumed}
+use Rattle.hop_core.specs.State.{State, at_end, ins_of_hop, all_closed, all_read, phase_of, out_in_new_epoch, in_in_new_epoch}
 use Rattle.hop_core.specs.Standing.{IsOut, IsIn, IsKept, CanUnpull}
 use Rattle.hop_core.proofs.Marks.{at_end-later, at_end_other, hop_unfinished}
 use Rattle.hop_core.proofs.Counts.{all_fail}
@@ -56,17 +56,17 @@ none_at_end dims ins done (suc h) g l none p m =
 
 -- a new epoch
 abbrev pub renewed : State → ℕ → State
-renewed st n = record st { outs = map reopened st.outs; ins = map resumed st.ins; done = false; phase = phase.Dormant; epoch = n; pulled = None }
+renewed st n = record st { outs = map out_in_new_epoch st.outs; ins = map in_in_new_epoch st.ins; done = false; phase = phase.Dormant; epoch = n; pulled = None }
 
 pub renewed_kept : (st : State) (ends ends' : List Bool) (from count coming count' coming' n : ℕ) → IsKept st ends from count coming → ends' ≡ replicate 3 false → count' ≡ sum st.dims
     → coming' ≡ sum st.dims - links_before st.dims (length st.dims) → IsKept (renewed st n) ends' from count' coming'
 renewed_kept st ends ends' from count coming count' coming' n k e open' awaited =
     let s = k.standing in
     let b = links_before st.dims (length st.dims) in
-    let no : length (map reopened st.outs) ≡ sum st.dims = length-map st.outs reopened ∙ s.all_outs in
-    let ni : length (map resumed st.ins) ≡ sum st.dims = length-map st.ins resumed ∙ s.all_ins in
-    let o : (i : ℕ) (d : Out) → i < sum st.dims → get_or (map reopened st.outs) i d ≡ reopened (get_or st.outs i no_out) = λ i d q. get_or-map reopened st.outs i no_out d (omega (arith, q, s.all_outs)) in
-    let x : (i : ℕ) (d : In) → i < sum st.dims → get_or (map resumed st.ins) i d ≡ resumed (get_or st.ins i no_in) = λ i d q. get_or-map resumed st.ins i no_in d (omega (arith, q, s.all_ins)) in
+    let no : length (map out_in_new_epoch st.outs) ≡ sum st.dims = length-map st.outs out_in_new_epoch ∙ s.all_outs in
+    let ni : length (map in_in_new_epoch st.ins) ≡ sum st.dims = length-map st.ins in_in_new_epoch ∙ s.all_ins in
+    let o : (i : ℕ) (d : Out) → i < sum st.dims → get_or (map out_in_new_epoch st.outs) i d ≡ out_in_new_epoch (get_or st.outs i no_out) = λ i d q. get_or-map out_in_new_epoch st.outs i no_out d (omega (arith, q, s.all_outs)) in
+    let x : (i : ℕ) (d : In) → i < sum st.dims → get_or (map in_in_new_epoch st.ins) i d ≡ in_in_new_epoch (get_or st.ins i no_in) = λ i d q. get_or-map in_in_new_epoch st.ins i no_in d (omega (arith, q, s.all_ins)) in
     record {
       standing = record {
         grid = s.grid;
@@ -87,11 +87,11 @@ renewed_kept st ends ends' from count coming count' coming' n k e open' awaited 
       };
       ends_all = ap length e ∙ length-replicate 3 false;
       ends_each = λ h d a b. ap (λ bs. get_or bs (h - 1) d) e ∙ get_or-replicate 3 (h - 1) false d (omega (arith, a, b, s.grid.few))
-          ∙ sym (none_at_end st.dims (map resumed st.ins) false h s.grid ni (λ i q. ap (λ y. y.ended) (x i no_in q)) a b);
+          ∙ sym (none_at_end st.dims (map in_in_new_epoch st.ins) false h s.grid ni (λ i q. ap (λ y. y.ended) (x i no_in q)) a b);
       from_low = k.from_low;
       from_high = k.from_high;
-      open_is = open' ∙ sym (all_fail (λ (y : Out). y.closed) (map reopened st.outs) no_out (λ i q. ap (λ (y : Out). y.closed) (o i no_out (omega (arith, q, no)))) ∙ no);
-      coming_is = awaited ∙ sym (all_fail (λ (y : In). y.ended) (drop b (map resumed st.ins)) no_in (λ i q. ap (λ (y : In). y.ended) (get_or-drop b (map resumed st.ins) i no_in ∙ x (b + i) no_in (omega (arith, q, ni, length-drop b (map resumed st.ins))))) ∙ omega (arith, length-drop b (map resumed st.ins), ni));
+      open_is = open' ∙ sym (all_fail (λ (y : Out). y.closed) (map out_in_new_epoch st.outs) no_out (λ i q. ap (λ (y : Out). y.closed) (o i no_out (omega (arith, q, no)))) ∙ no);
+      coming_is = awaited ∙ sym (all_fail (λ (y : In). y.ended) (drop b (map in_in_new_epoch st.ins)) no_in (λ i q. ap (λ (y : In). y.ended) (get_or-drop b (map in_in_new_epoch st.ins) i no_in ∙ x (b + i) no_in (omega (arith, q, ni, length-drop b (map in_in_new_epoch st.ins))))) ∙ omega (arith, length-drop b (map in_in_new_epoch st.ins), ni));
       from_none = λ j a w. ap (λ y. is_empty y.parcel) (x j no_in (omega (arith, w, k.from_high))) ∙ k.from_none j a w;
     }
 

@@ -9,12 +9,12 @@ use Rattle.route_tensor.specs.Link.{links_before}
 use Rattle.route_tensor.specs.Routes.{about, passed_on}
 use Rattle.route_tensor.proofs.Links.{before_more}
 use Rattle.hop_core.specs.Link.{Out, In, no_out, no_in, with_entry, read_on}
-use Rattle.hop_core.specs.Relay.{next_out, next_entry, finds_full, with_passed, passed, passed_count, relayed, relayed_hop}
+use Rattle.hop_core.specs.Relay.{next_out, next_entry, finds_full, with_passed, outs_after_relay, passed_count, after_relay, relayed_hop}
 use Rattle.hop_core.proofs.Going.{by_head, entry}
 
 -- how far the entries es of link in number i are passed on: n of them
 pub record Passing (dims : List ℕ) (r cap i : ℕ) (outs0 : List Out) (es : List Entry) (outs : List Out) (n : ℕ) : Type 0 where
-  pub to_come : passed dims r cap i outs0 es ≡ passed dims r cap i outs (drop n es)
+  pub to_come : outs_after_relay dims r cap i outs0 es ≡ outs_after_relay dims r cap i outs (drop n es)
   pub counted : passed_count dims r cap i outs0 es ≡ n + passed_count dims r cap i outs (drop n es)
 
 pub passing_start : (dims : List ℕ) (r cap i : ℕ) (outs : List Out) (es : List Entry) → Passing dims r cap i outs es outs 0
@@ -29,7 +29,7 @@ one_more : (dims : List ℕ) (r cap i n : ℕ) (outs0 : List Out) (es : List Ent
     out' ≡ record (get_or outs (next_out dims r i e) no_out) { parcel = with_entry (get_or outs (next_out dims r i e) no_out).parcel (next_entry dims r i e) } →
     length (get_or outs (next_out dims r i e) no_out).parcel.untaken < cap →
     Passing dims r cap i outs0 es (set outs (next_out dims r i e) out') (n + 1)
-unfolding passed passed_count
+unfolding outs_after_relay passed_count
 one_more dims r cap i n outs0 es outs out' e k head eo room =
     let open' : finds_full dims r cap i outs e ≡ false = ne_eqb (length (get_or outs (next_out dims r i e) no_out).parcel.untaken) cap (λ z. absurd (omega (arith, z, room))) in
     let rest : List Entry = drop (n + 1) es in
@@ -37,7 +37,7 @@ one_more dims r cap i n outs0 es outs out' e k head eo room =
     let counts : passed_count dims r cap i outs (drop n es) ≡ suc (passed_count dims r cap i (set outs (next_out dims r i e) out') rest) =
     ap (passed_count dims r cap i outs) (cut n es e head) ∙ cond-false _ _ _ open' ∙ ap (λ os. suc (passed_count dims r cap i os rest)) there in
     record {
-      to_come = k.to_come ∙ ap (passed dims r cap i outs) (cut n es e head) ∙ cond-false _ _ _ open' ∙ ap (λ os. passed dims r cap i os rest) there;
+      to_come = k.to_come ∙ ap (outs_after_relay dims r cap i outs) (cut n es e head) ∙ cond-false _ _ _ open' ∙ ap (λ os. outs_after_relay dims r cap i os rest) there;
       counted = let c = k.counted in omega arith;
     }
 
@@ -58,27 +58,27 @@ passing_more dims r cap i n outs0 es outs out out' e step k head se w eo eo' roo
 
 -- all are passed on, or the next one finds its open parcel full
 pub record AllPassed (dims : List ℕ) (r cap i : ℕ) (outs0 : List Out) (es : List Entry) (outs : List Out) (n : ℕ) : Type 0 where
-  pub outs_are : outs ≡ passed dims r cap i outs0 es
+  pub outs_are : outs ≡ outs_after_relay dims r cap i outs0 es
   pub passes_are : n ≡ passed_count dims r cap i outs0 es
 
 pub passing_end : (dims : List ℕ) (r cap i n : ℕ) (outs0 : List Out) (es : List Entry) (outs : List Out) → Passing dims r cap i outs0 es outs n → length es ≤ n → AllPassed dims r cap i outs0 es outs n
-unfolding passed passed_count
+unfolding outs_after_relay passed_count
 passing_end dims r cap i n outs0 es outs k all =
     let none : drop n es ≡ [] = drop_all n es all in
     let zero' : passed_count dims r cap i outs (drop n es) ≡ 0 = ap (passed_count dims r cap i outs) none in
     record {
-      outs_are = sym (k.to_come ∙ ap (passed dims r cap i outs) none);
+      outs_are = sym (k.to_come ∙ ap (outs_after_relay dims r cap i outs) none);
       passes_are = let c = k.counted in omega arith;
     }
 
 full_here : (dims : List ℕ) (r cap i n : ℕ) (outs0 : List Out) (es : List Entry) (outs : List Out) (e : Entry) → Passing dims r cap i outs0 es outs n → slice_get (drop n es) 0 ≡ Some e →
     length (get_or outs (next_out dims r i e) no_out).parcel.untaken ≡ cap → AllPassed dims r cap i outs0 es outs n
-unfolding passed passed_count
+unfolding outs_after_relay passed_count
 full_here dims r cap i n outs0 es outs e k head full =
     let is : finds_full dims r cap i outs e ≡ true = eq-eqb _ _ full in
     let zero' : passed_count dims r cap i outs (drop n es) ≡ 0 = ap (passed_count dims r cap i outs) (cut n es e head) ∙ cond-true _ _ _ is in
     record {
-      outs_are = sym (k.to_come ∙ ap (passed dims r cap i outs) (cut n es e head) ∙ cond-true _ _ _ is);
+      outs_are = sym (k.to_come ∙ ap (outs_after_relay dims r cap i outs) (cut n es e head) ∙ cond-true _ _ _ is);
       passes_are = let c = k.counted in omega arith;
     }
 
@@ -101,32 +101,32 @@ hop_end_past dims h i p l b = omega (arith, b, hop_end dims h p l)
 -- how far the links of a hop have had their turns: those below number i
 abbrev pub InTurn : List ℕ → ℕ → ℕ → ℕ → ℕ → List Out → List In → List Out → List In → Type 0
 InTurn dims r cap h i outs0 ins0 outs ins =
-    relayed_hop dims r cap h (record { outs = outs0; ins = ins0 }) ≡ relayed dims r cap (links_before dims h + dim dims h - i) i (record { outs = outs; ins = ins })
+    relayed_hop dims r cap h (record { outs = outs0; ins = ins0 }) ≡ after_relay dims r cap (links_before dims h + dim dims h - i) i (record { outs = outs; ins = ins })
 
 pub in_turn_start : (dims : List ℕ) (r cap h : ℕ) (outs : List Out) (ins : List In) → InTurn dims r cap h (links_before dims h) outs ins outs ins
 in_turn_start dims r cap h outs ins = let e : links_before dims h + dim dims h - links_before dims h ≡ dim dims h = omega arith in
-    ap (λ n. relayed dims r cap n (links_before dims h) (record { outs = outs; ins = ins })) (sym e)
+    ap (λ n. after_relay dims r cap n (links_before dims h) (record { outs = outs; ins = ins })) (sym e)
 
 pub in_turn_more : (dims : List ℕ) (r cap h i : ℕ) (outs0 : List Out) (ins0 : List In) (outs : List Out) (ins : List In) (outs' : List Out) (x x' : In) → InTurn dims r cap h i outs0 ins0 outs ins →
-    i < links_before dims h + dim dims h → i < length ins → x ≡ get_or ins i x → outs' ≡ passed dims r cap i outs x.parcel.untaken → x' ≡ read_on (passed_count dims r cap i outs x.parcel.untaken) x →
+    i < links_before dims h + dim dims h → i < length ins → x ≡ get_or ins i x → outs' ≡ outs_after_relay dims r cap i outs x.parcel.untaken → x' ≡ read_on (passed_count dims r cap i outs x.parcel.untaken) x →
     InTurn dims r cap h (i + 1) outs0 ins0 outs' (set ins i x')
-unfolding passed relayed
+unfolding outs_after_relay after_relay
 in_turn_more dims r cap h i outs0 ins0 outs ins outs' x x' k below inside read po px =
     let most : ℕ = links_before dims h + dim dims h in
     let e : most - i ≡ suc (most - (i + 1)) = omega (arith, below) in
     let one : suc i ≡ i + 1 = omega arith in
     let here : x ≡ get_or ins i no_in = read ∙ get_or_default ins i x no_in inside in
-    let o' : passed dims r cap i outs (get_or ins i no_in).parcel.untaken ≡ outs' = ap (λ (y : In). passed dims r cap i outs y.parcel.untaken) (sym here) ∙ sym po in
+    let o' : outs_after_relay dims r cap i outs (get_or ins i no_in).parcel.untaken ≡ outs' = ap (λ (y : In). outs_after_relay dims r cap i outs y.parcel.untaken) (sym here) ∙ sym po in
     let i' : read_on (passed_count dims r cap i outs (get_or ins i no_in).parcel.untaken) (get_or ins i no_in) ≡ x' =
     ap (λ (y : In). read_on (passed_count dims r cap i outs y.parcel.untaken) y) (sym here) ∙ sym px in
-    k ∙ ap (λ n. relayed dims r cap n i (record { outs = outs; ins = ins })) e
-    ∙ ap (λ os. relayed dims r cap (most - (i + 1)) (suc i) (record { outs = os; ins = set ins i (read_on (passed_count dims r cap i outs (get_or ins i no_in).parcel.untaken) (get_or ins i no_in)) })) o'
-    ∙ ap (λ y. relayed dims r cap (most - (i + 1)) (suc i) (record { outs = outs'; ins = set ins i y })) i'
-    ∙ ap (λ j. relayed dims r cap (most - (i + 1)) j (record { outs = outs'; ins = set ins i x' })) one
+    k ∙ ap (λ n. after_relay dims r cap n i (record { outs = outs; ins = ins })) e
+    ∙ ap (λ os. after_relay dims r cap (most - (i + 1)) (suc i) (record { outs = os; ins = set ins i (read_on (passed_count dims r cap i outs (get_or ins i no_in).parcel.untaken) (get_or ins i no_in)) })) o'
+    ∙ ap (λ y. after_relay dims r cap (most - (i + 1)) (suc i) (record { outs = outs'; ins = set ins i y })) i'
+    ∙ ap (λ j. after_relay dims r cap (most - (i + 1)) j (record { outs = outs'; ins = set ins i x' })) one
 
 pub in_turn_end : (dims : List ℕ) (r cap h i : ℕ) (outs0 : List Out) (ins0 : List In) (outs : List Out) (ins : List In) → InTurn dims r cap h i outs0 ins0 outs ins → links_before dims h + dim dims h ≤ i →
     record { outs = outs; ins = ins } ≡ relayed_hop dims r cap h (record { outs = outs0; ins = ins0 })
-unfolding relayed
+unfolding after_relay
 in_turn_end dims r cap h i outs0 ins0 outs ins k all =
     let e : links_before dims h + dim dims h - i ≡ 0 = omega (arith, all) in
-    sym (k ∙ ap (λ n. relayed dims r cap n i (record { outs = outs; ins = ins })) e)
+    sym (k ∙ ap (λ n. after_relay dims r cap n i (record { outs = outs; ins = ins })) e)

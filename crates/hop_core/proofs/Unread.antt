@@ -11,7 +11,7 @@ use Rattle.route_tensor.specs.Link.{links_before}
 use Rattle.route_tensor.specs.Neighbour.{neighbour, hop_to}
 use Rattle.route_tensor.specs.Tag.{sender_of, IsFair}
 use Rattle.route_tensor.proofs.Links.{before_more}
-use Rattle.hop_core.specs.Link.{In, no_in, is_empty, with_first_taken}
+use Rattle.hop_core.specs.Link.{FindsUnread, In, no_in, is_empty, with_first_taken}
 use Rattle.hop_core.specs.State.{State, in_at, ins_of_hop, lowest, lowest_unread, pull_from, pulled_from}
 use Rattle.hop_core.specs.Standing.{IsState, IsKept, IsIn}
 use Rattle.hop_core.proofs.Going.{head_fair}
@@ -203,3 +203,10 @@ scan_all st ends from count coming xs k e none = record {
   none = λ j p q. ap (λ ys. is_empty (get_or ys j no_in).parcel) (sym e) ∙ none j p (omega (arith, ap length e, k.standing.all_ins, q));
   some = λ p. absurd (omega (arith, p));
 }
+
+-- what the scan finds is the lowest link
+pub found_lowest : (st : State) (ends : List Bool) (from count coming : ℕ) (xs : List In) (r : Option ℕ) → IsKept st ends from count coming → xs ≡ st.ins → FindsUnread from xs r → r ≡ lowest_unread st
+found_lowest st ends from count coming xs (Some r) k e f =
+    let w = f.within r refl in let q : r < sum st.dims = omega (arith, w, ap length e, k.standing.all_ins) in
+    sym (scan_some st ends from count coming r k (scan_of st from r xs k.standing e (f.from_here r refl) (omega (arith, w)) (f.below r refl) (λ _. f.some r refl)) q)
+found_lowest st ends from count coming xs None k e f = sym (scan_none st ends from count coming (sum st.dims) k (scan_all st ends from count coming xs k e (f.none refl)) refl)

@@ -2,7 +2,7 @@
 use Rattle.std.specs.Prelude.{◌≡◌, ℕ, Bool, true, false, ◌==◌, ◌&&◌, ◌||◌, not, ◌<◌, ◌≤◌, List, length, slice_get}
 use Rattle.std.specs.Prelude.{slice_index_or, drop, Option, Some, None, ◌+◌, ◌-◌, ◌∷◌, ◌++◌, []}
 use Rattle.bale_items.specs.declared.item.Entry.{Entry}
-use Rattle.item_buffer.specs.Contents.{Contents, blank, skipped}
+use Rattle.item_buffer.specs.Contents.{Contents, blank, after_skip}
 
 -- A link out: its open parcel, and whether it is closed, that is, its last parcel of this epoch was
 -- sent.
@@ -66,4 +66,4 @@ with_back (Some e) c = record c { untaken = e ∷ c.untaken; back = None; taken 
 -- A link in of which the first n untaken entries were taken, one after the other.
 -- Of an inbox [x, y, z] two leave [z].
 abbrev pub read_on : ℕ → In → In
-read_on n x = record x { parcel = skipped n x.parcel }
+read_on n x = record x { parcel = after_skip n x.parcel }

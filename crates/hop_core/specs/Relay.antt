@@ -108,10 +108,10 @@ with_passed dims r i outs e =
 -- The links out after entries of link in number i were passed on, in order, up to the first that
 -- finds its open parcel full; and how many were. At capacity 1, of [x, y, z] with x for the first
 -- link out, and y and z for the second, x and y are passed on.
-unfoldable pub passed : List ℕ → ℕ → ℕ → ℕ → List Out → List Entry → List Out
-passed dims r cap i outs [] = outs
-passed dims r cap i outs (e ∷ es) =
-    if finds_full dims r cap i outs e then outs else passed dims r cap i (with_passed dims r i outs e) es
+unfoldable pub outs_after_relay : List ℕ → ℕ → ℕ → ℕ → List Out → List Entry → List Out
+outs_after_relay dims r cap i outs [] = outs
+outs_after_relay dims r cap i outs (e ∷ es) =
+    if finds_full dims r cap i outs e then outs else outs_after_relay dims r cap i (with_passed dims r i outs e) es
 
 unfoldable pub passed_count : List ℕ → ℕ → ℕ → ℕ → List Out → List Entry → ℕ
 passed_count dims r cap i outs [] = 0
@@ -126,15 +126,15 @@ pub record Links : Type 0 where
 -- The links after n links in, from number i on and in ascending order, had their entries passed on:
 -- what a lower link passed on stands in an open parcel before what a higher one did, and a link
 -- stops only against what stood there after the lower ones.
-unfoldable pub relayed : List ℕ → ℕ → ℕ → ℕ → ℕ → Links → Links
-relayed dims r cap zero i ls = ls
-relayed dims r cap (suc n) i ls =
+unfoldable pub after_relay : List ℕ → ℕ → ℕ → ℕ → ℕ → Links → Links
+after_relay dims r cap zero i ls = ls
+after_relay dims r cap (suc n) i ls =
     let x = slice_index_or ls.ins i no_in in
-    relayed dims r cap n (suc i) (record {
-      outs = passed dims r cap i ls.outs x.parcel.untaken;
+    after_relay dims r cap n (suc i) (record {
+      outs = outs_after_relay dims r cap i ls.outs x.parcel.untaken;
       ins = slice_set ls.ins i (read_on (passed_count dims r cap i ls.outs x.parcel.untaken) x);
     })
 
 -- What a relay from hop h to the next leaves of them.
 abbrev pub relayed_hop : List ℕ → ℕ → ℕ → ℕ → Links → Links
-relayed_hop dims r cap h ls = relayed dims r cap (dim dims h) (links_before dims h) ls
+relayed_hop dims r cap h ls = after_relay dims r cap (dim dims h) (links_before dims h) ls

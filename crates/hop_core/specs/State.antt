@@ -105,9 +105,9 @@ pulls zero st = st
 pulls (suc n) st = pulled_from (pulls n st) (lowest_unread (pulls n st))
 
 -- What an unpull leaves: the item pulled last is the first one of its inbox again.
-abbrev pub unpulled : State → Option ℕ → State
-unpulled st None = st
-unpulled st (Some i) =
+abbrev pub after_unpull : State → Option ℕ → State
+after_unpull st None = st
+after_unpull st (Some i) =
     record st {
       ins = slice_set st.ins i (record
           (in_at st i) { parcel = with_back (in_at st i).parcel.back (in_at st i).parcel });
@@ -128,8 +128,8 @@ with_pushed item to st =
     }
 
 -- A new epoch: no link closed or ended.
-abbrev pub reopened : Out → Out
-reopened o = record o { closed = false }
+abbrev pub out_in_new_epoch : Out → Out
+out_in_new_epoch o = record o { closed = false }
 
-abbrev pub resumed : In → In
-resumed i = record i { ended = false }
+abbrev pub in_in_new_epoch : In → In
+in_in_new_epoch i = record i { ended = false }

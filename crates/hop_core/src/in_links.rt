@@ -3,7 +3,7 @@
 ghost use Rattle.std.specs.Prelude.{◌≡◌, ℕ, ◌+◌, ◌-◌, ◌^◌, ◌<◌, ◌≤◌, ◌==◌, length, sum, map, replicate, take, drop, slice_get, true, false, Some, None, IsSome, IfOk};
 ghost use Rattle.std.specs.List.{list_all};
 ghost use Rattle.item_buffer.specs.Capacity.{IsCap};
-ghost use Rattle.hop_core.specs.State.{ins_of_hop, resumed};
+ghost use Rattle.hop_core.specs.State.{ins_of_hop, in_in_new_epoch};
 ghost use Rattle.hop_core.specs.Link.{no_in, is_empty, FindsUnread, is_wanted, is_finished, with_first_taken, with_back, read_on};
 
 use bale_items::{Entry, NoMemory};
@@ -209,7 +209,7 @@ pub fn links_in<const CAP: usize>(alloc: Global, count: u32) -> Result<Vec<InLin
 
 /// A new epoch begins on every link.
 pub fn resume_all<const CAP: usize>(links: &mut Vec<InLink<CAP>>)
-    ensures { links.new.items ≡ map resumed links.old.items }
+    ensures { links.new.items ≡ map in_in_new_epoch links.old.items }
 {
     let all = links.as_mut_slice();
     for i in 0..all.len() {

@@ -1,7 +1,7 @@
 //! One link out of a rank: the parcel that is being filled for it.
 
 ghost use Rattle.std.specs.Prelude.{◌≡◌, ◌<◌, ◌&&◌, length, map, true, false, IfOk};
-ghost use Rattle.hop_core.specs.State.{reopened};
+ghost use Rattle.hop_core.specs.State.{out_in_new_epoch};
 ghost use Rattle.std.specs.Prelude.{replicate};
 ghost use Rattle.item_buffer.specs.Capacity.{IsCap};
 ghost use Rattle.hop_core.specs.Link.{no_out, is_due, with_entry};
@@ -105,7 +105,7 @@ pub fn links_out<const CAP: usize>(alloc: Global, count: u32) -> Result<Vec<OutL
 
 /// A new epoch begins on every link.
 pub fn reopen_all<const CAP: usize>(links: &mut Vec<OutLink<CAP>>)
-    ensures { links.new.items ≡ map reopened links.old.items }
+    ensures { links.new.items ≡ map out_in_new_epoch links.old.items }
 {
     let all = links.as_mut_slice();
     for i in 0..all.len() {

@@ -1,7 +1,7 @@
 //! The epoch's course: it begins, is done, comes to its end, and makes room for the next.
 
 ghost use Rattle.std.specs.Prelude.{◌≡◌, ◌≢◌, ◌+◌, ◌-◌, ◌^◌, ◌<◌, map, true, false, None};
-ghost use Rattle.hop_core.specs.State.{phase_of, reopened, resumed};
+ghost use Rattle.hop_core.specs.State.{phase_of, out_in_new_epoch, in_in_new_epoch};
 
 use crate::in_links::{hop_finished, resume_all};
 use crate::out_links::reopen_all;
@@ -78,8 +78,8 @@ impl<const CAP: usize, const HOPS: usize> RankState<CAP, HOPS> {
         requires complete { self.old.phase ≡ Phase.Complete }
         requires epochs { self.old.epoch < 2 ^ 63 }
         ensures { self.new ≡ record self.old {
-          outs = map reopened self.old.outs;
-          ins = map resumed self.old.ins;
+          outs = map out_in_new_epoch self.old.outs;
+          ins = map in_in_new_epoch self.old.ins;
           done = false;
           phase = Phase.Dormant;
           epoch = self.old.epoch + 1;

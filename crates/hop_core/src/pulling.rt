@@ -4,7 +4,7 @@ ghost use Rattle.std.specs.Prelude.{◌≡◌, ◌≢◌, ℕ, ◌+◌, ◌-◌,
 ghost use Rattle.std.specs.List.{All};
 ghost use Rattle.route_tensor.specs.Neighbour.{hop_to, neighbour};
 ghost use Rattle.route_tensor.specs.Tag.{IsFair, sender_of};
-ghost use Rattle.hop_core.specs.State.{in_at, lowest_unread, pull_from, pulled_from, pulls, unpulled};
+ghost use Rattle.hop_core.specs.State.{in_at, lowest_unread, pull_from, pulled_from, pulls, after_unpull};
 ghost use Rattle.hop_core.specs.Relay.{held, AddsToHop, TakesFromHop, IsStopped, waiting, relayed_hop};
 ghost use Rattle.route_tensor.specs.Pair.{PassesThrough};
 ghost use Rattle.hop_core.specs.declared.phase.Phase.{Phase};
@@ -85,6 +85,15 @@ impl<const CAP: usize, const HOPS: usize> RankState<CAP, HOPS> {
         }
     }
 
+    /// The link in from which the next pull takes, as `unread` tells, for one who only looks.
+    #[inline]
+    pub fn next_unread(&self) -> Option<u32>
+        requires begun { self.now.phase ≢ Phase.Dormant }
+        ensures { result ≡ lowest_unread self.now }
+    {
+        first_unread(&self.ins, self.from)
+    }
+
     /// The unread entries of the link in from which the next pull takes, in order: so many pulls
     /// give their items.
     #[inline]
@@ -126,7 +135,7 @@ impl<const CAP: usize, const HOPS: usize> RankState<CAP, HOPS> {
     /// Puts the item back that the latest call pulled, if that call was a pull that gave one.
     pub fn unpull(&mut self) -> bool
         ensures value { result ≡ is_some self.old.pulled }
-        ensures state { self.new ≡ unpulled self.old self.old.pulled }
+        ensures state { self.new ≡ after_unpull self.old self.old.pulled }
     {
         match self.pulled {
             Some(number) => {

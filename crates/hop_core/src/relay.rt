@@ -6,7 +6,7 @@ ghost use Rattle.list_laws.specs.Lists.{EachAt};
 ghost use Rattle.route_tensor.specs.Neighbour.{hop_to};
 ghost use Rattle.hop_core.specs.Link.{no_out, no_in, is_finished, read_on};
 ghost use Rattle.hop_core.specs.Standing.{IsOut, IsIn};
-ghost use Rattle.hop_core.specs.Relay.{MayPassOn, PassesOn, held_by, AddsToHop, TakesFromHop, IsStopped, waiting, passed, passed_count, relayed_hop};
+ghost use Rattle.hop_core.specs.Relay.{MayPassOn, PassesOn, held_by, AddsToHop, TakesFromHop, IsStopped, waiting, outs_after_relay, passed_count, relayed_hop};
 ghost use Rattle.route_tensor.specs.Pair.{PassesThrough};
 ghost use Rattle.hop_core.specs.State.{ins_of_hop};
 ghost use Rattle.std.specs.List.{list_all};
@@ -37,7 +37,7 @@ pub fn relay_link<const CAP: usize>(
     ensures count { result + length link.new.parcel.untaken ≡ length link.old.parcel.untaken }
     ensures ended { link.new.ended ≡ link.old.ended }
     ensures stopped { IsStopped routes.now.dims CAP (hop_to routes.now.dims i) outs.new.items link.new }
-    ensures outs { outs.new.items ≡ passed routes.now.dims routes.now.rank CAP i outs.old.items
+    ensures outs { outs.new.items ≡ outs_after_relay routes.now.dims routes.now.rank CAP i outs.old.items
         link.old.parcel.untaken }
     ensures ins { link.new ≡ read_on (passed_count routes.now.dims routes.now.rank CAP i outs.old.items
         link.old.parcel.untaken) link.old }
@@ -68,7 +68,7 @@ fn pass_on<const CAP: usize>(
     ensures within { result ≤ length link.now.parcel.untaken }
     ensures stopped { IsStopped routes.now.dims CAP (hop_to routes.now.dims i) outs.new.items
         (read_on result link.now) }
-    ensures outs { outs.new.items ≡ passed routes.now.dims routes.now.rank CAP i outs.old.items
+    ensures outs { outs.new.items ≡ outs_after_relay routes.now.dims routes.now.rank CAP i outs.old.items
         link.now.parcel.untaken }
     ensures passes { result ≡ passed_count routes.now.dims routes.now.rank CAP i outs.old.items
         link.now.parcel.untaken }

@@ -26,12 +26,12 @@ pub record Shipped : Type 0 where
   pub epoch : ℕ
 
 -- What a log keeps of a parcel that is sent now: the entries left in it, and its marks.
-abbrev pub shipped : Contents → Shipped
-shipped c = record { entries = c.untaken; last = c.last; epoch = c.epoch }
+abbrev pub as_shipped : Contents → Shipped
+as_shipped c = record { entries = c.untaken; last = c.last; epoch = c.epoch }
 
--- A parcel as it arrives, with nothing taken: `shipped (arrived s)` is `s`.
-abbrev pub arrived : Shipped → Contents
-arrived s = record { untaken = s.entries; last = s.last; epoch = s.epoch; back = None; taken = 0 }
+-- A parcel as it arrives, with nothing taken: `as_shipped (as_arrived s)` is `s`.
+abbrev pub as_arrived : Shipped → Contents
+as_arrived s = record { untaken = s.entries; last = s.last; epoch = s.epoch; back = None; taken = 0 }
 
 -- The empty fresh parcel of an epoch, not marked last.
 abbrev pub blank : ℕ → Contents
@@ -39,8 +39,8 @@ blank epoch = record { untaken = []; last = false; epoch = epoch; back = None; t
 
 -- A parcel after its first n untaken entries were taken, one after the other.
 -- Of [x, y, z] two leave [z], and y to be put back; none leaves the parcel as it was.
-abbrev pub skipped : ℕ → Contents → Contents
-skipped n c = record c {
+abbrev pub after_skip : ℕ → Contents → Contents
+after_skip n c = record c {
   untaken = drop n c.untaken;
   back = (if n == 0 then c.back else slice_get c.untaken (n - 1));
   taken = c.taken + n;

@@ -1,7 +1,7 @@
 //! The parcel, for whoever fills, carries or empties one: ports, inboxes and open parcels.
 ghost use Rattle.std.specs.Prelude.{◌≡◌, ◌+◌, ◌-◌, ◌<◌, ◌≤◌, ◌==◌, [], ◌∷◌, ◌++◌, length, slice_get, IsSome, IfSome, IfNone, OnSome, IfOk, true, false};
 ghost use Rattle.item_buffer.specs.Capacity.{IsCap};
-ghost use Rattle.item_buffer.specs.Contents.{Contents, blank, skipped};
+ghost use Rattle.item_buffer.specs.Contents.{Contents, blank, after_skip};
 
 use arrayvec::ArrayVec;
 use bale_items::{Entry, NoMemory};
@@ -139,7 +139,7 @@ impl<const CAP: usize> Parcel<CAP> {
     #[inline]
     pub fn skip(&mut self, count: usize)
         requires { count ≤ length self.old.untaken }
-        ensures { self.new ≡ skipped count self.old }
+        ensures { self.new ≡ after_skip count self.old }
     {
         if count > 0 {
             self.taken += count as u16;

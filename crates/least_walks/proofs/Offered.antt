@@ -10,8 +10,8 @@ use Rattle.list_laws.proofs.Lists.{changed_len, changed_past}
 use Rattle.least_walks.specs.declared.table.Edge.{Edge}
 use Rattle.least_walks.specs.declared.vertices.Vertex.{Vertex}
 use Rattle.least_walks.specs.Walks.{AtMost}
-use Rattle.least_walks.specs.Tables.{offer, offers_from, offers_at, offers}
-use Rattle.least_walks.specs.Vertices.{unreached, improve, improved_at, marked_from, calm}
+use Rattle.least_walks.specs.Tables.{offer, offers_from, offers_at, offers_by_place}
+use Rattle.least_walks.specs.Vertices.{unreached_vertex, improve, improved_at, marked_from, calm}
 use Rattle.least_walks.proofs.Members.{has_head, has_tail, has_cases, none_in, has_mapped, was_mapped, has_joined, was_joined}
 
 -- ---- One weight
@@ -39,32 +39,32 @@ pub improve_cases : (w : ℕ) (v : Vertex) → ((improve w v ≡ v) × AtMost v.
 improve_cases w v = improve_from w v.weight v.improved
 
 -- one place after one weight came to a place
-step_cases : (p q w : ℕ) (vs : List Vertex) → (get_or (improved_at q w vs) p unreached ≡ get_or vs p unreached)
-    ⊎ ((q ≡ p) × (get_or (improved_at q w vs) p unreached ≡ weighing w) × ¬ AtMost (get_or vs p unreached).weight w)
+step_cases : (p q w : ℕ) (vs : List Vertex) → (get_or (improved_at q w vs) p unreached_vertex ≡ get_or vs p unreached_vertex)
+    ⊎ ((q ≡ p) × (get_or (improved_at q w vs) p unreached_vertex ≡ weighing w) × ¬ AtMost (get_or vs p unreached_vertex).weight w)
 step_cases p q w vs =
     elim (cases_eq q p) [
-      | inr other ↦ inl (get_or-set_other vs q p (improve w (get_or vs q unreached)) unreached (λ e. other (sym e)))
+      | inr other ↦ inl (get_or-set_other vs q p (improve w (get_or vs q unreached_vertex)) unreached_vertex (λ e. other (sym e)))
       | inl same ↦ elim (cases_lt q (length vs)) [
-        | inr past ↦ inl (ap (λ ws. get_or ws p unreached) (changed_past vs q unreached (improve w) past))
+        | inr past ↦ inl (ap (λ ws. get_or ws p unreached_vertex) (changed_past vs q unreached_vertex (improve w) past))
         | inl low ↦
-            let here : get_or (improved_at q w vs) q unreached ≡ improve w (get_or vs q unreached) = get_or-set_same vs q (improve w (get_or vs q unreached)) unreached low in
-            let at : get_or (improved_at q w vs) p unreached ≡ improve w (get_or vs p unreached) = subst (λ k. get_or (improved_at q w vs) k unreached ≡ improve w (get_or vs k unreached)) same here in
-            elim (improve_cases w (get_or vs p unreached)) [
+            let here : get_or (improved_at q w vs) q unreached_vertex ≡ improve w (get_or vs q unreached_vertex) = get_or-set_same vs q (improve w (get_or vs q unreached_vertex)) unreached_vertex low in
+            let at : get_or (improved_at q w vs) p unreached_vertex ≡ improve w (get_or vs p unreached_vertex) = subst (λ k. get_or (improved_at q w vs) k unreached_vertex ≡ improve w (get_or vs k unreached_vertex)) same here in
+            elim (improve_cases w (get_or vs p unreached_vertex)) [
               | inl stays ↦ inl (at ∙ stays.0)
               | inr new' ↦ inr (same, at ∙ new'.0, new'.1)
             ]
       ]
     ]
 
-step_done : (p w : ℕ) (vs : List Vertex) → p < length vs → AtMost (get_or (improved_at p w vs) p unreached).weight w
+step_done : (p w : ℕ) (vs : List Vertex) → p < length vs → AtMost (get_or (improved_at p w vs) p unreached_vertex).weight w
 step_done p w vs low =
-    let here : get_or (improved_at p w vs) p unreached ≡ improve w (get_or vs p unreached) = get_or-set_same vs p (improve w (get_or vs p unreached)) unreached low in
-    elim (improve_cases w (get_or vs p unreached)) [
+    let here : get_or (improved_at p w vs) p unreached_vertex ≡ improve w (get_or vs p unreached_vertex) = get_or-set_same vs p (improve w (get_or vs p unreached_vertex)) unreached_vertex low in
+    elim (improve_cases w (get_or vs p unreached_vertex)) [
       | inl stays ↦ subst (λ (v : Vertex). AtMost v.weight w) (sym (here ∙ stays.0)) stays.1
       | inr new' ↦ subst (λ (v : Vertex). AtMost v.weight w) (sym (here ∙ new'.0)) (w, refl, (let l : w ≤ w = omega arith in l))
     ]
 
-step_falls : (p q w n : ℕ) (vs : List Vertex) → AtMost (get_or vs p unreached).weight n → AtMost (get_or (improved_at q w vs) p unreached).weight n
+step_falls : (p q w n : ℕ) (vs : List Vertex) → AtMost (get_or vs p unreached_vertex).weight n → AtMost (get_or (improved_at q w vs) p unreached_vertex).weight n
 step_falls p q w n vs h =
     elim (step_cases p q w vs) [
       | inl same ↦ subst (λ (v : Vertex). AtMost v.weight n) (sym same) h
@@ -82,23 +82,23 @@ taken ranks vs items = fold (λ ws x. improved_at (x.a / ranks) x.b ws) vs items
 
 pub taken_len : (ranks : ℕ) (vs : List Vertex) (items : List Item) → length (taken ranks vs items) ≡ length vs
 taken_len ranks vs [] = refl
-taken_len ranks vs (x ∷ xs) = taken_len ranks (improved_at (x.a / ranks) x.b vs) xs ∙ changed_len vs (x.a / ranks) unreached (improve x.b)
+taken_len ranks vs (x ∷ xs) = taken_len ranks (improved_at (x.a / ranks) x.b vs) xs ∙ changed_len vs (x.a / ranks) unreached_vertex (improve x.b)
 
-taken_falls : (ranks p n : ℕ) (vs : List Vertex) (items : List Item) → AtMost (get_or vs p unreached).weight n → AtMost (get_or (taken ranks vs items) p unreached).weight n
+taken_falls : (ranks p n : ℕ) (vs : List Vertex) (items : List Item) → AtMost (get_or vs p unreached_vertex).weight n → AtMost (get_or (taken ranks vs items) p unreached_vertex).weight n
 taken_falls ranks p n vs [] h = h
 taken_falls ranks p n vs (x ∷ xs) h = taken_falls ranks p n (improved_at (x.a / ranks) x.b vs) xs (step_falls p (x.a / ranks) x.b n vs h)
 
 -- each item was tried
-pub taken_done : (ranks p : ℕ) (vs : List Vertex) (items : List Item) (x : Item) → p < length vs → Contains items x → x.a / ranks ≡ p → AtMost (get_or (taken ranks vs items) p unreached).weight x.b
+pub taken_done : (ranks p : ℕ) (vs : List Vertex) (items : List Item) (x : Item) → p < length vs → Contains items x → x.a / ranks ≡ p → AtMost (get_or (taken ranks vs items) p unreached_vertex).weight x.b
 taken_done ranks p vs [] x low h e = absurd (none_in x h)
 taken_done ranks p vs (y ∷ ys) x low h e =
-    let len : length (improved_at (y.a / ranks) y.b vs) ≡ length vs = changed_len vs (y.a / ranks) unreached (improve y.b) in
+    let len : length (improved_at (y.a / ranks) y.b vs) ≡ length vs = changed_len vs (y.a / ranks) unreached_vertex (improve y.b) in
     elim (has_cases y x ys h) [
       | inl same ↦
           let place : y.a / ranks ≡ p = ap (λ (z : Item). z.a / ranks) same ∙ e in
           taken_falls ranks p x.b (improved_at (y.a / ranks) y.b vs) ys
-          (subst (λ n. AtMost (get_or (improved_at (y.a / ranks) y.b vs) p unreached).weight n) (ap (λ (z : Item). z.b) same)
-          (subst (λ q. AtMost (get_or (improved_at q y.b vs) p unreached).weight y.b) (sym place) (step_done p y.b vs low)))
+          (subst (λ n. AtMost (get_or (improved_at (y.a / ranks) y.b vs) p unreached_vertex).weight n) (ap (λ (z : Item). z.b) same)
+          (subst (λ q. AtMost (get_or (improved_at q y.b vs) p unreached_vertex).weight y.b) (sym place) (step_done p y.b vs low)))
       | inr later ↦ taken_done ranks p (improved_at (y.a / ranks) y.b vs) ys x (subst (λ n. p < n) (sym len) low) later e
     ]
 
@@ -112,7 +112,7 @@ pub record Took (ranks p : ℕ) (before after : Vertex) (items : List Item) : Ty
 
 -- a place is as before, or took one of the items
 pub taken_cases : (ranks p : ℕ) (vs : List Vertex) (items : List Item)
-    → (get_or (taken ranks vs items) p unreached ≡ get_or vs p unreached) ⊎ Took ranks p (get_or vs p unreached) (get_or (taken ranks vs items) p unreached) items
+    → (get_or (taken ranks vs items) p unreached_vertex ≡ get_or vs p unreached_vertex) ⊎ Took ranks p (get_or vs p unreached_vertex) (get_or (taken ranks vs items) p unreached_vertex) items
 taken_cases ranks p vs [] = inl refl
 taken_cases ranks p vs (x ∷ xs) =
     let ws : List Vertex = improved_at (x.a / ranks) x.b vs in
@@ -148,21 +148,21 @@ pub record Offering (table : List (List Edge)) (vs : List Vertex) (places : List
   pub edge : Edge
   pub kept : Contains (get_or table place []) edge
   pub weight : ℕ
-  pub found : (get_or vs place unreached).weight ≡ Some weight
+  pub found : (get_or vs place unreached_vertex).weight ≡ Some weight
   pub is : offer weight edge ≡ o
 
-pub has_offer : (table : List (List Edge)) (vs : List Vertex) (places : List ℕ) (o : ℕ × Item) → Offering table vs places o → Contains (offers table vs places) o
+pub has_offer : (table : List (List Edge)) (vs : List Vertex) (places : List ℕ) (o : ℕ × Item) → Offering table vs places o → Contains (offers_by_place table vs places) o
 has_offer table vs places o h =
     has_joined (offers_at table vs) places h.place o h.listed
     (subst (λ w. Contains (offers_from w (get_or table h.place [])) o) (sym h.found)
     (subst (Contains (map (offer h.weight) (get_or table h.place []))) h.is (has_mapped (offer h.weight) (get_or table h.place []) h.edge h.kept)))
 
-pub was_offered : (table : List (List Edge)) (vs : List Vertex) (places : List ℕ) (o : ℕ × Item) → Contains (offers table vs places) o → Offering table vs places o
+pub was_offered : (table : List (List Edge)) (vs : List Vertex) (places : List ℕ) (o : ℕ × Item) → Contains (offers_by_place table vs places) o → Offering table vs places o
 was_offered table vs places o h =
     let p = was_joined (offers_at table vs) places o h in
-    from_weight p.0 p.1 (get_or vs p.0 unreached).weight refl p.2
+    from_weight p.0 p.1 (get_or vs p.0 unreached_vertex).weight refl p.2
   where
-    from_weight : (p : ℕ) → Contains places p → (w : Option ℕ) → (get_or vs p unreached).weight ≡ w → Contains (offers_from w (get_or table p [])) o → Offering table vs places o
+    from_weight : (p : ℕ) → Contains places p → (w : Option ℕ) → (get_or vs p unreached_vertex).weight ≡ w → Contains (offers_from w (get_or table p [])) o → Offering table vs places o
     from_weight p listed None e h = absurd (none_in o h)
     from_weight p listed (Some m) e h =
         let x = was_mapped (offer m) (get_or table p []) o h in
@@ -170,7 +170,7 @@ was_offered table vs places o h =
 
 -- ---- The marked places
 
-pub has_mark : (k : ℕ) (vs : List Vertex) (p : ℕ) → (get_or vs p unreached).improved ≡ true → Contains (marked_from k vs) (k + p)
+pub has_mark : (k : ℕ) (vs : List Vertex) (p : ℕ) → (get_or vs p unreached_vertex).improved ≡ true → Contains (marked_from k vs) (k + p)
 has_mark k [] p h = absurd (let e : false ≡ true = h in cc)
 has_mark k (v ∷ vs) zero h =
     let z : k + 0 ≡ k = omega arith in
@@ -183,7 +183,7 @@ has_mark k (v ∷ vs) (suc p) h =
       | inr f ↦ subst (λ b. Contains (cond b (k ∷ marked_from (suc k) vs) (marked_from (suc k) vs)) (k + suc p)) (sym f) rest
     ]
 
-pub was_marked : (k : ℕ) (vs : List Vertex) (q : ℕ) → Contains (marked_from k vs) q → (p : ℕ) × (q ≡ k + p) × (p < length vs) × ((get_or vs p unreached).improved ≡ true)
+pub was_marked : (k : ℕ) (vs : List Vertex) (q : ℕ) → Contains (marked_from k vs) q → (p : ℕ) × (q ≡ k + p) × (p < length vs) × ((get_or vs p unreached_vertex).improved ≡ true)
 was_marked k [] q h = absurd (none_in q h)
 was_marked k (v ∷ vs) q h =
     elim (cases_Bool v.improved) [
@@ -194,23 +194,23 @@ was_marked k (v ∷ vs) q h =
       | inr f ↦ shifted (was_marked (suc k) vs q (subst (λ b. Contains (cond b (k ∷ marked_from (suc k) vs) (marked_from (suc k) vs)) q) f h))
     ]
   where
-    shifted : ((p : ℕ) × (q ≡ suc k + p) × (p < length vs) × ((get_or vs p unreached).improved ≡ true)) → (p : ℕ) × (q ≡ k + p) × (p < length (v ∷ vs)) × ((get_or (v ∷ vs) p unreached).improved ≡ true)
+    shifted : ((p : ℕ) × (q ≡ suc k + p) × (p < length vs) × ((get_or vs p unreached_vertex).improved ≡ true)) → (p : ℕ) × (q ≡ k + p) × (p < length (v ∷ vs)) × ((get_or (v ∷ vs) p unreached_vertex).improved ≡ true)
     shifted w = (suc w.0, (let e : q ≡ suc k + w.0 = w.1 in omega arith), (let l : w.0 < length vs = w.2 in omega arith), w.3)
 
 -- no vertex is marked exactly where none is improved
-pub none_improved : (k : ℕ) (vs : List Vertex) → length (marked_from k vs) ≡ 0 → (p : ℕ) → (get_or vs p unreached).improved ≡ false
+pub none_improved : (k : ℕ) (vs : List Vertex) → length (marked_from k vs) ≡ 0 → (p : ℕ) → (get_or vs p unreached_vertex).improved ≡ false
 none_improved k vs e p =
-    elim (cases_Bool (get_or vs p unreached).improved) [
+    elim (cases_Bool (get_or vs p unreached_vertex).improved) [
       | inl t ↦ (let h = has_mark k vs p t in absurd (let l : h.0 < length (marked_from k vs) = h.1 in omega arith))
       | inr f ↦ f
     ]
 
-pub none_counted : (k : ℕ) (vs : List Vertex) → ((p : ℕ) → (get_or vs p unreached).improved ≡ false) → length (marked_from k vs) ≡ 0
+pub none_counted : (k : ℕ) (vs : List Vertex) → ((p : ℕ) → (get_or vs p unreached_vertex).improved ≡ false) → length (marked_from k vs) ≡ 0
 none_counted k [] h = refl
 none_counted k (v ∷ vs) h =
     ap (λ b. length (cond b (k ∷ marked_from (suc k) vs) (marked_from (suc k) vs))) (h 0) ∙ none_counted (suc k) vs (λ p. h (suc p))
 
-pub calm_at : (vs : List Vertex) (p : ℕ) → get_or (map calm vs) p unreached ≡ calm (get_or vs p unreached)
+pub calm_at : (vs : List Vertex) (p : ℕ) → get_or (map calm vs) p unreached_vertex ≡ calm (get_or vs p unreached_vertex)
 calm_at [] p = refl
 calm_at (v ∷ vs) zero = refl
 calm_at (v ∷ vs) (suc p) = calm_at vs p

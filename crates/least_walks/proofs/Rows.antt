@@ -10,7 +10,7 @@ use Rattle.bale_items.specs.declared.triple.Triple.{Triple}
 use Rattle.list_laws.specs.Lists.{changed_at}
 use Rattle.list_laws.proofs.Lists.{find, within, get_once, get_here, get_other, set_len, same_reads}
 use Rattle.least_walks.specs.declared.table.Edge.{Edge}
-use Rattle.least_walks.specs.Tables.{edge_of, in_range, is_kept, edges_at, table_of, kept}
+use Rattle.least_walks.specs.Tables.{edge_of, in_range, is_kept, edges_at, table_of, table_with_edge}
 
 -- each place of a list that is made from the places
 pub made_place : {S : Type 0} (f : ℕ → S) (n p : ℕ) → p < n → slice_get (map f (range_with_len 0 n)) p ≡ Some (f p)
@@ -43,7 +43,7 @@ always false = refl
 
 -- one place after one more entry
 kept_at : (ranks places low high : ℕ) (ts : List Triple) (t : Triple) (p : ℕ) → p < places
-    → slice_get (kept ranks low high t (table_of ranks places low high ts)) p ≡ Some (edges_at ranks low high ts p ++ cond (is_kept ranks low high p t) (edge_of ranks t ∷ []) [])
+    → slice_get (table_with_edge ranks low high t (table_of ranks places low high ts)) p ≡ Some (edges_at ranks low high ts p ++ cond (is_kept ranks low high p t) (edge_of ranks t ∷ []) [])
 kept_at ranks places low high ts t p low_p =
     let rows : List (List Edge) = table_of ranks places low high ts in
     let there : slice_get rows p ≡ Some (edges_at ranks low high ts p) = made_place (edges_at ranks low high ts) places p low_p in
@@ -70,7 +70,7 @@ kept_at ranks places low high ts t p low_p =
           ])
     ]
 
-kept_len : (ranks low high : ℕ) (t : Triple) (rows : List (List Edge)) → length (kept ranks low high t rows) ≡ length rows
+kept_len : (ranks low high : ℕ) (t : Triple) (rows : List (List Edge)) → length (table_with_edge ranks low high t rows) ≡ length rows
 kept_len ranks low high t rows = either (in_range low high t)
   where
     either : (b : Bool) → length (cond b (changed_at rows (t.i / ranks) [] (λ es. es ++ edge_of ranks t ∷ [])) rows) ≡ length rows
@@ -78,20 +78,20 @@ kept_len ranks low high t rows = either (in_range low high t)
     either false = refl
 
 pub table_one : (ranks places low high : ℕ) (ts : List Triple) (t : Triple)
-    → kept ranks low high t (table_of ranks places low high ts) ≡ table_of ranks places low high (ts ++ t ∷ [])
+    → table_with_edge ranks low high t (table_of ranks places low high ts) ≡ table_of ranks places low high (ts ++ t ∷ [])
 table_one ranks places low high ts t =
     let old : List (List Edge) = table_of ranks places low high ts in
-    let size : length (kept ranks low high t old) ≡ places = kept_len ranks low high t old ∙ length-map-range_with_len (edges_at ranks low high ts) 0 places in
-    same_reads (kept ranks low high t old) (table_of ranks places low high (ts ++ t ∷ [])) (size ∙ sym (length-map-range_with_len (edges_at ranks low high (ts ++ t ∷ [])) 0 places)) (λ p x at.
-    let low_p : p < places = subst (λ n. p < n) size (within (kept ranks low high t old) p x at) in
+    let size : length (table_with_edge ranks low high t old) ≡ places = kept_len ranks low high t old ∙ length-map-range_with_len (edges_at ranks low high ts) 0 places in
+    same_reads (table_with_edge ranks low high t old) (table_of ranks places low high (ts ++ t ∷ [])) (size ∙ sym (length-map-range_with_len (edges_at ranks low high (ts ++ t ∷ [])) 0 places)) (λ p x at.
+    let low_p : p < places = subst (λ n. p < n) size (within (table_with_edge ranks low high t old) p x at) in
     made_place (edges_at ranks low high (ts ++ t ∷ [])) places p low_p
     ∙ ap Some (edges_push ranks low high ts t p)
-    ∙ ap Some (get_once (kept ranks low high t old) p _ x (kept_at ranks places low high ts t p low_p) at))
+    ∙ ap Some (get_once (table_with_edge ranks low high t old) p _ x (kept_at ranks places low high ts t p low_p) at))
 
 pub table_more : (ranks places low high : ℕ) (ts : List Triple) (k : ℕ) (d : Triple) (old new : List (List Edge)) → k < length ts
-    → old ≡ table_of ranks places low high (take k ts) → new ≡ kept ranks low high (get_or ts k d) old → new ≡ table_of ranks places low high (take (k + 1) ts)
+    → old ≡ table_of ranks places low high (take k ts) → new ≡ table_with_edge ranks low high (get_or ts k d) old → new ≡ table_of ranks places low high (take (k + 1) ts)
 table_more ranks places low high ts k d old new inside so_far one =
-    one ∙ ap (kept ranks low high (get_or ts k d)) so_far ∙ table_one ranks places low high (take k ts) (get_or ts k d)
+    one ∙ ap (table_with_edge ranks low high (get_or ts k d)) so_far ∙ table_one ranks places low high (take k ts) (get_or ts k d)
     ∙ ap (table_of ranks places low high) (sym (take_more ts k d inside))
 
 pub table_none : (ranks places low high : ℕ) → table_of ranks places low high [] ≡ replicate places []

@@ -1,16 +1,16 @@
 -- The lines of more vertices go on from those of fewer.
 use Rattle.std.proofs.Common.{◌≡◌, ℕ, zero, suc, ◌+◌, ◌<◌, ◌≤◌, ◌-◌, ◌∙◌, ◌++◌, List, [], sym, ap, subst, arith, append_assoc, append-nil, add-one, Option}
-use Rattle.bale_types.specs.Stream.{after, IsFront}
+use Rattle.bale_types.specs.Stream.{taken_with, IsTakenPrefix}
 use Rattle.bale_types.proofs.Moves.{after-after}
 use Rattle.least_walks.specs.Lines.{vertex_line, sssp_lines}
 
 -- one line more
 pub lines_more : (weights : ℕ → Option ℕ) (v : ℕ) (found : Option ℕ) → found ≡ weights v → (old : Option (List ℕ))
-    → after (after old (sssp_lines weights v)) (vertex_line v found) ≡ after old (sssp_lines weights (v + 1))
+    → taken_with (taken_with old (sssp_lines weights v)) (vertex_line v found) ≡ taken_with old (sssp_lines weights (v + 1))
 lines_more weights v found same old =
     after-after old (sssp_lines weights v) (vertex_line v found)
-    ∙ ap (λ (w : Option ℕ). after old (sssp_lines weights v ++ vertex_line v w)) same
-    ∙ ap (λ (k : ℕ). after old (sssp_lines weights k)) (sym (add-one v))
+    ∙ ap (λ (w : Option ℕ). taken_with old (sssp_lines weights v ++ vertex_line v w)) same
+    ∙ ap (λ (k : ℕ). taken_with old (sssp_lines weights k)) (sym (add-one v))
 
 -- what is left of the lines of all vertices behind those of v
 rest_lines : (ℕ → Option ℕ) → (v more : ℕ) → List ℕ
@@ -28,22 +28,22 @@ lines_split weights v (suc more) =
     ∙ (ap (λ (front : List ℕ). front ++ vertex_line (v + more) (weights (v + more))) (lines_split weights v more)
     ∙ append_assoc (sssp_lines weights v) (rest_lines weights v more) _)
 
--- a front of the first lines is a front of all lines
+-- a prefix of the first lines is a prefix of all lines
 front_of_lines : (weights : ℕ → Option ℕ) (v rows : ℕ) → v ≤ rows → (taken old : Option (List ℕ))
-    → IsFront taken (after old (sssp_lines weights v)) → IsFront taken (after old (sssp_lines weights rows))
+    → IsTakenPrefix taken (taken_with old (sssp_lines weights v)) → IsTakenPrefix taken (taken_with old (sssp_lines weights rows))
 front_of_lines weights v rows below taken old front =
     let total : v + (rows - v) ≡ rows = omega arith in
     record {
       rest = front.rest ++ rest_lines weights v (rows - v);
       whole = sym (after-after taken front.rest (rest_lines weights v (rows - v)))
-          ∙ ap (λ (t : Option (List ℕ)). after t (rest_lines weights v (rows - v))) front.whole
+          ∙ ap (λ (t : Option (List ℕ)). taken_with t (rest_lines weights v (rows - v))) front.whole
           ∙ after-after old (sssp_lines weights v) (rest_lines weights v (rows - v))
-          ∙ ap (after old) (sym (lines_split weights v (rows - v)) ∙ ap (sssp_lines weights) total);
+          ∙ ap (taken_with old) (sym (lines_split weights v (rows - v)) ∙ ap (sssp_lines weights) total);
     }
 
 -- the line that failed
 pub front_at_line : (weights : ℕ → Option ℕ) (v rows : ℕ) (found : Option ℕ) → v < rows → found ≡ weights v → (taken sofar old : Option (List ℕ))
-    → sofar ≡ after old (sssp_lines weights v) → IsFront taken (after sofar (vertex_line v found)) → IsFront taken (after old (sssp_lines weights rows))
+    → sofar ≡ taken_with old (sssp_lines weights v) → IsTakenPrefix taken (taken_with sofar (vertex_line v found)) → IsTakenPrefix taken (taken_with old (sssp_lines weights rows))
 front_at_line weights v rows found below same taken sofar old here front =
     front_of_lines weights (v + 1) rows (omega arith) taken old
-    (subst (λ (t : Option (List ℕ)). IsFront taken t) (ap (λ (t : Option (List ℕ)). after t (vertex_line v found)) here ∙ lines_more weights v found same old) front)
+    (subst (λ (t : Option (List ℕ)). IsTakenPrefix taken t) (ap (λ (t : Option (List ℕ)). taken_with t (vertex_line v found)) here ∙ lines_more weights v found same old) front)

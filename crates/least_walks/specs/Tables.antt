@@ -8,7 +8,7 @@ use Rattle.bale_items.specs.Bits.{twos_complement}
 use Rattle.list_laws.specs.Lists.{changed_at}
 use Rattle.least_walks.specs.declared.table.Edge.{Edge}
 use Rattle.least_walks.specs.declared.vertices.Vertex.{Vertex}
-use Rattle.least_walks.specs.Vertices.{unreached}
+use Rattle.least_walks.specs.Vertices.{unreached_vertex}
 
 -- The edge of an entry, as its row's owner keeps it: column j belongs to rank j mod ranks.
 -- edge_of 2 (4,3,7) = to vertex 3, which rank 1 owns, with weight 7
@@ -42,13 +42,13 @@ offers_from (Some m) es = map (offer m) es
 
 -- What the vertex at place p offers along its edges.
 abbrev pub offers_at : List (List Edge) → List Vertex → ℕ → List (ℕ × Item)
-offers_at table vs p = offers_from (slice_index_or vs p unreached).weight (slice_index_or table p [])
+offers_at table vs p = offers_from (slice_index_or vs p unreached_vertex).weight (slice_index_or table p [])
 
 -- What the vertices at some places offer, place by place.
-abbrev pub offers : List (List Edge) → List Vertex → List ℕ → List (ℕ × Item)
-offers table vs places = flat_map (offers_at table vs) places
+abbrev pub offers_by_place : List (List Edge) → List Vertex → List ℕ → List (ℕ × Item)
+offers_by_place table vs places = flat_map (offers_at table vs) places
 
 -- The edge of an entry comes to its vertex, where its weight is from low to high.
-abbrev pub kept : ℕ → ℕ → ℕ → Triple → List (List Edge) → List (List Edge)
-kept ranks low high t rows =
+abbrev pub table_with_edge : ℕ → ℕ → ℕ → Triple → List (List Edge) → List (List Edge)
+table_with_edge ranks low high t rows =
     if in_range low high t then changed_at rows (t.i / ranks) [] (λ es. es ++ edge_of ranks t ∷ []) else rows

@@ -7,8 +7,8 @@ use Rattle.list_laws.specs.Lists.{changed_at}
 use Rattle.least_walks.specs.declared.vertices.Vertex.{Vertex}
 
 -- A vertex that no walk was found to.
-abbrev pub unreached : Vertex
-unreached = record { weight = None; improved = false }
+abbrev pub unreached_vertex : Vertex
+unreached_vertex = record { weight = None; improved = false }
 
 -- A weight is better than what was found: nothing was found, or more.
 -- is_better 5 None, is_better 5 (Some 7), and not is_better 5 (Some 5)
@@ -22,7 +22,7 @@ improve w v = if is_better w v.weight then record { weight = Some w; improved = 
 
 -- The vertex at a place is improved, if w is better.
 abbrev pub improved_at : ℕ → ℕ → List Vertex → List Vertex
-improved_at place w vs = changed_at vs place unreached (improve w)
+improved_at place w vs = changed_at vs place unreached_vertex (improve w)
 
 -- The places of the improved vertices, ascending, of vertices of which the first stands at place k.
 abbrev pub marked_from : ℕ → List Vertex → List ℕ
@@ -31,8 +31,8 @@ marked_from k (v ∷ vs) = if v.improved then k ∷ marked_from (suc k) vs else 
 
 -- The places of the improved vertices, ascending.
 -- of three vertices with the first and the last improved: 0, 2
-abbrev pub marked : List Vertex → List ℕ
-marked vs = marked_from 0 vs
+abbrev pub marked_places : List Vertex → List ℕ
+marked_places vs = marked_from 0 vs
 
 -- A vertex with its mark taken away.
 abbrev pub calm : Vertex → Vertex
@@ -54,8 +54,8 @@ picked_from test k [] = []
 picked_from test k (v ∷ vs) =
     if v.improved && test v then k ∷ picked_from test (suc k) vs else picked_from test (suc k) vs
 
-abbrev pub picked : (Vertex → Bool) → List Vertex → List ℕ
-picked test vs = picked_from test 0 vs
+abbrev pub places_where : (Vertex → Bool) → List Vertex → List ℕ
+places_where test vs = picked_from test 0 vs
 
 -- A vertex with its mark taken away, if it passes a test.
 abbrev pub calm_if : (Vertex → Bool) → Vertex → Vertex
@@ -69,4 +69,4 @@ lesser (Some a) (Some b) = Some (min a b)
 
 -- The least weight of an improved vertex, or None where none is improved.
 abbrev pub least_marked : List Vertex → Option ℕ
-least_marked vs = fold (λ w p. lesser w (slice_index_or vs p unreached).weight) None (marked vs)
+least_marked vs = fold (λ w p. lesser w (slice_index_or vs p unreached_vertex).weight) None (marked_places vs)

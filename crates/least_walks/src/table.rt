@@ -3,9 +3,9 @@
 ghost use Rattle.std.specs.Prelude.{◌≡◌, ◌<◌, ◌≤◌, ◌/◌, ◌+◌, ◌%◌, ◌++◌, [], ◌∷◌, OnOk, IfOk, length, map, replicate, slice_index_or};
 ghost use Rattle.std.specs.List.{All};
 ghost use Rattle.bale_items.specs.declared.triple.Triple.{Triple};
-ghost use Rattle.list_laws.specs.Lists.{changed_at, Begins};
-ghost use Rattle.least_walks.specs.Tables.{edge_of, kept, table_of, offer, offers};
-ghost use Rattle.least_walks.specs.code.Spans.{in_span, lists_of, IsWithin};
+ghost use Rattle.list_laws.specs.Lists.{changed_at, IsPrefix};
+ghost use Rattle.least_walks.specs.Tables.{edge_of, table_with_edge, table_of, offer, offers_by_place};
+ghost use Rattle.least_walks.specs.code.Spans.{in_span, lists_of, IsSpanWithin};
 
 use crate::vertices::Vertices;
 use bale_items::{Item, NoMemory, Triple, bits_of};
@@ -42,13 +42,13 @@ impl Model for Table {
     ghost use Rattle.std.specs.Prelude.{List};
     ghost use Rattle.std.specs.List.{All};
     ghost use Rattle.least_walks.specs.declared.table.Edge.{Edge};
-    ghost use Rattle.least_walks.specs.code.Spans.{lists_of, IsWithin};
+    ghost use Rattle.least_walks.specs.code.Spans.{lists_of, IsSpanWithin};
 
     ghost Value = { List (List Edge) };
 
     ghost view = { λ t. lists_of t.edges.items t.spans.items };
 
-    ghost invariant = { λ t. All (IsWithin t.edges.items) t.spans.items };
+    ghost invariant = { λ t. All (IsSpanWithin t.edges.items) t.spans.items };
 }
 
 impl Table {
@@ -126,10 +126,10 @@ fn keep(
 ) -> Result<(), NoMemory>
     requires some { 0 < ranks }
     requires inside { t.i / ranks < length spans.old.items }
-    requires within { All (IsWithin edges.old.items) spans.old.items }
+    requires within { All (IsSpanWithin edges.old.items) spans.old.items }
     ensures kept { OnOk result (lists_of edges.new.items spans.new.items
-        ≡ kept ranks low high t (lists_of edges.old.items spans.old.items)) }
-    ensures within { OnOk result (All (IsWithin edges.new.items) spans.new.items) }
+        ≡ table_with_edge ranks low high t (lists_of edges.old.items spans.old.items)) }
+    ensures within { OnOk result (All (IsSpanWithin edges.new.items) spans.new.items) }
 {
     let weight = bits_of(t.v);
     if low <= weight && weight <= high {
@@ -147,10 +147,10 @@ fn push_edge(
     edge: Edge,
 ) -> Result<(), NoMemory>
     requires inside { place < length spans.old.items }
-    requires within { All (IsWithin edges.old.items) spans.old.items }
+    requires within { All (IsSpanWithin edges.old.items) spans.old.items }
     ensures pushed { OnOk result (lists_of edges.new.items spans.new.items
         ≡ changed_at (lists_of edges.old.items spans.old.items) place [] (λ es. es ++ edge ∷ [])) }
-    ensures within { OnOk result (All (IsWithin edges.new.items) spans.new.items) }
+    ensures within { OnOk result (All (IsSpanWithin edges.new.items) spans.new.items) }
 {
     let span = last_span(edges, spans[place])?;
     edges.push(edge)?;
@@ -164,8 +164,8 @@ fn push_edge(
 /// Where edges stand once they are the last ones: they are moved behind the others if they aren't.
 #[inline(always)]
 fn last_span(edges: &mut Vec<Edge>, span: Span) -> Result<Span, NoMemory>
-    requires within { IsWithin edges.old.items span }
-    ensures added { OnOk result (Begins edges.old.items edges.new.items) }
+    requires within { IsSpanWithin edges.old.items span }
+    ensures added { OnOk result (IsPrefix edges.old.items edges.new.items) }
     ensures same { IfOk result (λ s. in_span edges.new.items s ≡ in_span edges.old.items span) }
     ensures last { IfOk result (λ s. (s.from ≤ s.to) × (s.to ≡ length edges.new.items)) }
 {
@@ -208,7 +208,7 @@ pub fn put_offers(
 ) -> Result<(), NoMemory>
     requires edges { All (λ p. p < length table.now) places.now }
     requires weights { All (λ p. p < length vertices.now) places.now }
-    ensures { OnOk result (outgoing.new.items ≡ offers table.now vertices.now places.now) }
+    ensures { OnOk result (outgoing.new.items ≡ offers_by_place table.now vertices.now places.now) }
 {
     outgoing.clear();
     outgoing.reserve(edges_at(table, places))?;

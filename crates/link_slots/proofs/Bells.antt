@@ -6,7 +6,7 @@ use Rattle.std.specs.Int.Bits.{bit_or, bit_and, or_add_and}
 use Rattle.link_slots.specs.Logs.{OutLog, InLog}
 use Rattle.link_slots.specs.Wiring.{Wiring, bell_word}
 use Rattle.link_slots.specs.Link.{BellOk, one_where}
-use Rattle.link_slots.specs.Plays.{heard_by, marked_by}
+use Rattle.link_slots.specs.StepEffects.{heard_by, marked_by}
 
 -- a bit that is set stays set when others are set too, and the bits that are set are set
 pub bit_stays : (n v c : ℕ) → bit_at n c ≡ 1 → bit_at (bit_or n v) c ≡ 1

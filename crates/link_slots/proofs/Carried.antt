@@ -4,7 +4,7 @@ use mathlib.Core.Option.{Option, none, some, some-injective, some-ne-none}
 use lib.ListN.{get_elem?}
 use Rattle.atomic_table.specs.Table.{Act, keeps, takes, gives, chain, carried_after, homes_after, Valid}
 use Rattle.atomic_table.proofs.Lists.{set_here, set_else}
-use Rattle.link_slots.specs.Hands.{NoTwice}
+use Rattle.link_slots.specs.HeldSlots.{NoTwice}
 use Rattle.link_slots.proofs.Lookups.{at_inside, same_list, at_written}
 
 module _ {T : Type 0} where

@@ -1,8 +1,8 @@
 -- What a seat counts stays right under each step.
 use Rattle.std.proofs.Common.{◌≡◌, ℕ, suc, ◌+◌, ◌-◌, ◌^◌, ◌%◌, ◌<◌, ◌≤◌, ◌⊎◌, [], ◌∷◌, ◌++◌, length, sym, ap, ◌∙◌, subst, inr, arith, length-append}
 use Rattle.link_slots.specs.Logs.{OutLog, InLog}
-use Rattle.link_slots.specs.Plays.{beyond}
-use Rattle.list_laws.specs.Counts.{counted}
+use Rattle.link_slots.specs.StepEffects.{beyond}
+use Rattle.list_laws.specs.Counts.{saturated_count}
 use Rattle.link_slots.specs.Counts.{IsOutEnd, IsInEnd}
 
 module _ {T : Type 0} (slots : ℕ) where
@@ -56,7 +56,7 @@ module _ {T : Type 0} (slots : ℕ) where
 
   -- after a parcel was taken
   pub end_taken : (i i' : InLog T) (taken waiting noted taken' noted' : ℕ) → IsInEnd slots i taken (suc waiting) noted → i'.seen ≡ i.seen → i'.taken ≡ suc i.taken
-      → taken' ≡ (taken + 1) % 2 ^ 64 → noted' ≡ counted i'.hears → IsInEnd slots i' taken' waiting noted'
+      → taken' ≡ (taken + 1) % 2 ^ 64 → noted' ≡ saturated_count i'.hears → IsInEnd slots i' taken' waiting noted'
   end_taken i i' taken waiting noted taken' noted' is seen took taken_is noted_is = record {
     taken_is = (let e = is.taken_is in omega arith);
     waiting_is = (let e = is.waiting_is in let l = ap length seen in omega arith);

@@ -3,8 +3,8 @@ use Rattle.std.proofs.Common.{◌≡◌, ℕ, zero, suc, ◌+◌, ◌-◌, ◌<�
 use Rattle.std.proofs.Common.{le-leb, leb-true}
 use Rattle.link_slots.specs.Logs.{InLog, taken_more}
 use Rattle.link_slots.specs.Link.{one_where}
-use Rattle.link_slots.specs.Plays.{heard_by, marked_by}
-use Rattle.list_laws.specs.Counts.{counted}
+use Rattle.link_slots.specs.StepEffects.{heard_by, marked_by}
+use Rattle.list_laws.specs.Counts.{saturated_count}
 use Rattle.link_slots.specs.Doorbell.{is_due, HeardWhere, looked_where_marked, LookedFor}
 
 leb-above : (a b : ℕ) → b < a → leb a b ≡ false
@@ -24,14 +24,14 @@ marks_one zero m h e = ap one_where e
 marks_one (suc b) m h e = omega arith
 
 module _ {T : Type 0} where
-  pub due : (noted : ℕ) (i : InLog T) → i.marked ≡ false → counted i.hears ≤ noted → is_due noted i ≡ true
-  due noted i unmarked low = ap (λ (t : Bool). not t && leb (counted i.hears) noted) unmarked ∙ le-leb (counted i.hears) noted low
+  pub due : (noted : ℕ) (i : InLog T) → i.marked ≡ false → saturated_count i.hears ≤ noted → is_due noted i ≡ true
+  due noted i unmarked low = ap (λ (t : Bool). not t && leb (saturated_count i.hears) noted) unmarked ∙ le-leb (saturated_count i.hears) noted low
 
   pub not_due_marked : (noted : ℕ) (i : InLog T) → i.marked ≡ true → is_due noted i ≡ false
-  not_due_marked noted i marked = ap (λ (t : Bool). not t && leb (counted i.hears) noted) marked
+  not_due_marked noted i marked = ap (λ (t : Bool). not t && leb (saturated_count i.hears) noted) marked
 
-  pub not_due_heard : (noted : ℕ) (i : InLog T) → noted < counted i.hears → is_due noted i ≡ false
-  not_due_heard noted i high = ap (λ (t : Bool). not i.marked && t) (leb-above (counted i.hears) noted high) ∙ and-false (not i.marked)
+  pub not_due_heard : (noted : ℕ) (i : InLog T) → noted < saturated_count i.hears → is_due noted i ≡ false
+  not_due_heard noted i high = ap (λ (t : Bool). not i.marked && t) (leb-above (saturated_count i.hears) noted high) ∙ and-false (not i.marked)
 
   -- a hear, in which the bit b was found
   pub heard_where : (i j : InLog T) (b : ℕ) (d : Bool) → d ≡ true → b < 2 → j ≡ heard_by b i → HeardWhere d i j

@@ -6,14 +6,14 @@ use Rattle.std.proofs.Math.Nat.{mul-le-mul_left, mul-one}
 use mathlib.Core.Option.{some, some-ne-none}
 use lib.ListN.{get_elem?}
 use Rattle.atomic_table.specs.Table.{Me}
-use Rattle.item_buffer.specs.Contents.{Contents, shipped}
+use Rattle.item_buffer.specs.Contents.{Contents, as_shipped}
 use Rattle.route_tensor.specs.Grid.{ranks, IsGrid}
 use Rattle.route_tensor.specs.Link.{links}
 use Rattle.route_tensor.specs.Ends.{reader_at}
 use Rattle.port_bank.specs.Logs.{lasts}
 use mathlib.Core.Logic.{dite}
 use native.Mathlib.Decide.{ℕ_discrete}
-use Rattle.link_slots.specs.Closed.{ended_of}
+use Rattle.link_slots.specs.ClosedBank.{ended_of}
 use Rattle.link_slots.specs.declared.seat.ends.OutEnd.{OutEnd}
 use Rattle.link_slots.specs.declared.seat.ends.InEnd.{InEnd}
 use Rattle.link_slots.specs.declared.seat.ear.Ear.{Ear}
@@ -21,11 +21,11 @@ use Rattle.link_slots.specs.declared.seat.rank_ends.RankEnds.{RankEnds}
 use Rattle.link_slots.specs.declared.seat.rank_ends.EndedCounts.{EndedCounts}
 use Rattle.link_slots.specs.Logs.{OutLog, InLog, Lists, no_out, no_in, out_of, in_of, got_of}
 use Rattle.link_slots.specs.View.{no_logs, own_logs, logs_or, Speaks, IsAlone, without_pick, pick_alone, speaking_for, gathered}
-use Rattle.link_slots.specs.Hands.{Holds}
+use Rattle.link_slots.specs.HeldSlots.{Holds}
 use Rattle.link_slots.specs.Shape.{Shape, IsShape, wiring, IsBlank}
-use Rattle.link_slots.specs.Told.{Knowing}
-use Rattle.link_slots.specs.Own.{IsOwn}
-use Rattle.list_laws.specs.Counts.{counted}
+use Rattle.link_slots.specs.WordSteps.{Knowing}
+use Rattle.link_slots.specs.OwnLinks.{IsOwn}
+use Rattle.list_laws.specs.Counts.{saturated_count}
 use Rattle.link_slots.specs.Counts.{IsOutEnd, IsInEnd, IsHeard}
 use Rattle.link_slots.specs.Seat.{IsSeat}
 use Rattle.link_slots.specs.Gathering.{IsGathering, AreNew}
@@ -100,10 +100,10 @@ module _ (shape : Shape) where
         each_ear = λ h d a. subst (λ (z : Ear). IsHeard shape r (h + 1) (own_logs v) z.marks z.hears) (sym (ap (λ (z : List Ear). get_or z h d) new.ears ∙ replicate_at 3 h _ d a))
             (record {
               marked = λ l p q t. ap (λ (z : InLog Contents). z.marked) (in_at l) ∙ ap (λ (z : ℕ). eqb z 1) (sym (bit_at-zero ((wiring shape).bit l)));
-              heard = λ l p q t. ap (λ (z : InLog Contents). counted z.hears) (sym (in_at l));
+              heard = λ l p q t. ap (λ (z : InLog Contents). saturated_count z.hears) (sym (in_at l));
             });
         each_good = λ l a b k p at. absurd (none_seen k p (ap (λ (z : InLog Contents). get_elem? z.seen k) (sym (in_at l)) ∙ at));
-        each_ended = λ l d a b. ap (λ (z : List ℕ). get_or z l d) new.ended ∙ replicate_at n l 0 d a ∙ ap (λ (z : InLog Contents). counted (lasts (map shipped (take z.taken z.seen)))) (sym (in_at l));
+        each_ended = λ l d a b. ap (λ (z : List ℕ). get_or z l d) new.ended ∙ replicate_at n l 0 d a ∙ ap (λ (z : InLog Contents). saturated_count (lasts (map as_shipped (take z.taken z.seen)))) (sym (in_at l));
       }
 
 module _ (v : Knowing) (r : ℕ) (x : Lists Contents) (at : get_or v.lists r None ≡ Some x) (inside : r < length v.lists) where
@@ -159,9 +159,9 @@ left_gathering shape m m' ends ended r is me =
       ended_many = length-set ended r None ∙ is.ended_many;
       each_ended = λ q l a b. dite (ℕ_discrete q r)
           (λ s. ap (λ (z : Option EndedCounts). ended_of z l) (ap (λ (z : ℕ). get_or (set ended r None) z None) s ∙ read_none ended r)
-          ∙ ap (λ (z : Option (Lists Contents)). counted (lasts (map shipped (got_of (logs_or z) l)))) (sym (ap (λ (z : List (Option (Lists Contents))). get_or z q None) lists ∙ ap (λ (z : ℕ). get_or (set m.0.lists r None) z None) s ∙ read_none m.0.lists r)))
+          ∙ ap (λ (z : Option (Lists Contents)). saturated_count (lasts (map as_shipped (got_of (logs_or z) l)))) (sym (ap (λ (z : List (Option (Lists Contents))). get_or z q None) lists ∙ ap (λ (z : ℕ). get_or (set m.0.lists r None) z None) s ∙ read_none m.0.lists r)))
           (λ ne. ap (λ (z : Option EndedCounts). ended_of z l) (get_or-set_other ended r q None None ne) ∙ is.each_ended q l a b
-          ∙ ap (λ (z : Option (Lists Contents)). counted (lasts (map shipped (got_of (logs_or z) l)))) (sym (ap (λ (z : List (Option (Lists Contents))). get_or z q None) lists ∙ get_or-set_other m.0.lists r q None None ne)));
+          ∙ ap (λ (z : Option (Lists Contents)). saturated_count (lasts (map as_shipped (got_of (logs_or z) l)))) (sym (ap (λ (z : List (Option (Lists Contents))). get_or z q None) lists ∙ get_or-set_other m.0.lists r q None None ne)));
     })
   where
     no_some : {A : Type 0} (y : A) → None ≡ Some y → ⊥
@@ -173,7 +173,7 @@ rank_word shape r g h = let f = g.some in let p : ranks shape.dims * 1 ≤ ranks
 
 -- what the gathering seat has after it took in a rank's view
 pub more_gathered : (shape : Shape) (m m' : Me Contents Knowing) (u : Knowing) (ends : List (Option RankEnds)) (ended : List (Option EndedCounts)) (e : EndedCounts) → IsGathering shape m ends ended → u.shape ≡ shape → u.pick < ranks shape.dims → Speaks u → IsOwn shape.dims u.pick (own_logs u)
-    → ((l : ℕ) → l < links shape.dims → reader_at shape.dims l ≡ u.pick → get_or e.counts.items l 0 ≡ counted (lasts (map shipped (got_of (own_logs u) l))))
+    → ((l : ℕ) → l < links shape.dims → reader_at shape.dims l ≡ u.pick → get_or e.counts.items l 0 ≡ saturated_count (lasts (map as_shipped (got_of (own_logs u) l))))
     → m' ≡ (gathered m.0 u, m.1) → IsGathering m'.0.shape m' (set ends u.pick None) (set ended u.pick (Some e))
 more_gathered shape m m' u ends ended e is of small speaks own counts me =
     let r : ℕ = u.pick in
@@ -194,9 +194,9 @@ more_gathered shape m m' u ends ended e is of small speaks own counts me =
       each_ended = λ q l a b. dite (ℕ_discrete q r)
           (λ s. ap (λ (z : Option EndedCounts). ended_of z l) (ap (λ (z : ℕ). get_or (set ended r (Some e)) z None) s ∙ get_or-set_same ended r (Some e) None (let n = is.ended_many in omega arith))
           ∙ counts l a (b ∙ s)
-          ∙ ap (λ (z : Option (Lists Contents)). counted (lasts (map shipped (got_of (logs_or z) l)))) (sym (ap (λ (z : List (Option (Lists Contents))). get_or z q None) lists ∙ ap (λ (z : ℕ). get_or (set m.0.lists r (Some (own_logs u))) z None) s ∙ get_or-set_same m.0.lists r (Some (own_logs u)) None (let n = is.lists_many in omega arith))))
+          ∙ ap (λ (z : Option (Lists Contents)). saturated_count (lasts (map as_shipped (got_of (logs_or z) l)))) (sym (ap (λ (z : List (Option (Lists Contents))). get_or z q None) lists ∙ ap (λ (z : ℕ). get_or (set m.0.lists r (Some (own_logs u))) z None) s ∙ get_or-set_same m.0.lists r (Some (own_logs u)) None (let n = is.lists_many in omega arith))))
           (λ ne. ap (λ (z : Option EndedCounts). ended_of z l) (get_or-set_other ended r q (Some e) None ne) ∙ is.each_ended q l a b
-          ∙ ap (λ (z : Option (Lists Contents)). counted (lasts (map shipped (got_of (logs_or z) l)))) (sym (ap (λ (z : List (Option (Lists Contents))). get_or z q None) lists ∙ get_or-set_other m.0.lists r q (Some (own_logs u)) None ne)));
+          ∙ ap (λ (z : Option (Lists Contents)). saturated_count (lasts (map as_shipped (got_of (logs_or z) l)))) (sym (ap (λ (z : List (Option (Lists Contents))). get_or z q None) lists ∙ get_or-set_other m.0.lists r q (Some (own_logs u)) None ne)));
     })
   where
     no_some : {A : Type 0} (y : A) → None ≡ Some y → ⊥

@@ -10,7 +10,7 @@ use Rattle.atomic_table.proofs.Lists.{set_here, set_else}
 use Rattle.link_slots.specs.Logs.{OutLog, InLog, Lists, no_out, no_in, out_of, in_of, with_out, with_in}
 use Rattle.link_slots.specs.Wiring.{Wiring, IsWired, slot_of}
 use Rattle.link_slots.specs.Link.{LinkOk}
-use Rattle.link_slots.specs.Hands.{Holds}
+use Rattle.link_slots.specs.HeldSlots.{Holds}
 use Rattle.link_slots.proofs.Lookups.{at_inside, at_there, take_next}
 use Rattle.link_slots.proofs.Ring.{same_link}
 use Rattle.link_slots.proofs.Carried.{Away}

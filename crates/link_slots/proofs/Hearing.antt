@@ -11,10 +11,10 @@ use Rattle.item_buffer.specs.Contents.{Contents}
 use Rattle.route_tensor.specs.Link.{links}
 use Rattle.route_tensor.specs.Ends.{hop_at, reader_at}
 use Rattle.link_slots.specs.Logs.{InLog, Lists, in_of, with_in, listens}
-use Rattle.link_slots.specs.Plays.{after_hear, heard_by, marked_by}
+use Rattle.link_slots.specs.StepEffects.{after_hear, heard_by, marked_by}
 use lib.ListN.{get_elem?}
 use Rattle.link_slots.specs.Shape.{Shape, IsShape, wiring, MayFollow}
-use Rattle.list_laws.specs.Counts.{counted}
+use Rattle.list_laws.specs.Counts.{saturated_count}
 use Rattle.link_slots.specs.Counts.{IsHeard, ElseKept, AreGood, noted_by}
 use Rattle.link_slots.proofs.Listening.{heard_kept, heard_risen, heard_here, heard_else, length-map_from}
 use Rattle.link_slots.proofs.Wires.{wired, same_bell}
@@ -53,15 +53,15 @@ marks_less n c e = let x = bit_at_xor n (2 ^ c) c in let p = bit_at-pow_same c i
 pub marks_else : (n c d : ℕ) → d ≢ c → bit_at (bit_xor n (2 ^ c)) d ≡ bit_at n d
 marks_else n c d ne = let x = bit_at_xor n (2 ^ c) d in let p = bit_at-pow_other c d ne in let b = bit_at-lt n d in omega arith
 
-pub counted_suc : (n a : ℕ) → a ≡ counted n → min (a + 1) (2 ^ 64 - 1) ≡ counted (suc n)
+pub counted_suc : (n a : ℕ) → a ≡ saturated_count n → min (a + 1) (2 ^ 64 - 1) ≡ saturated_count (suc n)
 counted_suc n a e = omega arith
 
 -- a link that is listened for once more
-pub rises : {T : Type 0} (noted : ℕ) (i : InLog T) → noted ≤ counted i.hears → RoseOrFull (noted_by noted i) (counted (suc (listens i)))
+pub rises : {T : Type 0} (noted : ℕ) (i : InLog T) → noted ≤ saturated_count i.hears → RoseOrFull (noted_by noted i) (saturated_count (suc (listens i)))
 rises noted i low = dite (dec_le (suc (listens i)) (2 ^ 64 - 1)) (λ h. inl (omega arith)) (λ h. inr (omega arith))
 
 -- a link whose doorbell was heard since it was noted
-pub rose : {T : Type 0} (noted : ℕ) (i : InLog T) → noted < counted i.hears → RoseOrFull (noted_by noted i) (counted (listens i))
+pub rose : {T : Type 0} (noted : ℕ) (i : InLog T) → noted < saturated_count i.hears → RoseOrFull (noted_by noted i) (saturated_count (listens i))
 rose noted i high = dite (dec_le (listens i) (2 ^ 64 - 1)) (λ h. inl (omega arith)) (λ h. inr (omega arith))
 
 module _ (shape : Shape) (is : IsShape shape) (rank l : ℕ) (inside : l < links shape.dims) (mine : reader_at shape.dims l ≡ rank) (x : Lists Contents) (wide : length x.ins ≡ links shape.dims) where
@@ -89,7 +89,7 @@ module _ (shape : Shape) (is : IsShape shape) (rank l : ℕ) (inside : l < links
         → IsHeard shape rank (hop_at shape.dims l) (after_hear (wiring shape) ((wiring shape).bell l) n x) (bit_or marks n) (min (hears + 1) (2 ^ 64 - 1))
     heard_marks marks hears was = record {
       marked = λ m h r e. ap (λ (i : InLog Contents). i.marked) (heard_at m h r e) ∙ ap (marked_by (bit_at n ((wiring shape).bit m))) (was.marked m h r e) ∙ marks_or marks n ((wiring shape).bit m);
-      heard = λ m h r e. counted_suc (in_of x m).hears hears (was.heard m h r e) ∙ ap (λ (i : InLog Contents). counted i.hears) (sym (heard_at m h r e));
+      heard = λ m h r e. counted_suc (in_of x m).hears hears (was.heard m h r e) ∙ ap (λ (i : InLog Contents). saturated_count i.hears) (sym (heard_at m h r e));
     }
 
   -- a change of l alone
@@ -117,8 +117,8 @@ module _ (shape : Shape) (is : IsShape shape) (rank l : ℕ) (inside : l < links
               (λ ne. ap (λ (z : InLog Contents). z.marked) (in_there x l i m ne) ∙ was.marked m h r e
               ∙ ap (λ (z : ℕ). eqb z 1) (sym (marks_else marks ((wiring shape).bit l) ((wiring shape).bit m) (λ b. ne ((wired shape is).one_bit m l h inside (one_bell m r e) b)))));
           heard = λ m h r e. dite (ℕ_discrete m l)
-              (λ s. was.heard m h r e ∙ ap (λ (z : ℕ). counted (in_of x z).hears) s ∙ ap counted (sym hears) ∙ ap (λ (z : InLog Contents). counted z.hears) (sym here) ∙ ap (λ (z : ℕ). counted (in_of (with_in x l i) z).hears) (sym s))
-              (λ ne. was.heard m h r e ∙ ap (λ (z : InLog Contents). counted z.hears) (sym (in_there x l i m ne)));
+              (λ s. was.heard m h r e ∙ ap (λ (z : ℕ). saturated_count (in_of x z).hears) s ∙ ap saturated_count (sym hears) ∙ ap (λ (z : InLog Contents). saturated_count z.hears) (sym here) ∙ ap (λ (z : ℕ). saturated_count (in_of (with_in x l i) z).hears) (sym s))
+              (λ ne. was.heard m h r e ∙ ap (λ (z : InLog Contents). saturated_count z.hears) (sym (in_there x l i m ne)));
         }
 
 -- one step after another
@@ -153,5 +153,5 @@ pub heard_same : (shape : Shape) (rank h : ℕ) (x x' : Lists Contents) (marks h
     → IsHeard shape rank h x marks hears → IsHeard shape rank h x' marks hears
 heard_same shape rank h x x' marks hears same_marked same_hears is = record {
   marked = λ m a b e. same_marked m ∙ is.marked m a b e;
-  heard = λ m a b e. is.heard m a b e ∙ ap counted (sym (same_hears m));
+  heard = λ m a b e. is.heard m a b e ∙ ap saturated_count (sym (same_hears m));
 }

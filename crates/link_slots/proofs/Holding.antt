@@ -8,7 +8,7 @@ use Rattle.atomic_table.proofs.Lists.{at_longer, at_last}
 use Rattle.link_slots.specs.Logs.{OutLog, InLog, Lists, out_of, in_of}
 use Rattle.link_slots.specs.Wiring.{Wiring, slot_of}
 use Rattle.link_slots.specs.Link.{LinkOk}
-use Rattle.link_slots.specs.Hands.{Has, NoTwice, Own, Holds}
+use Rattle.link_slots.specs.HeldSlots.{Has, NoTwice, Own, Holds}
 use Rattle.link_slots.proofs.Lookups.{at_inside, snoc_case}
 use Rattle.link_slots.proofs.Ring.{same_link, same_number}
 use Rattle.link_slots.proofs.Carried.{Away, without, stands, stays}

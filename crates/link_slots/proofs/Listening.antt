@@ -12,8 +12,8 @@ use Rattle.link_slots.specs.View.{View, own_logs, with_logs, Speaks}
 use Rattle.link_slots.specs.Wiring.{Wiring, IsWired, posted_word, released_word, bell_word}
 use Rattle.link_slots.specs.Link.{LinkOk, BellOk}
 use Rattle.link_slots.specs.Bank.{Lawful}
-use Rattle.link_slots.specs.Hands.{Holds}
-use Rattle.link_slots.specs.Plays.{map_from, heard_by, heard_ins, rung, heard}
+use Rattle.link_slots.specs.HeldSlots.{Holds}
+use Rattle.link_slots.specs.StepEffects.{map_from, heard_by, heard_ins, rung, heard}
 use Rattle.link_slots.proofs.OneLink.{link_kept}
 use Rattle.link_slots.proofs.Bells.{bit_stays, bit_comes, bell_kept, bell_rung, bell_heard}
 use Rattle.link_slots.proofs.Holding.{holds_same}

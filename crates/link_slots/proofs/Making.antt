@@ -15,15 +15,15 @@ use Rattle.port_bank.specs.Port.{IsSlots}
 use Rattle.port_bank.proofs.Closing.{law_nothing}
 use Rattle.link_slots.specs.declared.seat.rank_ends.RankEnds.{RankEnds}
 use Rattle.link_slots.specs.declared.seat.rank_ends.EndedCounts.{EndedCounts}
-use Rattle.item_buffer.specs.Contents.{shipped}
+use Rattle.item_buffer.specs.Contents.{as_shipped}
 use Rattle.port_bank.specs.Logs.{lasts}
 use Rattle.link_slots.specs.Logs.{got_of}
-use Rattle.link_slots.specs.Own.{IsOwn}
-use Rattle.list_laws.specs.Counts.{counted}
+use Rattle.link_slots.specs.OwnLinks.{IsOwn}
+use Rattle.list_laws.specs.Counts.{saturated_count}
 use Rattle.link_slots.specs.View.{first_view, no_logs, logs_or}
-use Rattle.link_slots.specs.Closed.{logs_at, ended_of}
+use Rattle.link_slots.specs.ClosedBank.{logs_at, ended_of}
 use Rattle.link_slots.specs.Shape.{Shape, IsShape, wiring, IsBlank, MayFollow, KeepsLaw}
-use Rattle.link_slots.specs.Told.{Knowing, IsLawful}
+use Rattle.link_slots.specs.WordSteps.{Knowing, IsLawful}
 use Rattle.link_slots.specs.Gathering.{IsGathering, AreNew, HasNew, is_gone}
 use Rattle.link_slots.proofs.Opening.{opens, no_sent, no_got, same_some, some_there}
 use Rattle.link_slots.proofs.Wires.{wired}
@@ -95,7 +95,7 @@ first_gathering shape m ends ended is me many new none =
           });
       ended_many = ap length none ∙ length-replicate (ranks shape.dims) None;
       each_ended = λ r l a b. ap (λ (z : List (Option EndedCounts)). ended_of (get_or z r None) l) none ∙ ap (λ (z : Option EndedCounts). ended_of z l) (nones (ranks shape.dims) r)
-          ∙ ap (λ (z : List Contents). counted (lasts (map shipped z))) (sym (ap (λ (z : Me Contents Knowing). got_of (logs_at z.0.lists r) l) me ∙ nothing_got (links shape.dims) (ranks shape.dims) r l));
+          ∙ ap (λ (z : List Contents). saturated_count (lasts (map as_shipped z))) (sym (ap (λ (z : Me Contents Knowing). got_of (logs_at z.0.lists r) l) me ∙ nothing_got (links shape.dims) (ranks shape.dims) r l));
     })
   where
     nothing_got : (n k r l : ℕ) → ◌≡◌ {A = List Contents} (got_of (logs_or (get_or (replicate k (Some (no_logs n))) r None)) l) []

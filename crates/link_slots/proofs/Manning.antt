@@ -2,16 +2,16 @@
 use Rattle.std.proofs.Common.{◌≡◌, ℕ, zero, suc, ◌<◌, List, [], ◌∷◌, ◌++◌, map, length, set, sym, refl, ap, ◌∙◌, subst, length-set, Option, Some, None}
 use Rattle.std.proofs.lemmas.List.{map-append}
 use Rattle.atomic_table.specs.Table.{Me}
-use Rattle.item_buffer.specs.Contents.{Contents, shipped}
+use Rattle.item_buffer.specs.Contents.{Contents, as_shipped}
 use Rattle.route_tensor.specs.Grid.{IsGrid}
-use Rattle.port_bank.specs.Flow.{Begins}
+use Rattle.port_bank.specs.Flow.{IsPrefix}
 use Rattle.port_bank.proofs.Kept.{law_got_more}
 use Rattle.port_bank.proofs.Fronts.{begins_refl}
 use Rattle.link_slots.specs.Logs.{OutLog, InLog, Lists, out_of, in_of, with_out, with_in, got, sent_of, got_of, sent_more, taken_more, no_out, no_in}
 use Rattle.link_slots.specs.View.{own_logs, with_logs, Speaks}
-use Rattle.link_slots.specs.Hands.{Holds}
+use Rattle.link_slots.specs.HeldSlots.{Holds}
 use Rattle.link_slots.specs.Shape.{Shape, wiring, IsBlank, KeepsLaw, shipped_all}
-use Rattle.link_slots.specs.Told.{Knowing, IsManned}
+use Rattle.link_slots.specs.WordSteps.{Knowing, IsManned}
 use mathlib.Core.Logic.{dite}
 use native.Mathlib.Decide.{ℕ_discrete}
 use Rattle.std.proofs.lemmas.List.{set-get_or}
@@ -43,14 +43,14 @@ law_taken dims r l x looks grid inside some_left law =
     let more : got (taken_more i looks) ≡ got i ++ p.0 ∷ [] = take_next i.seen i.taken p.0 p.1 in
     law_got_more dims r (shipped_all (sent_of x)) (shipped_all (got_of x)) (shipped_all (got_of (with_in x l (taken_more i looks)))) grid (λ m. grown m i p.0 more) law
   where
-    one : (m : ℕ) → Begins (map shipped (got_of x m)) (map shipped (got_of x m))
-    one m = begins_refl (map shipped (got_of x m))
+    one : (m : ℕ) → IsPrefix (map as_shipped (got_of x m)) (map as_shipped (got_of x m))
+    one m = begins_refl (map as_shipped (got_of x m))
 
-    grown : (m : ℕ) (i : InLog Contents) (p : Contents) → got (taken_more (in_of x l) looks) ≡ got (in_of x l) ++ p ∷ [] → Begins (map shipped (got_of x m)) (map shipped (got_of (with_in x l (taken_more (in_of x l) looks)) m))
+    grown : (m : ℕ) (i : InLog Contents) (p : Contents) → got (taken_more (in_of x l) looks) ≡ got (in_of x l) ++ p ∷ [] → IsPrefix (map as_shipped (got_of x m)) (map as_shipped (got_of (with_in x l (taken_more (in_of x l) looks)) m))
     grown m i p more = dite (ℕ_discrete m l)
-        (λ e. subst (λ (z : ℕ). Begins (map shipped (got_of x z)) (map shipped (got_of (with_in x l (taken_more (in_of x l) looks)) z))) (sym e)
-        (record { rest = shipped p ∷ []; is = ap (λ (z : InLog Contents). map shipped (got z)) (in_here x l (taken_more (in_of x l) looks) inside) ∙ ap (map shipped) more ∙ map-append shipped (got (in_of x l)) (p ∷ []) }))
-        (λ ne. subst (λ (z : InLog Contents). Begins (map shipped (got_of x m)) (map shipped (got z))) (sym (in_there x l (taken_more (in_of x l) looks) m ne)) (one m))
+        (λ e. subst (λ (z : ℕ). IsPrefix (map as_shipped (got_of x z)) (map as_shipped (got_of (with_in x l (taken_more (in_of x l) looks)) z))) (sym e)
+        (record { rest = as_shipped p ∷ []; is = ap (λ (z : InLog Contents). map as_shipped (got z)) (in_here x l (taken_more (in_of x l) looks) inside) ∙ ap (map as_shipped) more ∙ map-append as_shipped (got (in_of x l)) (p ∷ []) }))
+        (λ ne. subst (λ (z : InLog Contents). IsPrefix (map as_shipped (got_of x m)) (map as_shipped (got z))) (sym (in_there x l (taken_more (in_of x l) looks) m ne)) (one m))
 
 -- what the seat's own lists are after a change of one link
 module _ (v v' : Knowing) (speaks : Speaks v) (l : ℕ) where

@@ -8,7 +8,7 @@ use mathlib.Core.Option.{some}
 use mathlib.Core.Logic.{dite}
 use native.Mathlib.Decide.{ℕ_discrete}
 use lib.ListN.{get_elem?}
-use Rattle.port_bank.specs.Flow.{Begins}
+use Rattle.port_bank.specs.Flow.{IsPrefix}
 use Rattle.atomic_table.specs.Table.{State, Act, gives, carried_after, homes_after, Allows}
 use Rattle.atomic_table.proofs.Lists.{set_again, set_else}
 use Rattle.link_slots.specs.Logs.{OutLog, InLog, Lists, no_out, no_in, out_of, in_of, with_out, with_in, got, sent_of, got_of, taken_more}
@@ -16,8 +16,8 @@ use Rattle.link_slots.specs.View.{View, own_logs, logs_or, with_logs, Speaks}
 use Rattle.link_slots.specs.Wiring.{Wiring, IsWired, slot_of, posted_word, released_word, bell_word}
 use Rattle.link_slots.specs.Link.{LinkOk}
 use Rattle.link_slots.specs.Bank.{Lawful}
-use Rattle.link_slots.specs.Hands.{Holds}
-use Rattle.link_slots.specs.Plays.{beyond, found_room, posted, looked_in, released, spare_brought, parcel_brought}
+use Rattle.link_slots.specs.HeldSlots.{Holds}
+use Rattle.link_slots.specs.StepEffects.{beyond, found_room, posted, looked_in, released, spare_brought, parcel_brought}
 use Rattle.link_slots.proofs.Lookups.{at_there}
 use Rattle.link_slots.proofs.Ring.{same_link}
 use Rattle.link_slots.proofs.OneLink.{link_kept, parcel_posted, parcel_released}
@@ -284,6 +284,6 @@ module _ {D T : Type 0} (Blank : T → Type 0) (Good : ℕ → List T → T → 
           ap (λ (z : List (ℕ × T)). (v, z)) f.carried,
           subst (Holds Blank w v.pick x) (sym f.carried) (holds_in_front Blank w v.pick x c j y wanted.1 held),
           λ from. let link = reader_link Blank Good Law shape w wired s ok id v l at speaks inside mine in
-              subst (λ (o : OutLog T). Begins i.seen o.sent) (sym (own_start s ok id l v at speaks from)) (record { rest = drop (length i.seen) (out_of (ok.logs (w.from l)) l).sent; is = sym (rest_seen i (out_of (ok.logs (w.from l)) l) link.seen_is) }),
+              subst (λ (o : OutLog T). IsPrefix i.seen o.sent) (sym (own_start s ok id l v at speaks from)) (record { rest = drop (length i.seen) (out_of (ok.logs (w.from l)) l).sent; is = sym (rest_seen i (out_of (ok.logs (w.from l)) l) link.seen_is) }),
         ),
       )

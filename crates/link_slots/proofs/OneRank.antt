@@ -16,7 +16,7 @@ use Rattle.link_slots.specs.Link.{LinkOk, BellOk}
 use Rattle.link_slots.specs.Bank.{Lawful}
 use Rattle.link_slots.proofs.OneLink.{link_kept}
 use Rattle.link_slots.proofs.Bells.{bell_kept}
-use Rattle.link_slots.specs.Hands.{Holds}
+use Rattle.link_slots.specs.HeldSlots.{Holds}
 use Rattle.link_slots.proofs.Carried.{Away}
 use Rattle.link_slots.proofs.Holding.{holds_away}
 use Rattle.std.specs.Int.{bit_at}

@@ -17,9 +17,9 @@ use Rattle.route_tensor.specs.Ends.{sender_at, reader_at}
 use Rattle.link_slots.specs.Logs.{out_of, in_of, with_out, sent_of, got_of}
 use Rattle.link_slots.specs.View.{own_logs}
 use Rattle.link_slots.specs.Wiring.{Wiring, slot_of, posted_word, released_word, bell_word}
-use Rattle.link_slots.specs.Plays.{LookedFirst}
+use Rattle.link_slots.specs.StepEffects.{LookedFirst}
 use Rattle.link_slots.specs.Shape.{Shape, IsShape, wiring, IsBlank, MayFollow, KeepsLaw}
-use Rattle.link_slots.specs.Told.{Knowing, IsLawful, IsManned, room_found, posted, looked_in, released, spare_brought, parcel_brought, rung, heard, room_told, post_told, look_told, release_told, spare_told, parcel_told, ring_look_told, ring_told, hear_look_told, hear_told}
+use Rattle.link_slots.specs.WordSteps.{Knowing, IsLawful, IsManned, room_found, posted, looked_in, released, spare_brought, parcel_brought, rung, heard, room_told, post_told, look_told, release_told, spare_told, parcel_told, ring_look_told, ring_told, hear_look_told, hear_told}
 use Rattle.link_slots.proofs.Moves as moves
 use Rattle.link_slots.proofs.Listening as listening
 use Rattle.link_slots.proofs.Bells.{bit_again}

@@ -11,12 +11,12 @@ use Rattle.link_slots.specs.Link.{LinkOk, BellOk}
 module _ {D T : Type 0} (Blank : T → Type 0) (Good : ℕ → List T → T → Type 0)
     (Law : ℕ → (ℕ → List T) → (ℕ → List T) → Type 0) (shape : D) (w : Wiring) where
   -- The six parts, and the field that says each, for the lists of each rank (`logs`):
-  -- (i)   a link's reader took a front of what its sender posted, at most as many parcels are on
+  -- (i)   a link's reader took a prefix of what its sender posted, at most as many parcels are on
   -- their way as it has slots, and two words
   --       count what was posted and taken; each parcel on its way, and each empty one, lies in its
   -- slot, but for those that the reader saw
   --       or the sender may use, which are with these two (`each_link`; fresh parcels of the capacity: its `good`);
-  -- (ii)  tags are fair (`each_link`: `good`), and what a rank passed on is a front of what it got
+  -- (ii)  tags are fair (`each_link`: `good`), and what a rank passed on is a prefix of what it got
   -- (`each_rank`); (iii) a rank ended an epoch on a link only where it had got all of it, and had
   -- passed all of it on (`each_rank`); (iv)  a parcel's epoch is the number of last ones before it
   -- on its link (`each_link`: `good`); (v)   a rank's lists stand in the view of one seat, its

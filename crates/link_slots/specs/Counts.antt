@@ -2,7 +2,7 @@
 use Rattle.std.specs.Prelude.{◌≡◌, ◌≢◌, ◌⊎◌, ℕ, ◌+◌, ◌-◌, ◌*◌, ◌^◌, ◌%◌, ◌<◌, ◌≤◌, ◌==◌, Bool, true, false, List, take}
 use Rattle.std.specs.Prelude.{length, suc, [], ◌∷◌, ◌++◌}
 use Rattle.std.specs.Int.{bit_at}
-use Rattle.list_laws.specs.Counts.{counted}
+use Rattle.list_laws.specs.Counts.{saturated_count}
 use mathlib.Core.Option.{some}
 use lib.ListN.{get_elem?}
 use Rattle.item_buffer.specs.Contents.{Contents}
@@ -44,7 +44,7 @@ pub record IsOutEnd {T : Type 0} (slots : ℕ) (o : OutLog T) (sent spare : ℕ)
 -- How often a link had been listened for when its doorbell had been heard so often: only a collect
 -- of the link looks into it.
 abbrev pub noted_by : {T : Type 0} → ℕ → InLog T → ℕ
-noted_by hears i = counted (hears + i.look_ins)
+noted_by hears i = saturated_count (hears + i.look_ins)
 
 -- The reader counts what it took in the same two ways, the parcels at hand, and how often it had
 -- heard the link's doorbell at the end of its latest collect.
@@ -52,7 +52,7 @@ pub record IsInEnd {T : Type 0} (slots : ℕ) (i : InLog T) (taken waiting noted
   pub taken_is : taken ≡ i.taken % 2 ^ 64
   pub waiting_is : length i.seen ≡ i.taken + waiting
   pub few : waiting ≤ slots
-  pub noted_before : noted ≤ counted i.hears
+  pub noted_before : noted ≤ saturated_count i.hears
 
 -- The links into a rank on hop h: each is marked where its bit is set, and their doorbell was heard
 -- so often.
@@ -60,7 +60,7 @@ pub record IsHeard (shape : Shape) (rank h : ℕ) (x : Lists Contents) (marks he
   pub marked : (l : ℕ) → l < links shape.dims → reader_at shape.dims l ≡ rank → hop_at shape.dims l ≡ h
       → (in_of x l).marked ≡ (bit_at marks ((wiring shape).bit l) == 1)
   pub heard : (l : ℕ) → l < links shape.dims → reader_at shape.dims l ≡ rank → hop_at shape.dims l ≡ h
-      → hears ≡ counted (in_of x l).hears
+      → hears ≡ saturated_count (in_of x l).hears
 
 -- Each parcel seen on a link in may follow those before it.
 abbrev pub AreGood : ℕ → Shape → ℕ → InLog Contents → Type 0
@@ -90,6 +90,6 @@ pub record ElseKept (shape : Shape) (rank l : ℕ) (x x' : Lists Contents) : Typ
 
 -- How many epochs a link has ended, after a collect: one more where it gave a parcel marked last.
 abbrev pub ended_after : Collected → Bool → ℕ → ℕ
-ended_after Got true n = counted (n + 1)
+ended_after Got true n = saturated_count (n + 1)
 ended_after Got false n = n
 ended_after Nothing last n = n

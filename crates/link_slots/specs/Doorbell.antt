@@ -2,8 +2,8 @@
 use Rattle.std.specs.Prelude.{◌≡◌, ℕ, suc, ◌+◌, ◌-◌, ◌≤◌, Bool, true, false, not, ◌&&◌, leb, List}
 use Rattle.link_slots.specs.Logs.{InLog}
 use Rattle.link_slots.specs.Link.{one_where}
-use Rattle.link_slots.specs.Plays.{heard_by}
-use Rattle.list_laws.specs.Counts.{counted}
+use Rattle.link_slots.specs.StepEffects.{heard_by}
+use Rattle.list_laws.specs.Counts.{saturated_count}
 
 module _ {T : Type 0} where
   -- A hear is due where the link isn't marked, and its doorbell wasn't heard since the end of its
@@ -11,7 +11,7 @@ module _ {T : Type 0} where
   -- Example: a link that was never heard has 0 hears and 0 noted, and a hear is due; after that
   -- hear none is due for the other links of the hop, which have 1 hear and 0 noted.
   abbrev pub is_due : ℕ → InLog T → Bool
-  is_due noted i = not i.marked && leb (counted i.hears) noted
+  is_due noted i = not i.marked && leb (saturated_count i.hears) noted
 
   -- What a link in becomes by the hear of its doorbell, if there was one: its bit was found or not,
   -- and where it was the link is marked.

@@ -1,7 +1,7 @@
 -- The gathering seat: who has its seat still to come, and what was gathered.
 use Rattle.std.specs.Prelude.{◌≡◌, ℕ, ◌<◌, Bool, true, false, List, [], map, length, replicate, slice_index_or, Option}
 use Rattle.std.specs.Prelude.{Some, None}
-use Rattle.item_buffer.specs.Contents.{Contents, shipped}
+use Rattle.item_buffer.specs.Contents.{Contents, as_shipped}
 use Rattle.route_tensor.specs.Grid.{ranks}
 use Rattle.route_tensor.specs.Link.{links}
 use Rattle.route_tensor.specs.Ends.{reader_at}
@@ -13,10 +13,10 @@ use Rattle.link_slots.specs.declared.seat.rank_ends.EndedCounts.{EndedCounts}
 use Rattle.link_slots.specs.Logs.{Lists, got_of}
 use Rattle.link_slots.specs.View.{no_logs}
 use Rattle.link_slots.specs.Shape.{Shape, IsShape}
-use Rattle.link_slots.specs.Told.{Knowing}
-use Rattle.link_slots.specs.Own.{IsOwn}
-use Rattle.list_laws.specs.Counts.{counted}
-use Rattle.link_slots.specs.Closed.{logs_at, ended_of}
+use Rattle.link_slots.specs.WordSteps.{Knowing}
+use Rattle.link_slots.specs.OwnLinks.{IsOwn}
+use Rattle.list_laws.specs.Counts.{saturated_count}
+use Rattle.link_slots.specs.ClosedBank.{logs_at, ended_of}
 
 -- What contracts see of it: its bank, the lists of each rank that has no seat, and which ranks'
 -- seats were given out.
@@ -58,4 +58,4 @@ pub record IsGathering (shape : Shape) (m : Me Contents Knowing) (ends : List (O
   pub each_own : (r : ℕ) (x : Lists Contents) → slice_index_or m.0.lists r None ≡ Some x → IsOwn shape.dims r x
   pub ended_many : length ended ≡ ranks shape.dims
   pub each_ended : (r l : ℕ) → l < links shape.dims → reader_at shape.dims l ≡ r
-      → ended_of (slice_index_or ended r None) l ≡ counted (lasts (map shipped (got_of (logs_at m.0.lists r) l)))
+      → ended_of (slice_index_or ended r None) l ≡ saturated_count (lasts (map as_shipped (got_of (logs_at m.0.lists r) l)))

@@ -8,7 +8,7 @@ use Rattle.atomic_table.specs.Table.{State}
 use Rattle.link_slots.specs.Logs.{OutLog, InLog, out_of, in_of}
 use Rattle.link_slots.specs.Wiring.{bell_word}
 use Rattle.link_slots.specs.Shape.{Shape, wiring}
-use Rattle.link_slots.specs.Told.{Knowing, IsLawful}
+use Rattle.link_slots.specs.WordSteps.{Knowing, IsLawful}
 
 -- What the reader of link l knows when a collect answers Nothing: the link isn't marked, and all
 -- that was seen is taken.

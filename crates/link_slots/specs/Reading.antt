@@ -11,7 +11,7 @@ use Rattle.link_slots.specs.declared.table.wire.Wire.{Wire}
 use Rattle.link_slots.specs.Logs.{in_of}
 use Rattle.link_slots.specs.View.{own_logs, with_logs}
 use Rattle.link_slots.specs.Shape.{Shape}
-use Rattle.link_slots.specs.Told.{Knowing, IsAtIn, StaysSeated}
+use Rattle.link_slots.specs.WordSteps.{Knowing, IsAtIn, StaysSeated}
 use Rattle.link_slots.specs.Counts.{IsInEnd, IsWire, IsHeard, ElseKept}
 
 -- A rank's seat m in its place, and link l, which ends at the rank. What the rank counts of the

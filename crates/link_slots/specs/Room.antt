@@ -6,7 +6,7 @@ use Rattle.route_tensor.specs.Ends.{sender_at, reader_at}
 use Rattle.atomic_table.specs.Table.{State}
 use Rattle.link_slots.specs.Logs.{OutLog, InLog, out_of, in_of}
 use Rattle.link_slots.specs.Shape.{Shape}
-use Rattle.link_slots.specs.Told.{Knowing, IsLawful}
+use Rattle.link_slots.specs.WordSteps.{Knowing, IsLawful}
 
 -- What the sender of a link knows when a post answers NoRoom: it has looked for room since the
 -- latest release, and has posted up to the room that it found.

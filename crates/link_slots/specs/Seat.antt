@@ -1,7 +1,7 @@
 -- What is kept of a rank's seat.
 use Rattle.std.specs.Prelude.{◌≡◌, ℕ, ◌+◌, ◌<◌, List, length, map, slice_index_or}
 use Rattle.item_buffer.specs.Capacity.{IsCap}
-use Rattle.item_buffer.specs.Contents.{Contents, shipped}
+use Rattle.item_buffer.specs.Contents.{Contents, as_shipped}
 use Rattle.route_tensor.specs.Grid.{ranks}
 use Rattle.route_tensor.specs.Link.{links}
 use Rattle.route_tensor.specs.Ends.{sender_at, reader_at}
@@ -15,9 +15,9 @@ use Rattle.atomic_table.specs.Seated.{TableId}
 use Rattle.link_slots.specs.Logs.{out_of, in_of, got_of}
 use Rattle.link_slots.specs.View.{own_logs, IsAlone}
 use Rattle.link_slots.specs.Shape.{Shape, IsShape, IsBoard}
-use Rattle.link_slots.specs.Told.{Knowing, IsManned}
-use Rattle.link_slots.specs.Own.{IsOwn}
-use Rattle.list_laws.specs.Counts.{counted}
+use Rattle.link_slots.specs.WordSteps.{Knowing, IsManned}
+use Rattle.link_slots.specs.OwnLinks.{IsOwn}
+use Rattle.list_laws.specs.Counts.{saturated_count}
 use Rattle.link_slots.specs.Counts.{IsOutEnd, IsInEnd, IsHeard, AreGood, IsWire}
 
 -- The seat speaks for its rank, and its counts are those of the rank's links.
@@ -45,7 +45,7 @@ pub record IsSeat (cap : ℕ) (shape : Shape) (m : Me Contents Knowing) (rank : 
   pub each_good : (l : ℕ) → l < links shape.dims → reader_at shape.dims l ≡ rank
       → AreGood cap shape l (in_of (own_logs m.0) l)
   pub each_ended : (l d : ℕ) → l < links shape.dims → reader_at shape.dims l ≡ rank
-      → slice_index_or ended l d ≡ counted (lasts (map shipped (got_of (own_logs m.0) l)))
+      → slice_index_or ended l d ≡ saturated_count (lasts (map as_shipped (got_of (own_logs m.0) l)))
 
 -- What is kept of a bank beside its table: the way of each link, by its number.
 pub record IsWiredUp (cap : ℕ) (shape : Shape) (id : TableId) (slots : ℕ) (grid : List ℕ)

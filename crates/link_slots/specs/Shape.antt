@@ -1,6 +1,6 @@
 -- A slot bank's grid and number of slots, and what follows from them.
 use Rattle.std.specs.Prelude.{◌≡◌, ℕ, ◌+◌, ◌-◌, ◌*◌, ◌%◌, ◌<◌, ◌≤◌, List, [], map, length}
-use Rattle.item_buffer.specs.Contents.{Contents, shipped, arrived, blank}
+use Rattle.item_buffer.specs.Contents.{Contents, as_shipped, as_arrived, blank}
 use Rattle.route_tensor.specs.Grid.{ranks, dim, coord, IsGrid}
 use Rattle.route_tensor.specs.Link.{links}
 use Rattle.route_tensor.specs.Ends.{hop_at, sender_at, reader_at}
@@ -48,14 +48,14 @@ IsBlank p = p ≡ blank p.epoch
 -- have fair tags, and its epoch is the number
 -- of last parcels before it.
 pub record MayFollow (dims : List ℕ) (cap l : ℕ) (before : List Contents) (p : Contents) : Type 0 where
-  pub fresh : p ≡ arrived (shipped p)
+  pub fresh : p ≡ as_arrived (as_shipped p)
   pub fits : length p.untaken ≤ cap
-  pub fair : HasFairTags dims (hop_at dims l) (shipped p)
-  pub dated : p.epoch ≡ lasts (map shipped before)
+  pub fair : HasFairTags dims (hop_at dims l) (as_shipped p)
+  pub dated : p.epoch ≡ lasts (map as_shipped before)
 
 -- Parcels as a log keeps them.
 abbrev pub shipped_all : (ℕ → List Contents) → Logs
-shipped_all logs = λ l. map shipped (logs l)
+shipped_all logs = λ l. map as_shipped (logs l)
 
 -- The relay law of one rank, over the parcels that it posted and those that it collected.
 abbrev pub KeepsLaw : List ℕ → ℕ → (ℕ → List Contents) → (ℕ → List Contents) → Type 0

@@ -7,7 +7,7 @@ use Rattle.link_slots.specs.declared.seat.ends.OutEnd.{OutEnd}
 use Rattle.link_slots.specs.Logs.{out_of, with_out}
 use Rattle.link_slots.specs.View.{own_logs, with_logs}
 use Rattle.link_slots.specs.Shape.{Shape}
-use Rattle.link_slots.specs.Told.{Knowing, IsAtOut, StaysSeated}
+use Rattle.link_slots.specs.WordSteps.{Knowing, IsAtOut, StaysSeated}
 use Rattle.link_slots.specs.Counts.{IsOutEnd}
 
 -- A rank's seat m in its place, and link l, which starts at the rank and has so many slots. What
@@ -21,7 +21,7 @@ pub record WritesLink (shape : Shape) (table place : TableId) (m : Me Contents K
 
 -- What a rank's step on that link leaves, from m to m': its counts tell again what its lists do,
 -- and what it did on the link is all that changed of the seat.
-pub record HasWritten (shape : Shape) (place place' : TableId) (m m' : Me Contents Knowing) (l : ℕ)
+pub record HasWrittenLink (shape : Shape) (place place' : TableId) (m m' : Me Contents Knowing) (l : ℕ)
     (counts : OutEnd) : Type 0 where
   pub stays : StaysSeated shape place place' m'
   pub end : IsOutEnd shape.slots (out_of (own_logs m'.0) l) counts.sent counts.spare

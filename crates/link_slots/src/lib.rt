@@ -21,11 +21,11 @@
 //! | `SlotRound::ranks`, `SlotRound::epochs` | the number of ranks; how many epochs every link has ended |
 //!
 //! The definitions, in the order in which to read them: `Logs` (what a rank knows of its links),
-//! `Shape` (grid and slots), `Seen` (a bank and a seat, as contracts see them), `Doorbell` (when a
-//! collect hears and looks), `Offered` and `Room` (what Nothing and NoRoom say), `Does` (a call on
-//! a port), `Closed` (a closed round) and `Gathering` (a gathering seat, as contracts see it).
-//! `Wiring`, `View`, `Link`, `Bank`, `Told` and `Plays` are the rule of the table and its steps;
-//! the others are the code's own.
+//! `Shape` (grid and slots), `SeatView` (a bank and a seat, as contracts see them), `Doorbell`
+//! (when a collect hears and looks), `Offered` and `Room` (what Nothing and NoRoom say),
+//! `PortCalls` (a call on a port), `ClosedBank` (a closed round) and `Gathering` (a gathering seat,
+//! as contracts see it). `Wiring`, `View`, `Link`, `Bank`, `WordSteps` and `StepEffects` are the
+//! rule of the table and its steps; the others are the code's own.
 #![tactic(auto)]
 
 mod port;

@@ -1,6 +1,6 @@
 //! A rank's port: its seat, with the bank.
 ghost use Rattle.atomic_table.specs.Seated.{TableId};
-ghost use Rattle.link_slots.specs.Seen.{named};
+ghost use Rattle.link_slots.specs.SeatView.{table_name};
 ghost use Rattle.std.specs.Prelude.{◌≡◌, ◌+◌, ◌==◌, ◌++◌, ◌∷◌, [], length, refl};
 ghost use Rattle.port_bank.specs.Calls.{calls_of};
 ghost use Rattle.port_bank.specs.Calls.Call.{Post, Collect};
@@ -41,7 +41,7 @@ impl<'a, const CAP: usize> SlotPort<'a, CAP> {
     /// The seat, with what this rank sent and got.
     pub fn into_seat(self) -> SlotSeat<CAP>
         ensures seat { result ≡ self.entry.seat }
-        ensures one_bank { (id : TableId) → named self.entry.seat.id ≡ named id → self.entry.seat.id ≡ id }
+        ensures one_bank { (id : TableId) → table_name self.entry.seat.id ≡ table_name id → self.entry.seat.id ≡ id }
     {
         let SlotPort {
             bank: _,
@@ -55,8 +55,8 @@ impl<'a, const CAP: usize> SlotPort<'a, CAP> {
 impl<'a, const CAP: usize> Port<CAP> for SlotPort<'a, CAP> {
     ghost use Rattle.std.specs.Prelude.{◌+◌, ◌==◌, [], length, refl};
     ghost use Rattle.link_slots.specs.Logs.{out_of};
-    ghost use Rattle.link_slots.specs.Does.{DidPost, DidCollect};
-    ghost use Rattle.link_slots.specs.Seen.{posted_on, collected_from, freed, known, listened, noted_at, named};
+    ghost use Rattle.link_slots.specs.PortCalls.{DidPost, DidCollect};
+    ghost use Rattle.link_slots.specs.SeatView.{posted_on, collected_from, freed_on, known_on, listens_on, noted_at, table_name};
     ghost use Rattle.port_bank.specs.Calls.{calls_of};
 
     type Memory = Fixed;
@@ -71,25 +71,25 @@ impl<'a, const CAP: usize> Port<CAP> for SlotPort<'a, CAP> {
 
     ghost got = { λ p. collected_from p.seat };
 
-    ghost freed = { λ p l. freed p.seat l };
+    ghost freed = { λ p l. freed_on p.seat l };
 
-    ghost crowded = { λ p l. length (posted_on p.seat l) == freed p.seat l + p.seat.shape.slots };
+    ghost crowded = { λ p l. length (posted_on p.seat l) == freed_on p.seat l + p.seat.shape.slots };
 
-    ghost known = { λ p l. known p.seat l };
+    ghost known = { λ p l. known_on p.seat l };
 
-    ghost idle = { λ p l. length (collected_from p.seat l) == known p.seat l };
+    ghost idle = { λ p l. length (collected_from p.seat l) == known_on p.seat l };
 
     ghost calls = { λ p. calls_of p.calls.value };
 
     ghost looks_out = { λ p l. (out_of p.seat.lists l).looks };
 
-    ghost looks_in = { λ p l. listened p.seat l };
+    ghost looks_in = { λ p l. listens_on p.seat l };
 
-    ghost listens = { λ p l. listened p.seat l };
+    ghost listens = { λ p l. listens_on p.seat l };
 
     ghost noted = { λ p l. noted_at p.seat l };
 
-    ghost others = { λ p. record { bank = named p.seat.id; sent = λ l. []; got = λ l. [] } };
+    ghost others = { λ p. record { bank = table_name p.seat.id; sent = λ l. []; got = λ l. [] } };
 
     ghost post_does = { λ old l p result new. DidPost old.seat new.seat l p result };
 

@@ -1,11 +1,11 @@
 //! A rank's seat: what the rank knows of its links at the bank's table, and what it counts beside
 //! it.
 ghost use Rattle.std.specs.Prelude.{◌≡◌, ◌≢◌, ◌⊎◌, ℕ, ◌<◌, ◌≤◌, false, length, slice_set, slice_index_or};
-ghost use Rattle.item_buffer.specs.Contents.{shipped, arrived, blank};
+ghost use Rattle.item_buffer.specs.Contents.{as_shipped, as_arrived, blank};
 ghost use Rattle.route_tensor.specs.Link.{links};
 ghost use Rattle.route_tensor.specs.Ends.{hop_at, sender_at, reader_at};
-ghost use Rattle.port_bank.specs.Logs.{lasts, added};
-ghost use Rattle.port_bank.specs.Flow.{Begins};
+ghost use Rattle.port_bank.specs.Logs.{lasts, with_parcel};
+ghost use Rattle.port_bank.specs.Flow.{IsPrefix};
 ghost use Rattle.port_bank.specs.Relay.{RelayLaw};
 ghost use Rattle.link_slots.specs.Logs.{out_of, in_of, with_out, with_in, taken_more, got_of};
 ghost use Rattle.link_slots.specs.Shape.{MayFollow};
@@ -13,7 +13,7 @@ ghost use Rattle.bale_items.specs.Counters.{RoseOrFull};
 ghost use Rattle.port_bank.specs.Port.{changed, IsSlots};
 ghost use Rattle.link_slots.specs.Counts.{ended_after, HasPosted};
 ghost use Rattle.link_slots.specs.Doorbell.{is_due, HeardWhere, LookedFor};
-ghost use Rattle.link_slots.specs.Seen.{Manning, posted_on, collected_from, known, listened, hears_noted, noted_at};
+ghost use Rattle.link_slots.specs.SeatView.{Manning, posted_on, collected_from, known_on, listens_on, hears_noted, noted_at};
 
 pub(crate) mod collect;
 pub(crate) mod ear;
@@ -50,7 +50,7 @@ pub struct SlotSeat<const CAP: usize> {
 impl<const CAP: usize> Model for SlotSeat<CAP> {
     ghost use Rattle.std.specs.Prelude.{map};
     ghost use Rattle.link_slots.specs.View.{own_logs};
-    ghost use Rattle.link_slots.specs.Seen.{Manning};
+    ghost use Rattle.link_slots.specs.SeatView.{Manning};
     ghost use Rattle.link_slots.specs.Seat.{IsSeat};
 
     ghost Value = { Manning };
@@ -84,7 +84,8 @@ impl<const CAP: usize> SlotSeat<CAP> {
         requires starts_here { sender_at self.old.shape.dims link ≡ self.old.rank }
         requires fresh { parcel.old.taken ≡ 0 }
         requires epoch { parcel.old.epoch ≡ lasts (posted_on self.old link) }
-        requires law { RelayLaw self.old.shape.dims self.old.rank (added (posted_on self.old) link (shipped parcel.old))
+        requires law { RelayLaw self.old.shape.dims self.old.rank (with_parcel (posted_on self.old) link (as_shipped
+            parcel.old))
             (collected_from self.old) }
         ensures here { self.new ≡ record self.old {
           lists = with_out self.old.lists link
@@ -140,30 +141,31 @@ impl<const CAP: usize> SlotSeat<CAP> {
         ensures long { link < length self.old.lists.ins }
         ensures outs { self.new.lists.outs ≡ self.old.lists.outs }
         ensures got { result ≡ Collected.Got → collected_from self.new
-            ≡ added (collected_from self.old) link (shipped parcel.new) }
+            ≡ with_parcel (collected_from self.old) link (as_shipped parcel.new) }
         ensures arrived { result ≡ Collected.Got → MayFollow self.old.shape.dims CAP link
             (got_of self.old.lists link) parcel.new }
-        ensures known { result ≡ Collected.Got → length (collected_from self.old link) < known self.new link }
+        ensures known { result ≡ Collected.Got → length (collected_from self.old link) < known_on self.new link }
         ensures own { result ≡ Collected.Got → sender_at self.old.shape.dims link ≡ self.old.rank
-            → Begins (in_of self.new.lists link).seen (out_of self.new.lists link).sent }
+            → IsPrefix (in_of self.new.lists link).seen (out_of self.new.lists link).sent }
         ensures not_got { result ≡ Collected.Nothing → collected_from self.new ≡ collected_from self.old }
-        ensures none_known { result ≡ Collected.Nothing → length (collected_from self.old link) ≡ known self.new link }
-        ensures heard { result ≡ Collected.Nothing → RoseOrFull (noted_at self.old link) (listened self.new link) }
+        ensures none_known { result ≡ Collected.Nothing → length (collected_from self.old link)
+            ≡ known_on self.new link }
+        ensures heard { result ≡ Collected.Nothing → RoseOrFull (noted_at self.old link) (listens_on self.new link) }
         ensures unmarked { result ≡ Collected.Nothing → (in_of self.new.lists link).marked ≡ false }
         ensures kept { result ≡ Collected.Nothing → parcel.new ≡ parcel.old }
-        ensures noted { noted_at self.new ≡ changed (noted_at self.old) link (listened self.new link) }
-        ensures listens { (l : ℕ) → listened self.old l ≤ listened self.new l }
-        ensures known_elsewhere { (l : ℕ) → l ≢ link → known self.new l ≡ known self.old l }
-        ensures at_hand { length (collected_from self.old link) < known self.old link → result ≡ Collected.Got }
-        ensures no_looking { length (collected_from self.old link) < known self.old link
+        ensures noted { noted_at self.new ≡ changed (noted_at self.old) link (listens_on self.new link) }
+        ensures listens { (l : ℕ) → listens_on self.old l ≤ listens_on self.new l }
+        ensures known_elsewhere { (l : ℕ) → l ≢ link → known_on self.new l ≡ known_on self.old l }
+        ensures at_hand { length (collected_from self.old link) < known_on self.old link → result ≡ Collected.Got }
+        ensures no_looking { length (collected_from self.old link) < known_on self.old link
             → self.new.lists ≡ with_in self.old.lists link (taken_more (in_of self.old.lists link)
             (in_of self.new.lists link).released_at) }
-        ensures heard_beside { length (collected_from self.old link) ≡ known self.old link → (m : ℕ)
+        ensures heard_beside { length (collected_from self.old link) ≡ known_on self.old link → (m : ℕ)
             → m < links self.old.shape.dims → reader_at self.old.shape.dims m ≡ self.old.rank
             → hop_at self.old.shape.dims m ≡ hop_at self.old.shape.dims link → m ≢ link
             → HeardWhere (is_due (hears_noted self.old link) (in_of self.old.lists link)) (in_of self.old.lists m)
             (in_of self.new.lists m) }
-        ensures looked_for { length (collected_from self.old link) ≡ known self.old link
+        ensures looked_for { length (collected_from self.old link) ≡ known_on self.old link
             → LookedFor (hears_noted self.old link) (in_of self.old.lists link) (in_of self.new.lists link) }
         ensures other_hops { (m : ℕ) → m < links self.old.shape.dims → reader_at self.old.shape.dims m ≡ self.old.rank
             → hop_at self.old.shape.dims m ≢ hop_at self.old.shape.dims link

@@ -7,11 +7,11 @@ ghost use Rattle.route_tensor.specs.Link.{links};
 ghost use Rattle.port_bank.specs.Port.{IsSlots};
 ghost use Rattle.port_bank.specs.Logs.{starting_at, ending_at};
 ghost use Rattle.port_bank.specs.Round.{IsRound, logs_of};
-ghost use Rattle.link_slots.specs.Closed.{slot_round, AllThere};
+ghost use Rattle.link_slots.specs.ClosedBank.{slot_round, AllThere};
 ghost use Rattle.atomic_table.specs.Table.{opening};
 ghost use Rattle.link_slots.specs.View.{no_logs, first_view};
-ghost use Rattle.link_slots.specs.Told.{IsLawful};
-ghost use Rattle.link_slots.specs.Seen.{Manning, posted_on, collected_from};
+ghost use Rattle.link_slots.specs.WordSteps.{IsLawful};
+ghost use Rattle.link_slots.specs.SeatView.{Manning, posted_on, collected_from};
 
 pub(crate) mod gather;
 pub(crate) mod live;
@@ -43,7 +43,7 @@ pub struct SlotBank<const CAP: usize> {
 }
 
 impl<const CAP: usize> Model for SlotBank<CAP> {
-    ghost use Rattle.link_slots.specs.Seen.{Identity};
+    ghost use Rattle.link_slots.specs.SeatView.{Identity};
     ghost use Rattle.link_slots.specs.Seat.{IsWiredUp};
 
     ghost Value = { Identity };
@@ -92,7 +92,7 @@ impl<const CAP: usize> SlotBank<CAP> {
 
 impl<const CAP: usize> SlotBank<CAP> {
     /// Ends the exchange, where each rank's seat was gathered or never given out: what each rank
-    /// pulled is the front of what the others pushed toward it, and all of it in each epoch that
+    /// pulled is a prefix of what the others pushed toward it, and all of it in each epoch that
     /// every link has ended. Of each gathered rank, the round has the logs of its seat.
     pub fn close(self, g: GatherSeat<CAP>) -> SlotRound
         requires bank { (g.id ≡ self.id) × (g.shape ≡ self.shape) }

@@ -4,5 +4,5 @@ use Rattle.std.specs.Prelude.{ℕ, ◌-◌, ◌^◌, min}
 -- A count as a counter shows it that stands still at its last number.
 -- counted n = min n (2^64 - 1)
 -- Of 3 it is 3.
-abbrev pub counted : ℕ → ℕ
-counted n = min n (2 ^ 64 - 1)
+abbrev pub saturated_count : ℕ → ℕ
+saturated_count n = min n (2 ^ 64 - 1)

@@ -14,10 +14,10 @@ EachAt {X} P xs = (k : ℕ) (d : X) → k < length xs → P k (slice_index_or xs
 abbrev pub changed_at : {X : Type 0} → List X → ℕ → X → (X → X) → List X
 changed_at xs i d f = slice_set xs i (f (slice_index_or xs i d))
 
--- A list is the front of another.
+-- A list is a prefix of another.
 -- whole = front ++ rest
--- [1, 2] begins [1, 2, 3]; every list begins itself.
-pub record Begins {T : Type 0} (front whole : List T) : Type 0 where
+-- [1, 2] is a prefix of [1, 2, 3], and every list of itself.
+pub record IsPrefix {T : Type 0} (front whole : List T) : Type 0 where
   pub rest : List T
   pub is : whole ≡ front ++ rest
 

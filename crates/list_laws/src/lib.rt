@@ -4,7 +4,7 @@
 //!
 //! | Module | Definitions (`specs/`) | Lemmas (`proofs/`) |
 //! |---|---|---|
-//! | `Lists` | `EachAt`: a fact of each place of a list and the element there; `Begins`: a front of a list; `changed`, `changed_at`: a function with one other value, a list with one element changed | reads by `slice_get` after a write, a push or a map; `All` from the front; facts by place |
+//! | `Lists` | `EachAt`: a fact of each place of a list and the element there; `IsPrefix`: a prefix of a list; `changed`, `changed_at`: a function with one other value, a list with one element changed | reads by `slice_get` after a write, a push or a map; `All` from the front; facts by place |
 //! | `Sums` | `total`: a sum over the first n numbers, such as the ranks | bounds, sums of sums, one changed term, the sum of a list |
 //! | `Counts` | `counted`: a count as a counter of 64 bits shows it | |
 //! | `Mapping` | | lists under a map |

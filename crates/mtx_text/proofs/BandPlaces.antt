@@ -9,7 +9,7 @@ use Rattle.bale_items.specs.declared.triple.Triple.{Triple}
 use Rattle.mtx_text.specs.Sparse.{SamePlace}
 use Rattle.mtx_text.specs.Permutations.{Permutes}
 use Rattle.mtx_text.specs.Seeds.{step, word}
-use Rattle.mtx_text.specs.Generated.{diagonal, positions, hidden}
+use Rattle.mtx_text.specs.Generated.{diagonal, positions, hidden_triangle}
 use Rattle.mtx_text.proofs.PlaceOrder.{pairs_head, pairs_tail, pairs_cons, pairs_none}
 use Rattle.mtx_text.proofs.Bands.{as_many}
 
@@ -100,25 +100,25 @@ Apart s t = ¬ SamePlace s t
 
 all_hidden : (p q : List ℕ) (P : Triple → Type 0) (Q : ℕ × ℕ → Type 0)
     → ((x : ℕ × ℕ) (w : ℕ) → Q x → P (record { i = slice_index p x.0; j = slice_index q x.1; v = pos (1 + w % 1000) }))
-    → (state : ℕ) (xs : List (ℕ × ℕ)) → All Q xs → All P (hidden p q state xs)
+    → (state : ℕ) (xs : List (ℕ × ℕ)) → All Q xs → All P (hidden_triangle p q state xs)
 all_hidden p q P Q f state [] h = All-nil P
 all_hidden p q P Q f state (x ∷ xs) h =
-    All-cons P _ (hidden p q (step state) xs) (f x (word state) (All-head Q x xs h)) (all_hidden p q P Q f (step state) xs (All-tail Q x xs h))
+    All-cons P _ (hidden_triangle p q (step state) xs) (f x (word state) (All-head Q x xs h)) (all_hidden p q P Q f (step state) xs (All-tail Q x xs h))
 
-hidden_apart : (n : ℕ) (p q : List ℕ) (state : ℕ) (xs : List (ℕ × ℕ)) → Permutes n p → Permutes n q → All (IsInside n) xs → AllPairs Differ xs → AllPairs Apart (hidden p q state xs)
+hidden_apart : (n : ℕ) (p q : List ℕ) (state : ℕ) (xs : List (ℕ × ℕ)) → Permutes n p → Permutes n q → All (IsInside n) xs → AllPairs Differ xs → AllPairs Apart (hidden_triangle p q state xs)
 hidden_apart n p q state [] hp hq inside h = pairs_none Apart
 hidden_apart n p q state (x ∷ xs) hp hq inside h =
     let here : IsInside n x = All-head (IsInside n) x xs inside in
     let first : Triple = record { i = slice_index p x.0; j = slice_index q x.1; v = pos (1 + word state % 1000) } in
     let others : All (λ y. IsInside n y × Differ x y) xs = λ k d l. (All-tail (IsInside n) x xs inside k d l, pairs_head Differ x xs h k d l) in
-    pairs_cons Apart first (hidden p q (step state) xs)
+    pairs_cons Apart first (hidden_triangle p q (step state) xs)
     (all_hidden p q (Apart first) (λ y. IsInside n y × Differ x y)
     (λ y w g same. g.1 (injective n p x.0 y.0 hp here.row g.0.row same.row) (injective n q x.1 y.1 hq here.col g.0.col same.col))
     (step state) xs others)
     (hidden_apart n p q (step state) xs hp hq (All-tail (IsInside n) x xs inside) (pairs_tail Differ x xs h))
 
 -- the entries of a generated matrix stand at places of their own
-pub places_apart : (n m : ℕ) (p q : List ℕ) (state : ℕ) → Permutes n p → Permutes n q → AllPairs Apart (hidden p q state (positions n m))
+pub places_apart : (n m : ℕ) (p q : List ℕ) (state : ℕ) → Permutes n p → Permutes n q → AllPairs Apart (hidden_triangle p q state (positions n m))
 places_apart n m p q state hp hq =
     hidden_apart n p q state (positions n m) hp hq (All-take (IsInside n) m (flat_map (diagonal n) (range_with_len 0 n)) (band_inside n 0 n))
     (pairs_take Differ m (flat_map (diagonal n) (range_with_len 0 n)) (band_apart n 0 n))

@@ -13,7 +13,7 @@ use Rattle.mtx_text.specs.Sparse.{IsEntry}
 use Rattle.mtx_text.specs.Cells.{sparse}
 use Rattle.mtx_text.specs.Permutations.{Permutes}
 use Rattle.mtx_text.specs.Seeds.{step, word}
-use Rattle.mtx_text.specs.Generated.{diagonal, hidden}
+use Rattle.mtx_text.specs.Generated.{diagonal, hidden_triangle}
 
 -- a permutation of n numbers has n elements, all below n
 pub as_many : (n : ℕ) (p : List ℕ) → Permutes n p → length p ≡ n
@@ -83,15 +83,15 @@ room_start n m h =
 
 -- one more entry
 pub hidden_more : (p q : List ℕ) (state left i j : ℕ) (done : List Triple) (xs rest : List (ℕ × ℕ)) (whole : List Triple) → 0 < left → xs ≡ (i, j) ∷ rest
-    → done ++ hidden p q state (take left xs) ≡ whole
-    → done ++ record { i = slice_index p i; j = slice_index q j; v = pos (1 + word state % 1000) } ∷ [] ++ hidden p q (step state) (take (left - 1) rest) ≡ whole
+    → done ++ hidden_triangle p q state (take left xs) ≡ whole
+    → done ++ record { i = slice_index p i; j = slice_index q j; v = pos (1 + word state % 1000) } ∷ [] ++ hidden_triangle p q (step state) (take (left - 1) rest) ≡ whole
 hidden_more p q state zero i j done xs rest whole h e t = absurd (omega arith)
 hidden_more p q state (suc left) i j done xs rest whole h e t =
     let one : suc left - 1 ≡ left = omega arith in
     let x : Triple = record { i = slice_index p i; j = slice_index q j; v = pos (1 + word state % 1000) } in
-    ap (λ k. done ++ x ∷ [] ++ hidden p q (step state) (take k rest)) one
-    ∙ append_assoc done (x ∷ []) (hidden p q (step state) (take left rest))
-    ∙ sym (ap (λ ys. done ++ hidden p q state (take (suc left) ys)) e)
+    ap (λ k. done ++ x ∷ [] ++ hidden_triangle p q (step state) (take k rest)) one
+    ∙ append_assoc done (x ∷ []) (hidden_triangle p q (step state) (take left rest))
+    ∙ sym (ap (λ ys. done ++ hidden_triangle p q state (take (suc left) ys)) e)
     ∙ t
 
 pub entry_inside : (n : ℕ) (p q : List ℕ) (i j w : ℕ) → Permutes n p → Permutes n q → i < n → j < n

@@ -8,7 +8,7 @@ use Rattle.std.specs.Prelude.{nat_le}
 use Rattle.std.specs.Char.{is_ascii_digit, digit_value}
 use Rattle.std.specs.Str.Parse.{digits_value}
 use lib.Bits.{and_block, and_mask}
-use Rattle.mtx_text.specs.code.DigitLanes.{word_of, word_from, number_from}
+use Rattle.mtx_text.specs.code.DigitLanes.{lane_word, word_from, number_from}
 use Rattle.mtx_text.specs.code.PlainLines.{NumberTo}
 use Rattle.mtx_text.proofs.Digits.{digit_is}
 
@@ -128,7 +128,7 @@ shifted_5 word a b c d e r A B C D E is = omega (arith, is)
 -- at its end, and their number.
 pub record Front (text : List ℕ) (len : ℕ) : Type 0 where
   pub small : (k : ℕ) → k < 8 → padded text len k ≤ 9
-  pub word : shifted (word_of text) len ≡ word_from (padded text len)
+  pub word : shifted (lane_word text) len ≡ word_from (padded text len)
   pub number : NumberTo text len (number_from (padded text len))
 
 padded_small : (text : List ℕ) (len k : ℕ) → k < 8 → len ≤ 8 → len ≤ length text → list_all is_ascii_digit (take len text) ≡ true
@@ -142,7 +142,7 @@ of_1 text room all =
     let v0 : digits_value 10 (take 1 text) ≡ digits_value 10 (take 0 text) * 10 + digit_value (get_or text 0 0) = digits_value_more 10 text 0 (omega arith) in
     record {
       small = λ i few. padded_small text 1 i few (omega arith) (omega arith) all (leb (8 - 1) i) refl;
-      word = shifted_1 (word_of text) (digit_value (get_or text 0 0)) (get_or text 1 0 + 256 * (get_or text 2 0 + 256 * (get_or text 3 0 + 256 * (get_or text 4 0 + 256 * (get_or text 5 0 + 256 * (get_or text 6 0 + 256 * get_or text 7 0)))))) d0.1 (omega (arith, d0.0)) ∙ omega arith;
+      word = shifted_1 (lane_word text) (digit_value (get_or text 0 0)) (get_or text 1 0 + 256 * (get_or text 2 0 + 256 * (get_or text 3 0 + 256 * (get_or text 4 0 + 256 * (get_or text 5 0 + 256 * (get_or text 6 0 + 256 * get_or text 7 0)))))) d0.1 (omega (arith, d0.0)) ∙ omega arith;
       number = record { digits = all; value = λ _. omega (arith, d0.1, v0); below = λ _. omega (arith, d0.1) };
     }
 
@@ -154,7 +154,7 @@ of_2 text room all =
     let v1 : digits_value 10 (take 2 text) ≡ digits_value 10 (take 1 text) * 10 + digit_value (get_or text 1 0) = digits_value_more 10 text 1 (omega arith) in
     record {
       small = λ i few. padded_small text 2 i few (omega arith) (omega arith) all (leb (8 - 2) i) refl;
-      word = shifted_2 (word_of text) (digit_value (get_or text 0 0)) (digit_value (get_or text 1 0)) (get_or text 2 0 + 256 * (get_or text 3 0 + 256 * (get_or text 4 0 + 256 * (get_or text 5 0 + 256 * (get_or text 6 0 + 256 * get_or text 7 0))))) d0.1 d1.1 (omega (arith, d0.0, d1.0)) ∙ omega arith;
+      word = shifted_2 (lane_word text) (digit_value (get_or text 0 0)) (digit_value (get_or text 1 0)) (get_or text 2 0 + 256 * (get_or text 3 0 + 256 * (get_or text 4 0 + 256 * (get_or text 5 0 + 256 * (get_or text 6 0 + 256 * get_or text 7 0))))) d0.1 d1.1 (omega (arith, d0.0, d1.0)) ∙ omega arith;
       number = record { digits = all; value = λ _. omega (arith, d0.1, d1.1, v0, v1); below = λ _. omega (arith, d0.1, d1.1) };
     }
 
@@ -168,7 +168,7 @@ of_3 text room all =
     let v2 : digits_value 10 (take 3 text) ≡ digits_value 10 (take 2 text) * 10 + digit_value (get_or text 2 0) = digits_value_more 10 text 2 (omega arith) in
     record {
       small = λ i few. padded_small text 3 i few (omega arith) (omega arith) all (leb (8 - 3) i) refl;
-      word = shifted_3 (word_of text) (digit_value (get_or text 0 0)) (digit_value (get_or text 1 0)) (digit_value (get_or text 2 0)) (get_or text 3 0 + 256 * (get_or text 4 0 + 256 * (get_or text 5 0 + 256 * (get_or text 6 0 + 256 * get_or text 7 0)))) d0.1 d1.1 d2.1 (omega (arith, d0.0, d1.0, d2.0)) ∙ omega arith;
+      word = shifted_3 (lane_word text) (digit_value (get_or text 0 0)) (digit_value (get_or text 1 0)) (digit_value (get_or text 2 0)) (get_or text 3 0 + 256 * (get_or text 4 0 + 256 * (get_or text 5 0 + 256 * (get_or text 6 0 + 256 * get_or text 7 0)))) d0.1 d1.1 d2.1 (omega (arith, d0.0, d1.0, d2.0)) ∙ omega arith;
       number = record { digits = all; value = λ _. omega (arith, d0.1, d1.1, d2.1, v0, v1, v2); below = λ _. omega (arith, d0.1, d1.1, d2.1) };
     }
 
@@ -184,7 +184,7 @@ of_4 text room all =
     let v3 : digits_value 10 (take 4 text) ≡ digits_value 10 (take 3 text) * 10 + digit_value (get_or text 3 0) = digits_value_more 10 text 3 (omega arith) in
     record {
       small = λ i few. padded_small text 4 i few (omega arith) (omega arith) all (leb (8 - 4) i) refl;
-      word = shifted_4 (word_of text) (digit_value (get_or text 0 0)) (digit_value (get_or text 1 0)) (digit_value (get_or text 2 0)) (digit_value (get_or text 3 0)) (get_or text 4 0 + 256 * (get_or text 5 0 + 256 * (get_or text 6 0 + 256 * get_or text 7 0))) d0.1 d1.1 d2.1 d3.1 (omega (arith, d0.0, d1.0, d2.0, d3.0)) ∙ omega arith;
+      word = shifted_4 (lane_word text) (digit_value (get_or text 0 0)) (digit_value (get_or text 1 0)) (digit_value (get_or text 2 0)) (digit_value (get_or text 3 0)) (get_or text 4 0 + 256 * (get_or text 5 0 + 256 * (get_or text 6 0 + 256 * get_or text 7 0))) d0.1 d1.1 d2.1 d3.1 (omega (arith, d0.0, d1.0, d2.0, d3.0)) ∙ omega arith;
       number = record { digits = all; value = λ _. omega (arith, d0.1, d1.1, d2.1, d3.1, v0, v1, v2, v3); below = λ _. omega (arith, d0.1, d1.1, d2.1, d3.1) };
     }
 
@@ -202,7 +202,7 @@ of_5 text room all =
     let v4 : digits_value 10 (take 5 text) ≡ digits_value 10 (take 4 text) * 10 + digit_value (get_or text 4 0) = digits_value_more 10 text 4 (omega arith) in
     record {
       small = λ i few. padded_small text 5 i few (omega arith) (omega arith) all (leb (8 - 5) i) refl;
-      word = shifted_5 (word_of text) (digit_value (get_or text 0 0)) (digit_value (get_or text 1 0)) (digit_value (get_or text 2 0)) (digit_value (get_or text 3 0)) (digit_value (get_or text 4 0)) (get_or text 5 0 + 256 * (get_or text 6 0 + 256 * get_or text 7 0)) d0.1 d1.1 d2.1 d3.1 d4.1 (omega (arith, d0.0, d1.0, d2.0, d3.0, d4.0)) ∙ omega arith;
+      word = shifted_5 (lane_word text) (digit_value (get_or text 0 0)) (digit_value (get_or text 1 0)) (digit_value (get_or text 2 0)) (digit_value (get_or text 3 0)) (digit_value (get_or text 4 0)) (get_or text 5 0 + 256 * (get_or text 6 0 + 256 * get_or text 7 0)) d0.1 d1.1 d2.1 d3.1 d4.1 (omega (arith, d0.0, d1.0, d2.0, d3.0, d4.0)) ∙ omega arith;
       number = record { digits = all; value = λ _. omega (arith, d0.1, d1.1, d2.1, d3.1, d4.1, v0, v1, v2, v3, v4); below = λ _. omega (arith, d0.1, d1.1, d2.1, d3.1, d4.1) };
     }
 

@@ -11,7 +11,7 @@ use Rattle.mtx_text.specs.declared.kind.Kind.TheVariants as kind
 use Rattle.mtx_text.specs.declared.refusal.Reason.TheVariants as reason
 use Rattle.mtx_text.specs.declared.sizes.Sizes.{Sizes}
 use Rattle.mtx_text.specs.Integers.{integer_of}
-use Rattle.mtx_text.specs.Grammar.{◌>>=◌, three_of, natural_of, is_general, within_limits, sizes_by, five_of, qualified, accepted, spells, kind_of, symmetry_of, form_of}
+use Rattle.mtx_text.specs.Grammar.{◌>>=◌, three_of, natural_of, is_general, within_limits, sizes_by, five_of, banner_form, profile_form, spells, kind_of, symmetry_of, form_of}
 use Rattle.mtx_text.proofs.Given.{ran, ok_or-some}
 
 -- what the form and the sizes of a text keep
@@ -22,7 +22,7 @@ pub record IsFrame (form : Form) (sizes : Sizes) : Type 0 where
   pub square : is_general form.symmetry ≡ false → sizes.rows ≡ sizes.cols
   pub plain : form.kind ≡ kind.Pattern → form.symmetry ≡ SkewSymmetric → ⊥
 
-accepted_in : (k : Option Kind) (s : Option Symmetry) (form : Form) → accepted k s ≡ Some form → form.kind ≡ kind.Pattern → form.symmetry ≡ SkewSymmetric → ⊥
+accepted_in : (k : Option Kind) (s : Option Symmetry) (form : Form) → profile_form k s ≡ Some form → form.kind ≡ kind.Pattern → form.symmetry ≡ SkewSymmetric → ⊥
 accepted_in None s form h a b = cc
 accepted_in (Some k) None form h a b = cc
 accepted_in (Some kind.Pattern) (Some SkewSymmetric) form h a b = cc
@@ -30,7 +30,7 @@ accepted_in (Some kind.Pattern) (Some General) form h a b = cc
 accepted_in (Some kind.Pattern) (Some Symmetric) form h a b = cc
 accepted_in (Some kind.Integer) (Some s) form h a b = cc
 
-qualified_in : (five : List ℕ × List ℕ × List ℕ × List ℕ × List ℕ) (form : Form) → qualified five ≡ Ok form → form.kind ≡ kind.Pattern → form.symmetry ≡ SkewSymmetric → ⊥
+qualified_in : (five : List ℕ × List ℕ × List ℕ × List ℕ × List ℕ) (form : Form) → banner_form five ≡ Ok form → form.kind ≡ kind.Pattern → form.symmetry ≡ SkewSymmetric → ⊥
 qualified_in five form h =
     elim (cases_Bool (not (bytes_eq five.0 (codes "%%MatrixMarket")))) [
       | inl other ↦
@@ -41,7 +41,7 @@ qualified_in five form h =
           elim (cases_Bool (spells (codes "matrix") five.1 && spells (codes "coordinate") five.2)) [
             | inl named ↦
                 let is = rw named at step in
-                accepted_in (kind_of five.3) (symmetry_of five.4) form (ok_or-some (accepted (kind_of five.3) (symmetry_of five.4)) reason.Unsupported form is)
+                accepted_in (kind_of five.3) (symmetry_of five.4) form (ok_or-some (profile_form (kind_of five.3) (symmetry_of five.4)) reason.Unsupported form is)
             | inr unnamed ↦
                 let bad = rw unnamed at step in
                 cc
@@ -50,7 +50,7 @@ qualified_in five form h =
 
 pub form_in : (words : List (List ℕ)) (form : Form) → form_of words ≡ Ok form → form.kind ≡ kind.Pattern → form.symmetry ≡ SkewSymmetric → ⊥
 form_in words form h =
-    let r = ran (ok_or (five_of words) reason.Banner) qualified form h in
+    let r = ran (ok_or (five_of words) reason.Banner) banner_form form h in
     qualified_in r.x form r.then_
 
 square_from : (general : Bool) (rows cols : ℕ) → (not general && not (rows == cols)) ≡ false → general ≡ false → rows ≡ cols

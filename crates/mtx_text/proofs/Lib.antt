@@ -9,6 +9,7 @@ pub mod PlainLines
 pub mod Walk
 pub mod Steps
 pub mod Decides
+pub mod Pieces
 pub mod Chains
 pub mod RowByRow
 pub mod Given

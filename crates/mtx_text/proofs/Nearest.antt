@@ -7,7 +7,7 @@ use Rattle.std.proofs.lemmas.List.{get_or_default}
 use Rattle.bale_items.specs.declared.triple.Triple.{Triple}
 use Rattle.mtx_text.specs.Grammar.{has_place}
 use Rattle.mtx_text.specs.Maps.{is_at}
-use Rattle.mtx_text.specs.Cells.{is_before, comes_before, InOrder, raised, first_from}
+use Rattle.mtx_text.specs.Cells.{is_before, comes_before, InOrder, with_value_raised, first_from}
 use Rattle.mtx_text.proofs.PlaceOrder.{pairs_tail, before_trans, place_cases, not_after, not_before_itself, all_after}
 use Rattle.mtx_text.proofs.Raised.{greater, raised_later, raised_first, raised_here, not_at, at_from}
 
@@ -36,17 +36,17 @@ first_here i j c cells h = ap (λ b. cond b (first_from i j cells) (Some c)) h
 still_not : (i j : ℕ) (s t : Triple) → is_before s t ≡ true → comes_before s.i s.j i j ≡ false → comes_before t.i t.j i j ≡ false
 still_not i j s t b h = false_from_ne_true (comes_before t.i t.j i j) (λ g. false≢true (sym h ∙ before_trans s t (place i j) b g))
 
-pub first_raised : (i j : ℕ) (t : Triple) (cells : List Triple) → InOrder cells → first_from i j (raised t cells) ≡ with_one i j t (first_from i j cells)
+pub first_raised : (i j : ℕ) (t : Triple) (cells : List Triple) → InOrder cells → first_from i j (with_value_raised t cells) ≡ with_one i j t (first_from i j cells)
 first_raised i j t [] h = refl
 first_raised i j t (c ∷ cells) h =
     elim (place_cases c t) [
       | inl x ↦ ap (first_from i j) (raised_later t c cells x) ∙ elim (cases_Bool (comes_before c.i c.j i j)) [
         | inl b ↦
-            first_later i j c (raised t cells) b
+            first_later i j c (with_value_raised t cells) b
             ∙ first_raised i j t cells (pairs_tail Ahead c cells h)
             ∙ ap (with_one i j t) (sym (first_later i j c cells b))
         | inr n ↦
-            first_here i j c (raised t cells) n
+            first_here i j c (with_value_raised t cells) n
             ∙ ap (λ b. Some (cond b c (greater c t))) (sym x)
             ∙ ap (λ b. Some (cond b t (cond (is_before c t) c (greater c t)))) (sym (not_after c.i c.j t.i t.j x))
             ∙ ap (λ b. cond b (Some c) (near t (Some c))) (sym (still_not i j c t x n))
@@ -82,7 +82,7 @@ first_raised i j t (c ∷ cells) h =
 
 -- what is the first with one more triple
 pub nearer_is : (i j : ℕ) (t : Triple) (best new : Option Triple) → new ≡ with_one i j t best
-    → (cells : List Triple) → InOrder cells → best ≡ first_from i j cells → new ≡ first_from i j (raised t cells)
+    → (cells : List Triple) → InOrder cells → best ≡ first_from i j cells → new ≡ first_from i j (with_value_raised t cells)
 nearer_is i j t best new e cells h b = e ∙ ap (with_one i j t) b ∙ sym (first_raised i j t cells h)
 
 -- the first from a place on, by what stands before it

@@ -4,7 +4,7 @@ use Rattle.std.specs.List.{All, AllPairs}
 use Rattle.bale_items.specs.declared.triple.Triple.{Triple}
 use Rattle.mtx_text.specs.declared.kind.Kind.{Kind}
 use Rattle.mtx_text.specs.Sparse.{Sparse, IsSparse, IsEntry, SamePlace}
-use Rattle.mtx_text.specs.Cells.{InOrder, is_before, raised, sparse}
+use Rattle.mtx_text.specs.Cells.{InOrder, is_before, with_value_raised, sparse}
 use Rattle.mtx_text.proofs.PlaceOrder.{not_same}
 use Rattle.mtx_text.proofs.Raised.{greater}
 use Rattle.mtx_text.proofs.Gathered.{raised_keeps}
@@ -45,6 +45,6 @@ greater_entry m s t e f a b =
 
 -- a value raised inside the matrix leaves the cells inside it
 pub raised_inside : (rows cols : ℕ) (kind : Kind) (t : Triple) (cells : List Triple) → IsEntry (sparse rows cols kind []) t
-    → All (λ u. IsEntry (sparse rows cols kind []) u) cells → All (λ u. IsEntry (sparse rows cols kind []) u) (raised t cells)
+    → All (λ u. IsEntry (sparse rows cols kind []) u) cells → All (λ u. IsEntry (sparse rows cols kind []) u) (with_value_raised t cells)
 raised_inside rows cols kind t cells e all =
     raised_keeps (λ u. IsEntry (sparse rows cols kind []) u) (greater_entry (sparse rows cols kind [])) t cells e all

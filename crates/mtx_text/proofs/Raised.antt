@@ -8,7 +8,7 @@ use Rattle.std.proofs.lemmas.Option.{same_Some}
 use Rattle.std.proofs.lemmas.Int.{ints, clamps}
 use Rattle.bale_items.specs.declared.triple.Triple.{Triple}
 use Rattle.mtx_text.specs.Maps.{is_at, value_at}
-use Rattle.mtx_text.specs.Cells.{is_before, InOrder, raised}
+use Rattle.mtx_text.specs.Cells.{is_before, InOrder, with_value_raised}
 use Rattle.mtx_text.proofs.PlaceOrder.{pairs_head, pairs_tail, pairs_cons, pairs_none, place_cases, not_same, not_after, not_before_itself, all_after}
 
 abbrev Ahead : Triple → Triple → Type 0
@@ -63,27 +63,27 @@ value_later i j c cells h = ap (λ b. cond b (Some c.v) (value_at cells i j)) h
 abbrev pub greater : Triple → Triple → Triple
 greater c t = record { i = c.i; j = c.j; v = int_max c.v t.v }
 
-pub raised_later : (t c : Triple) (cells : List Triple) → is_before c t ≡ true → raised t (c ∷ cells) ≡ c ∷ raised t cells
-raised_later t c cells h = ap (λ b. cond b (c ∷ raised t cells) (cond (is_before t c) (t ∷ c ∷ cells) (greater c t ∷ cells))) h
+pub raised_later : (t c : Triple) (cells : List Triple) → is_before c t ≡ true → with_value_raised t (c ∷ cells) ≡ c ∷ with_value_raised t cells
+raised_later t c cells h = ap (λ b. cond b (c ∷ with_value_raised t cells) (cond (is_before t c) (t ∷ c ∷ cells) (greater c t ∷ cells))) h
 
-pub raised_first : (t c : Triple) (cells : List Triple) → is_before t c ≡ true → raised t (c ∷ cells) ≡ t ∷ c ∷ cells
+pub raised_first : (t c : Triple) (cells : List Triple) → is_before t c ≡ true → with_value_raised t (c ∷ cells) ≡ t ∷ c ∷ cells
 raised_first t c cells h =
-    ap (λ b. cond b (c ∷ raised t cells) (cond (is_before t c) (t ∷ c ∷ cells) (greater c t ∷ cells))) (not_after t.i t.j c.i c.j h)
+    ap (λ b. cond b (c ∷ with_value_raised t cells) (cond (is_before t c) (t ∷ c ∷ cells) (greater c t ∷ cells))) (not_after t.i t.j c.i c.j h)
     ∙ ap (λ b. cond b (t ∷ c ∷ cells) (greater c t ∷ cells)) h
 
-pub raised_here : (t c : Triple) (cells : List Triple) → c.i ≡ t.i → c.j ≡ t.j → raised t (c ∷ cells) ≡ greater c t ∷ cells
+pub raised_here : (t c : Triple) (cells : List Triple) → c.i ≡ t.i → c.j ≡ t.j → with_value_raised t (c ∷ cells) ≡ greater c t ∷ cells
 raised_here t c cells e f =
-    ap (λ b. cond b (c ∷ raised t cells) (cond (is_before t c) (t ∷ c ∷ cells) (greater c t ∷ cells))) (not_before_itself c.i c.j t.i t.j e f)
+    ap (λ b. cond b (c ∷ with_value_raised t cells) (cond (is_before t c) (t ∷ c ∷ cells) (greater c t ∷ cells))) (not_before_itself c.i c.j t.i t.j e f)
     ∙ ap (λ b. cond b (t ∷ c ∷ cells) (greater c t ∷ cells)) (not_before_itself t.i t.j c.i c.j (sym e) (sym f))
 
 -- ---- Order is kept
 
-all_raised : (s t : Triple) (cells : List Triple) → is_before s t ≡ true → All (Ahead s) cells → All (Ahead s) (raised t cells)
+all_raised : (s t : Triple) (cells : List Triple) → is_before s t ≡ true → All (Ahead s) cells → All (Ahead s) (with_value_raised t cells)
 all_raised s t [] b h = All-cons (Ahead s) t [] b h
 all_raised s t (c ∷ cells) b h =
     elim (place_cases c t) [
       | inl x ↦ subst (All (Ahead s)) (sym (raised_later t c cells x))
-          (All-cons (Ahead s) c (raised t cells) (All-head (Ahead s) c cells h) (all_raised s t cells b (All-tail (Ahead s) c cells h)))
+          (All-cons (Ahead s) c (with_value_raised t cells) (All-head (Ahead s) c cells h) (all_raised s t cells b (All-tail (Ahead s) c cells h)))
       | inr o ↦ elim o [
         | inl x ↦ subst (All (Ahead s)) (sym (raised_here t c cells x.0 x.1))
             (All-cons (Ahead s) (greater c t) cells (All-head (Ahead s) c cells h) (All-tail (Ahead s) c cells h))
@@ -91,12 +91,12 @@ all_raised s t (c ∷ cells) b h =
       ]
     ]
 
-pub raised_ordered : (t : Triple) (cells : List Triple) → InOrder cells → InOrder (raised t cells)
+pub raised_ordered : (t : Triple) (cells : List Triple) → InOrder cells → InOrder (with_value_raised t cells)
 raised_ordered t [] h = pairs_cons Ahead t [] (λ k d l. absurd (omega arith)) (pairs_none Ahead)
 raised_ordered t (c ∷ cells) h =
     elim (place_cases c t) [
       | inl x ↦ subst InOrder (sym (raised_later t c cells x))
-          (pairs_cons Ahead c (raised t cells) (all_raised c t cells x (pairs_head Ahead c cells h)) (raised_ordered t cells (pairs_tail Ahead c cells h)))
+          (pairs_cons Ahead c (with_value_raised t cells) (all_raised c t cells x (pairs_head Ahead c cells h)) (raised_ordered t cells (pairs_tail Ahead c cells h)))
       | inr o ↦ elim o [
         | inl x ↦ subst InOrder (sym (raised_here t c cells x.0 x.1))
             (pairs_cons Ahead (greater c t) cells (pairs_head Ahead c cells h) (pairs_tail Ahead c cells h))
@@ -107,17 +107,17 @@ raised_ordered t (c ∷ cells) h =
 
 -- ---- The value at each place
 
-pub value_raised : (i j : ℕ) (t : Triple) (cells : List Triple) → InOrder cells → value_at (raised t cells) i j ≡ lifted i j t (value_at cells i j)
+pub value_raised : (i j : ℕ) (t : Triple) (cells : List Triple) → InOrder cells → value_at (with_value_raised t cells) i j ≡ lifted i j t (value_at cells i j)
 value_raised i j t [] h = refl
 value_raised i j t (c ∷ cells) h =
     elim (place_cases c t) [
       | inl x ↦ ap (λ xs. value_at xs i j) (raised_later t c cells x) ∙ elim (cases_Bool (is_at i j c)) [
         | inl y ↦
-            value_first i j c (raised t cells) y
+            value_first i j c (with_value_raised t cells) y
             ∙ ap (λ b. cond b (Some (most (Some c.v) t.v)) (Some c.v)) (sym (not_at i j c t x y))
             ∙ ap (lifted i j t) (sym (value_first i j c cells y))
         | inr n ↦
-            value_later i j c (raised t cells) n
+            value_later i j c (with_value_raised t cells) n
             ∙ value_raised i j t cells (pairs_tail Ahead c cells h)
             ∙ ap (lifted i j t) (sym (value_later i j c cells n))
       ]
@@ -215,10 +215,10 @@ lifted_comm i j s t o = go (is_at i j s) (is_at i j t) o
     go false true o = refl
     go false false o = refl
 
-pub raised_comm : (s t : Triple) (cells : List Triple) → InOrder cells → raised s (raised t cells) ≡ raised t (raised s cells)
+pub raised_comm : (s t : Triple) (cells : List Triple) → InOrder cells → with_value_raised s (with_value_raised t cells) ≡ with_value_raised t (with_value_raised s cells)
 raised_comm s t cells h = same_cells _ _
-    (raised_ordered s (raised t cells) (raised_ordered t cells h)) (raised_ordered t (raised s cells) (raised_ordered s cells h))
+    (raised_ordered s (with_value_raised t cells) (raised_ordered t cells h)) (raised_ordered t (with_value_raised s cells) (raised_ordered s cells h))
     (λ i j.
-    value_raised i j s (raised t cells) (raised_ordered t cells h) ∙ ap (lifted i j s) (value_raised i j t cells h)
+    value_raised i j s (with_value_raised t cells) (raised_ordered t cells h) ∙ ap (lifted i j s) (value_raised i j t cells h)
     ∙ lifted_comm i j s t (value_at cells i j)
-    ∙ sym (value_raised i j t (raised s cells) (raised_ordered s cells h) ∙ ap (lifted i j t) (value_raised i j s cells h)))
+    ∙ sym (value_raised i j t (with_value_raised s cells) (raised_ordered s cells h) ∙ ap (lifted i j t) (value_raised i j s cells h)))

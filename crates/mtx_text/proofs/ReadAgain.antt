@@ -13,7 +13,7 @@ use Rattle.std.proofs.lemmas.Str.Parse.{digit_at}
 use Rattle.mtx_text.specs.Lines.{pieces, without_cr, lines_of, is_blank, words_of}
 use Rattle.mtx_text.specs.declared.integer.Integer.{Integer}
 use Rattle.std.specs.Option.{option_map}
-use Rattle.mtx_text.specs.Integers.{digits_of, integer_of, signed, value_of}
+use Rattle.mtx_text.specs.Integers.{digits_of, integer_of, with_sign, value_of}
 
 -- ---- Lines
 
@@ -120,26 +120,26 @@ digits_read : (ds : List ℕ) → IsNumeral 10 ds → digits_of ds ≡ Some (dig
 digits_read [] h = absurd (let l : 0 < 0 = h.0 in omega arith)
 digits_read (b ∷ ds) h = ap (λ t. cond t (Some (digits_value 10 (b ∷ ds))) None) (all_digits (b ∷ ds) h.1)
 
-numeral_read : (ds : List ℕ) → IsNumeral 10 ds → integer_of ds ≡ Some (signed false (digits_value 10 ds))
+numeral_read : (ds : List ℕ) → IsNumeral 10 ds → integer_of ds ≡ Some (with_sign false (digits_value 10 ds))
 numeral_read [] h = absurd (let l : 0 < 0 = h.0 in omega arith)
 numeral_read (b ∷ ds) h =
     let r : IsInRange 48 57 b = digit_at (b ∷ ds) 0 h.1 (omega arith) in
-    ap (λ t. cond t (option_map (signed false) (digits_of ds)) (cond (eqb b 45) (option_map (signed true) (digits_of ds)) (option_map (signed false) (digits_of (b ∷ ds))))) (ne_eqb b 43 (λ e. omega (arith, r)))
-    ∙ ap (λ t. cond t (option_map (signed true) (digits_of ds)) (option_map (signed false) (digits_of (b ∷ ds)))) (ne_eqb b 45 (λ e. omega (arith, r)))
-    ∙ ap (option_map (signed false)) (digits_read (b ∷ ds) h)
+    ap (λ t. cond t (option_map (with_sign false) (digits_of ds)) (cond (eqb b 45) (option_map (with_sign true) (digits_of ds)) (option_map (with_sign false) (digits_of (b ∷ ds))))) (ne_eqb b 43 (λ e. omega (arith, r)))
+    ∙ ap (λ t. cond t (option_map (with_sign true) (digits_of ds)) (option_map (with_sign false) (digits_of (b ∷ ds)))) (ne_eqb b 45 (λ e. omega (arith, r)))
+    ∙ ap (option_map (with_sign false)) (digits_read (b ∷ ds) h)
 
-pub decimal_read : (n : ℕ) → n < 2 ^ 64 → integer_of (decimal n) ≡ Some (signed false n)
-decimal_read n h = numeral_read (decimal n) (decimal_is_IsNumeral n h).0 ∙ ap (λ k. Some (signed false k)) (decimal_is_IsNumeral n h).1
+pub decimal_read : (n : ℕ) → n < 2 ^ 64 → integer_of (decimal n) ≡ Some (with_sign false n)
+decimal_read n h = numeral_read (decimal n) (decimal_is_IsNumeral n h).0 ∙ ap (λ k. Some (with_sign false k)) (decimal_is_IsNumeral n h).1
 
 -- the integer that a signed number is read as
 abbrev pub read_as : ℤ → Integer
-read_as (pos n) = signed false n
-read_as (negsuc n) = signed true (suc n)
+read_as (pos n) = with_sign false n
+read_as (negsuc n) = with_sign true (suc n)
 
 pub signed_read : (z : ℤ) → nat_abs z < 2 ^ 63 → integer_of (signed_decimal z) ≡ Some (read_as z)
 signed_read (pos n) h = decimal_read n (omega arith)
 signed_read (negsuc n) h =
-    ap (option_map (signed true)) (digits_read (decimal (suc n)) (decimal_is_IsNumeral (suc n) (omega arith)).0 ∙ ap Some (decimal_is_IsNumeral (suc n) (omega arith)).1)
+    ap (option_map (with_sign true)) (digits_read (decimal (suc n)) (decimal_is_IsNumeral (suc n) (omega arith)).0 ∙ ap Some (decimal_is_IsNumeral (suc n) (omega arith)).1)
 
 pub value_is : (z : ℤ) → value_of (read_as z) ≡ z
 value_is (pos n) = refl

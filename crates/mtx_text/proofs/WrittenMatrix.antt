@@ -19,7 +19,7 @@ use Rattle.mtx_text.specs.declared.banner.Form.{Form}
 use Rattle.mtx_text.specs.declared.banner.Symmetry.TheVariants.{General}
 use Rattle.mtx_text.specs.declared.sizes.Sizes.{Sizes}
 use Rattle.mtx_text.specs.Lines.{lines_of, words_of, is_skipped, Line, lines_from}
-use Rattle.mtx_text.specs.Integers.{integer_of, signed}
+use Rattle.mtx_text.specs.Integers.{integer_of, with_sign}
 use Rattle.mtx_text.specs.Sparse.{Sparse, IsSparse, IsEntry, SamePlace}
 use Rattle.mtx_text.specs.Grammar.{matrix_of, lines_read, body_of, sizes_by, cell_by, entry_of, entries_in, entries_of, has_place, form_of, place_of, value_within, is_index}
 use Rattle.mtx_text.specs.Written.{banner_text, size_text, entry_text, text_of}
@@ -84,10 +84,10 @@ line_kept : (rows cols : ℕ) (k : Kind) (t : Triple) → rows ≤ 16_384 → Is
 line_kept rows cols kind.Integer t a h = numeral_kept (decimal (t.i + 1)) _ (decimal_is_IsNumeral (t.i + 1) (omega (arith, h.row))).0
 line_kept rows cols kind.Pattern t a h = numeral_kept (decimal (t.i + 1)) _ (decimal_is_IsNumeral (t.i + 1) (omega (arith, h.row))).0
 
-index_is : (size i : ℕ) → i < size → is_index size (signed false (i + 1)) ≡ true
+index_is : (size i : ℕ) → i < size → is_index size (with_sign false (i + 1)) ≡ true
 index_is size i h = and_from _ _ (le-leb 1 (i + 1) (omega arith)) (le-leb (i + 1) size (omega arith))
 
-place_is : (k : Kind) (sizes : Sizes) (i j : ℕ) → i < sizes.rows → j < sizes.cols → place_of (general k) sizes (signed false (i + 1)) (signed false (j + 1)) ≡ Ok (i, j)
+place_is : (k : Kind) (sizes : Sizes) (i j : ℕ) → i < sizes.rows → j < sizes.cols → place_of (general k) sizes (with_sign false (i + 1)) (with_sign false (j + 1)) ≡ Ok (i, j)
 place_is k sizes i j a b =
     let x : i + 1 - 1 ≡ i = omega arith in
     let y : j + 1 - 1 ≡ j = omega arith in

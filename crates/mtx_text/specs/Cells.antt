@@ -23,21 +23,21 @@ InOrder cells = AllPairs (λ s t. is_before s t ≡ true) cells
 -- raised (i,j,v) cells = cells with max v w at (i,j), where w was there, and else with v (0,1,5),
 -- (2,0,3) raised to (2,0,4) has 4 at row 2, raised to (2,0,2) stays, and raised to (1,1,1) has
 -- three cells.
-abbrev pub raised : Triple → List Triple → List Triple
-raised t [] = t ∷ []
-raised t (c ∷ cells) =
-    if is_before c t then c ∷ raised t cells
+abbrev pub with_value_raised : Triple → List Triple → List Triple
+with_value_raised t [] = t ∷ []
+with_value_raised t (c ∷ cells) =
+    if is_before c t then c ∷ with_value_raised t cells
     else if is_before t c then t ∷ c ∷ cells
     else record { i = c.i; j = c.j; v = int_max c.v t.v } ∷ cells
 
 -- Raises one after the other.
 abbrev pub raised_all : List Triple → List Triple → List Triple
-raised_all cells triples = fold (λ cells t. raised t cells) cells triples
+raised_all cells triples = fold (λ cells t. with_value_raised t cells) cells triples
 
 -- The ordered map of triples in any order, of which those at one place leave the greatest value.
 -- gathered of (2,0,3), (0,1,5), (2,0,4) is (0,1,5), (2,0,4).
-abbrev pub gathered : List Triple → List Triple
-gathered triples = raised_all [] triples
+abbrev pub gathered_cells : List Triple → List Triple
+gathered_cells triples = raised_all [] triples
 
 -- The first cell that isn't before row i and column j.
 -- in (0,1,5), (2,0,3), from row 0 and column 2 on, that is (2,0,3).
@@ -47,7 +47,7 @@ first_from i j (c ∷ cells) = if comes_before c.i c.j i j then first_from i j c
 
 -- All cells of several maps.
 abbrev pub together : List (List Triple) → List Triple
-together maps = gathered (flat_map (λ cells. cells) maps)
+together maps = gathered_cells (flat_map (λ cells. cells) maps)
 
 abbrev pub sparse : ℕ → ℕ → Kind → List Triple → Sparse
 sparse rows cols kind entries = record { rows = rows; cols = cols; kind = kind; entries = entries }

@@ -70,11 +70,11 @@ symmetry_of word =
     else None
 
 -- The profile: each kind with each symmetry, but for pattern with skew-symmetric.
-abbrev pub accepted : Option Kind → Option Symmetry → Option Form
-accepted None symmetry = None
-accepted (Some k) None = None
-accepted (Some kind.Pattern) (Some SkewSymmetric) = None
-accepted (Some k) (Some s) = Some (record { kind = k; symmetry = s })
+abbrev pub profile_form : Option Kind → Option Symmetry → Option Form
+profile_form None symmetry = None
+profile_form (Some k) None = None
+profile_form (Some kind.Pattern) (Some SkewSymmetric) = None
+profile_form (Some k) (Some s) = Some (record { kind = k; symmetry = s })
 
 -- The first five words, where there are as many.
 abbrev pub five_of : List (List ℕ) → Option (List ℕ × List ℕ × List ℕ × List ℕ × List ℕ)
@@ -86,15 +86,15 @@ five_of _ = None
 --   reason 1 where the words are too few or the first is another, then 2 where the profile doesn't
 --   accept the four "%%MatrixMarket MATRIX Coordinate pattern general" is a pattern without
 --   symmetry; with "real" it is unsupported.
-abbrev pub qualified : List ℕ × List ℕ × List ℕ × List ℕ × List ℕ → Result Form Reason
-qualified five =
+abbrev pub banner_form : List ℕ × List ℕ × List ℕ × List ℕ × List ℕ → Result Form Reason
+banner_form five =
     if not (bytes_eq five.0 (codes "%%MatrixMarket")) then Err reason.Banner
     else if spells (codes "matrix") five.1 && spells (codes "coordinate") five.2
-    then ok_or (accepted (kind_of five.3) (symmetry_of five.4)) reason.Unsupported
+    then ok_or (profile_form (kind_of five.3) (symmetry_of five.4)) reason.Unsupported
     else Err reason.Unsupported
 
 abbrev pub form_of : List (List ℕ) → Result Form Reason
-form_of words = ok_or (five_of words) reason.Banner >>= qualified
+form_of words = ok_or (five_of words) reason.Banner >>= banner_form
 
 -- ---- The size line
 

@@ -14,8 +14,8 @@ abbrev pub digits_of : List ℕ → Option ℕ
 digits_of [] = None
 digits_of (b ∷ bs) = if list_all is_ascii_digit (b ∷ bs) then Some (digits_value 10 (b ∷ bs)) else None
 
-abbrev pub signed : Bool → ℕ → Integer
-signed minus size = record { minus = minus; size = size }
+abbrev pub with_sign : Bool → ℕ → Integer
+with_sign minus size = record { minus = minus; size = size }
 
 -- An integer word, read as its sign and its size, of any length.
 --   integer_of ("-" ++ digits) = minus and the digits' number; "+" or no sign = plus and that
@@ -23,9 +23,9 @@ signed minus size = record { minus = minus; size = size }
 abbrev pub integer_of : List ℕ → Option Integer
 integer_of [] = None
 integer_of (b ∷ bs) =
-    if b == 43 then option_map (signed false) (digits_of bs)
-    else if b == 45 then option_map (signed true) (digits_of bs)
-    else option_map (signed false) (digits_of (b ∷ bs))
+    if b == 43 then option_map (with_sign false) (digits_of bs)
+    else if b == 45 then option_map (with_sign true) (digits_of bs)
+    else option_map (with_sign false) (digits_of (b ∷ bs))
 
 -- Not negative: "-0" is 0.
 abbrev pub is_natural : Integer → Bool

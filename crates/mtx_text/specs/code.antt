@@ -9,4 +9,5 @@ pub mod Drafts
 pub mod Fronts
 pub mod PlaceOrder
 pub mod Places
+pub mod Pieces
 pub mod PlainLines

@@ -6,7 +6,7 @@
 ghost use Rattle.std.specs.Prelude.{◌≡◌, ◌<◌, true, replicate, vec_len, Ok};
 ghost use Rattle.std.specs.List.{All, AllPairs};
 ghost use Rattle.mtx_text.specs.Sparse.{SamePlace};
-ghost use Rattle.mtx_text.specs.code.Chains.{IsWithin, AreIndexed, AreLinked, IsRowApart};
+ghost use Rattle.mtx_text.specs.code.Chains.{IsBelowSide, AreIndexed, AreLinked, IsRowApart};
 
 use crate::links::link;
 use bale_items::Triple;
@@ -38,7 +38,7 @@ pub(crate) fn are_apart(alloc: Global, side: u32, entries: &[Triple]) -> Result<
 /// Whether the rows of entries never fall, and no place comes twice.
 #[inline(never)]
 fn row_by_row(side: u32, entries: &[Triple], marks: &mut [u32]) -> bool
-    requires within { All (λ t. IsWithin side t) entries.now }
+    requires within { All (λ t. IsBelowSide side t) entries.now }
     requires marks { marks.old ≡ replicate side 0 }
     ensures { result ≡ true → AllPairs (λ s t. ¬ SamePlace s t) entries.now }
 {

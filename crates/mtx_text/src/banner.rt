@@ -2,7 +2,7 @@
 ghost use Rattle.std.specs.Prelude.{◌≡◌};
 ghost use Rattle.std.specs.Option.{option_map};
 ghost use Rattle.mtx_text.specs.Lines.{words_of};
-ghost use Rattle.mtx_text.specs.Grammar.{five_of, form_of, kind_of, symmetry_of, accepted, spells};
+ghost use Rattle.mtx_text.specs.Grammar.{five_of, form_of, kind_of, symmetry_of, profile_form, spells};
 
 use crate::kind::Kind;
 use crate::refusal::Reason;
@@ -10,7 +10,7 @@ use crate::words::first_word;
 
 /// Which entries have a mirror.
 #[derive(Clone, Copy)]
-pub(crate) enum Symmetry {
+pub enum Symmetry {
     General,
     Symmetric,
     SkewSymmetric,
@@ -18,7 +18,7 @@ pub(crate) enum Symmetry {
 
 /// What a banner says.
 #[derive(Clone, Copy)]
-pub(crate) struct Form {
+pub struct Form {
     pub(crate) kind: Kind,
     pub(crate) symmetry: Symmetry,
 }
@@ -109,7 +109,7 @@ fn read_symmetry(word: &[u8]) -> Option<Symmetry>
 
 /// The profile: each kind with each symmetry, but for pattern with skew-symmetric.
 fn accept(kind: Option<Kind>, symmetry: Option<Symmetry>) -> Option<Form>
-    ensures { result ≡ accepted kind symmetry }
+    ensures { result ≡ profile_form kind symmetry }
 {
     let kind = kind?;
     let symmetry = symmetry?;

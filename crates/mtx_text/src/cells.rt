@@ -6,7 +6,7 @@ ghost use Rattle.bale_items.specs.Changes.{AllOrNothing};
 ghost use Rattle.bale_items.specs.declared.triple.Triple.{Triple};
 ghost use Rattle.mtx_text.specs.Grammar.{has_place};
 ghost use Rattle.mtx_text.specs.Maps.{is_at};
-ghost use Rattle.mtx_text.specs.Cells.{is_before, comes_before, InOrder, raised, raised_all, gathered, first_from};
+ghost use Rattle.mtx_text.specs.Cells.{is_before, comes_before, InOrder, with_value_raised, raised_all, gathered_cells, first_from};
 ghost use Rattle.mtx_text.specs.code.PlaceOrder.{IsOrderedFront};
 
 use crate::append::append;
@@ -35,11 +35,11 @@ impl Model for Cells {
     ghost use Rattle.std.specs.Prelude.{◌≤◌, List, take, vec_len};
     ghost use Rattle.bale_items.specs.declared.triple.Triple.{Triple};
     ghost use Rattle.mtx_text.specs.Maps.{is_at};
-    ghost use Rattle.mtx_text.specs.Cells.{is_before, comes_before, InOrder, gathered};
+    ghost use Rattle.mtx_text.specs.Cells.{is_before, comes_before, InOrder, gathered_cells};
 
     ghost Value = { List Triple };
 
-    ghost view = { λ c. gathered c.triples.items };
+    ghost view = { λ c. gathered_cells c.triples.items };
 
     ghost invariant = { λ c. (c.settled ≤ vec_len c.triples) × InOrder (take c.settled c.triples.items) };
 }
@@ -63,7 +63,7 @@ impl Cells {
     /// `NoMemory` where there was none; the cells are as before.
     #[inline(always)]
     pub fn raise(&mut self, i: u32, j: u32, v: i64) -> Result<(), NoMemory>
-        ensures { AllOrNothing (raised (record { i = i; j = j; v = v }) self.old) self.old self.new result }
+        ensures { AllOrNothing (with_value_raised (record { i = i; j = j; v = v }) self.old) self.old self.new result }
     {
         append(&mut self.triples, Triple { i, j, v })?;
         Ok(())
@@ -89,7 +89,7 @@ impl Cells {
     /// `NoMemory` where there was none; the cells are as before.
     pub fn put(&mut self, i: u32, j: u32, v: i64) -> Result<bool, NoMemory>
         ensures fresh { IfOk result (λ fresh. fresh ≡ not (has_place i j self.old)) }
-        ensures put { result ≡ Ok true → self.new ≡ raised (record { i = i; j = j; v = v }) self.old }
+        ensures put { result ≡ Ok true → self.new ≡ with_value_raised (record { i = i; j = j; v = v }) self.old }
         ensures kept { result ≢ Ok true → self.new ≡ self.old }
     {
         if self.triples.len() - self.settled > MOST_WAITING {
@@ -105,7 +105,7 @@ impl Cells {
     /// Raises the cell at the place of `t` as `raise` does. If the cells are in order and `t` comes
     /// behind them all, they stay known to be.
     fn raise_in_order(&mut self, t: Triple) -> Result<(), NoMemory>
-        ensures { AllOrNothing (raised t self.old) self.old self.new result }
+        ensures { AllOrNothing (with_value_raised t self.old) self.old self.new result }
     {
         let settled = settled_with(&self.triples, self.settled, t);
         self.triples.push(t)?;
@@ -174,7 +174,8 @@ impl Cells {
 
     /// Appends triples that have these cells and no other.
     pub(crate) fn append_to(&self, triples: &mut Vec<Triple>) -> Result<(), AllocError>
-        ensures cells { OnOk result (gathered triples.new.items ≡ gathered (triples.old.items ++ self.now)) }
+        ensures cells { OnOk result (gathered_cells triples.new.items
+            ≡ gathered_cells (triples.old.items ++ self.now)) }
         ensures ordered { InOrder self.now }
     {
         triples.extend_from_slice(self.triples.as_slice())?;
@@ -248,7 +249,7 @@ fn nearest(best: Option<Triple>, waiting: &[Triple], i: u32, j: u32) -> Option<T
 #[inline(always)]
 fn nearer(best: Option<Triple>, t: Triple, i: u32, j: u32) -> Option<Triple>
     ensures { (cells : List Triple) → InOrder cells → best ≡ first_from i j cells
-        → result ≡ first_from i j (raised t cells) }
+        → result ≡ first_from i j (with_value_raised t cells) }
 {
     if comes_before(t.i, t.j, i, j) {
         return best;

@@ -3,7 +3,7 @@
 ghost use Rattle.std.specs.Prelude.{◌≡◌, ℕ, ◌<◌, ◌≤◌, length, map};
 ghost use Rattle.std.specs.Simd.Lanes.{mask_l};
 ghost use Rattle.mtx_text.specs.code.PlainLines.{FewDigits, NumberTo};
-ghost use Rattle.mtx_text.specs.code.DigitLanes.{is_no_digit, bits_of, word_of, word_from, number_from};
+ghost use Rattle.mtx_text.specs.code.DigitLanes.{is_no_digit, bits_of, lane_word, word_from, number_from};
 
 use std::simd::prelude::*;
 
@@ -43,7 +43,7 @@ pub(crate) fn number_of(text: &[u8], len: usize) -> u64
 #[inline(always)]
 fn front_word(text: &[u8]) -> u64
     requires { 8 ≤ length text.now }
-    ensures { result ≡ word_of text.now }
+    ensures { result ≡ lane_word text.now }
 {
     u64::from_le_bytes([
         text[0], text[1], text[2], text[3], text[4], text[5], text[6], text[7],

@@ -6,9 +6,11 @@ ghost use Rattle.mtx_text.specs.Grammar.{stands_for};
 ghost use Rattle.mtx_text.specs.code.PlainLines.{NoneCounts};
 ghost use Rattle.mtx_text.specs.code.Drafts.{CanRead, ReadsOn, IsNext, AddsLine, IsDraft};
 
+use crate::ahead::Progress;
 use crate::append::append;
 use crate::banner::{Form, Symmetry};
 use crate::cell::{mirror, plain_cell, read_cell};
+use crate::execution::Execution;
 use crate::lines::{Kept, first_kept, next_kept};
 use crate::refusal::{BadLine, Reason};
 use crate::sizes::Sizes;
@@ -31,23 +33,28 @@ struct Entry<'a> {
 
 /// The draft of a text whose first line is line `number`.
 #[tactic(auto, using(crate::proofs::Steps::draft_ok, crate::proofs::Steps::draft_bad, crate::proofs::Steps::draft_over, crate::proofs::Steps::draft_few, crate::proofs::Steps::draft_enough))]
-pub(crate) fn read_draft(
+pub(crate) fn read_draft<X: Execution>(
+    on: &X,
     alloc: Global,
     form: Form,
     sizes: Sizes,
     text: &[u8],
     number: u64,
 ) -> Result<Draft, AllocError>
-    requires { CanRead sizes text.now number }
+    requires ready { X.ready }
+    requires text { CanRead sizes text.now number }
     ensures { IfOk result (IsDraft form sizes text.now number) }
 {
-    let mut entries = Vec::with_capacity(alloc, room_for(sizes.entries, text.len()))?;
-    let mut run = Run {
+    let start = Run {
         rest: text,
         number,
         left: sizes.entries,
         careful: 0,
     };
+    let Progress {
+        mut entries,
+        mut run,
+    } = on.read_ahead(alloc, form, sizes, start)?;
     loop {
         run = read_plain(form, sizes, &mut entries, run)?;
         let Entry { kept, cell } = match next_entry(form, sizes, run.rest, run.number) {
@@ -81,24 +88,17 @@ pub(crate) fn read_draft(
     }
 }
 
-/// How many entries have room from the start, so that they don't move while they are read: as many
-/// as the size line says, and no more than lines of four bytes, the least that name a place, are in
-/// the text.
-fn room_for(lines: u32, bytes: usize) -> usize {
-    (lines as usize).min(bytes / 4 + 1)
-}
-
 /// How far a text was read.
 #[derive(Clone, Copy)]
-struct Run<'a> {
+pub struct Run<'a> {
     /// What is still to be read.
-    rest: &'a [u8],
+    pub(crate) rest: &'a [u8],
     /// The number of its first line.
-    number: u64,
+    pub(crate) number: u64,
     /// How many entry lines are still to come.
-    left: u32,
+    pub(crate) left: u32,
     /// How many lines are read before a plain one is looked for again.
-    careful: u32,
+    pub(crate) careful: u32,
 }
 
 /// How many plain lines pay for the look at one that isn't.

@@ -1,7 +1,7 @@
 //! Matrices generated from a seed.
 ghost use Rattle.std.specs.Prelude.{◌≡◌, ◌≤◌, ◌+◌, ◌<◌, ◌%◌, pos, slice_index, vec_len, IfOk};
 ghost use Rattle.mtx_text.specs.Permutations.{Permutes};
-ghost use Rattle.mtx_text.specs.Generated.{CanHide, generated};
+ghost use Rattle.mtx_text.specs.Generated.{CanHide, generated_matrix};
 ghost use Rattle.mtx_text.specs.code.Bands.{Hides};
 
 use crate::kind::Kind;
@@ -20,7 +20,7 @@ pub fn gen_matrix(alloc: Global, n: u32, m: u32, seed: u64) -> Result<Matrix, No
     requires some { 1 ≤ n }
     requires full { n ≤ m }
     requires hidden { CanHide n m }
-    ensures { IfOk result (λ g. g ≡ generated n m seed) }
+    ensures { IfOk result (λ g. g ≡ generated_matrix n m seed) }
 {
     let mut words = Words::of_seed(seed);
     let rows = words.permutation(alloc, n)?;

@@ -8,6 +8,7 @@
 //! |---|---|---|
 //! | [`parse_matrix`] | a text in memory | its matrix, or its first bad line |
 //! | [`read_matrix`] | the text of a source | the same, or that a read failed |
+//! | [`parse_matrix_by`], [`read_matrix_by`] | the same on several threads ([`OnThreads`]) or on one | the same |
 //! | [`write_matrix`] | a matrix as text | that text is read as the same matrix |
 //! | [`EntryLine`] | the line of one entry after another, as `write_matrix` writes them | |
 //! | [`Matrix::rows`], [`Matrix::cols`], [`Matrix::kind`] | the parts | |
@@ -26,6 +27,7 @@
 //! reads lines, keeps entries and sorts triples.
 #![tactic(auto)]
 
+mod ahead;
 mod apart;
 mod append;
 mod banner;
@@ -37,6 +39,7 @@ mod distribution;
 mod draft;
 mod entries;
 mod entry_line;
+mod execution;
 mod finite_map;
 mod generate;
 mod integer;
@@ -47,6 +50,7 @@ mod matrix;
 mod numbers;
 mod of_cells;
 mod parse;
+mod piece;
 mod place_order;
 mod places;
 mod plain;
@@ -59,12 +63,13 @@ mod write;
 
 pub use cells::Cells;
 pub use entry_line::EntryLine;
+pub use execution::{Execution, OnThreads, OneThread};
 pub use finite_map::entries_are_a_map;
 pub use generate::gen_matrix;
 pub use kind::Kind;
 pub use matrix::Matrix;
-pub use parse::parse_matrix;
-pub use read::read_matrix;
+pub use parse::{parse_matrix, parse_matrix_by};
+pub use read::{read_matrix, read_matrix_by};
 pub use refusal::{BadLine, ParseFault, ReadFault, Reason};
 pub use seeds::Words;
 pub use write::write_matrix;

@@ -1,5 +1,5 @@
 //! A text cut into lines, one line at a time and without a copy.
-ghost use Rattle.std.specs.Prelude.{◌≡◌, not, false, ◌+◌, ◌<◌, ◌^◌, length, take, drop, slice_index, [], IfOk, IfErr};
+ghost use Rattle.std.specs.Prelude.{◌≡◌, not, false, ◌+◌, ◌<◌, ◌≤◌, ◌^◌, length, take, drop, slice_index, [], IfOk, IfErr};
 ghost use Rattle.mtx_text.specs.Lines.{words_of, without_cr, is_blank, is_skipped};
 ghost use Rattle.mtx_text.specs.code.Cuts.{CutsAt, CutsLine};
 ghost use Rattle.mtx_text.specs.code.PlainLines.{CountsAt, IsFirstKept, NoneCounts};
@@ -65,6 +65,15 @@ pub(crate) fn behind(at: usize, text: &[u8]) -> &[u8]
     ensures { result.now ≡ drop (at + 1) text.now }
 {
     &text[at + 1..]
+}
+
+/// What stands behind a text's first `len` bytes.
+#[inline(always)]
+pub(crate) fn rest_after(len: usize, text: &[u8]) -> &[u8]
+    requires { len ≤ length text.now }
+    ensures { result.now ≡ drop len text.now }
+{
+    &text[len..]
 }
 
 /// Whether a line that begins with no blank has words and is no comment.

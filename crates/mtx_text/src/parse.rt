@@ -8,6 +8,7 @@ ghost use Rattle.mtx_text.specs.Answers.{Gives};
 use crate::banner::{Form, read_form};
 use crate::careful::bad;
 use crate::entries::read_entries;
+use crate::execution::{Execution, OneThread};
 use crate::kind::Kind;
 use crate::lines::{cut_line, next_kept};
 use crate::matrix::Matrix;
@@ -34,20 +35,34 @@ struct Parts {
 pub fn parse_matrix(alloc: Global, text: &[u8]) -> Result<Matrix, ParseFault>
     ensures { Gives (λ m. m) result (matrix_of text.now) }
 {
-    let parts = read_parts(alloc, text)?;
+    parse_matrix_by(&OneThread, alloc, text)
+}
+
+/// The matrix of a text, or its first bad line, as [`parse_matrix`] gives it. The text is parsed as
+/// `on` says: on the caller's thread, or on several.
+pub fn parse_matrix_by<X: Execution>(
+    on: &X,
+    alloc: Global,
+    text: &[u8],
+) -> Result<Matrix, ParseFault>
+    requires { X.ready }
+    ensures { Gives (λ m. m) result (matrix_of text.now) }
+{
+    let parts = read_parts(on, alloc, text)?;
     Ok(Matrix::of_parts(parts.rows, parts.cols, parts.kind, parts.entries))
 }
 
 /// The parts of a text's matrix.
 #[tactic(auto, unfolding(crate::specs::Grammar::matrix_of))]
-fn read_parts(alloc: Global, text: &[u8]) -> Result<Parts, ParseFault>
+fn read_parts<X: Execution>(on: &X, alloc: Global, text: &[u8]) -> Result<Parts, ParseFault>
+    requires { X.ready }
     ensures { Gives (λ p. record { rows = p.rows; cols = p.cols; kind = p.kind; entries = p.entries.items }) result
         (matrix_of text.now) }
 {
     if text.len() > MOST_BYTES {
         return Err(bad(line_after(MOST_BYTES, text), Reason::TooLong));
     }
-    read_lines(alloc, text)
+    read_lines(on, alloc, text)
 }
 
 /// The line of byte number `n + 1`.
@@ -67,8 +82,9 @@ fn line_after(n: usize, text: &[u8]) -> u64
 
 /// The parts of a text that is not too long.
 #[tactic(auto, unfolding(crate::specs::Grammar::lines_read))]
-fn read_lines(alloc: Global, text: &[u8]) -> Result<Parts, ParseFault>
-    requires { length text.now ≤ 16_777_216 }
+fn read_lines<X: Execution>(on: &X, alloc: Global, text: &[u8]) -> Result<Parts, ParseFault>
+    requires ready { X.ready }
+    requires short { length text.now ≤ 16_777_216 }
     ensures { Gives (λ p. record { rows = p.rows; cols = p.cols; kind = p.kind; entries = p.entries.items }) result
         (lines_read (lines_of text.now)) }
 {
@@ -77,15 +93,21 @@ fn read_lines(alloc: Global, text: &[u8]) -> Result<Parts, ParseFault>
     }
     let (line, rest) = cut_line(text);
     match read_form(line) {
-        Ok(form) => read_body(alloc, form, rest),
+        Ok(form) => read_body(on, alloc, form, rest),
         Err(reason) => Err(bad(1, reason)),
     }
 }
 
 /// What follows line 1.
 #[tactic(auto, unfolding(crate::specs::Grammar::body_of))]
-fn read_body(alloc: Global, form: Form, text: &[u8]) -> Result<Parts, ParseFault>
-    requires { length text.now ≤ 16_777_216 }
+fn read_body<X: Execution>(
+    on: &X,
+    alloc: Global,
+    form: Form,
+    text: &[u8],
+) -> Result<Parts, ParseFault>
+    requires ready { X.ready }
+    requires short { length text.now ≤ 16_777_216 }
     ensures { Gives (λ p. record { rows = p.rows; cols = p.cols; kind = p.kind; entries = p.entries.items }) result
         (body_of form (2 + length (lines_of text.now)) (lines_from 2 (lines_of text.now))) }
 {
@@ -97,7 +119,7 @@ fn read_body(alloc: Global, form: Form, text: &[u8]) -> Result<Parts, ParseFault
         Ok(sizes) => sizes,
         Err(reason) => return Err(bad(kept.number, reason)),
     };
-    let entries = read_entries(alloc, form, sizes, kept.rest, kept.number + 1)?;
+    let entries = read_entries(on, alloc, form, sizes, kept.rest, kept.number + 1)?;
     Ok(Parts {
         rows: sizes.rows,
         cols: sizes.cols,

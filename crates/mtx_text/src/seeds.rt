@@ -2,7 +2,7 @@
 ghost use Rattle.std.specs.Prelude.{◌≡◌, IfOk, OnOk, OnErr};
 ghost use Rattle.std.specs.List.{range_with_len};
 ghost use Rattle.mtx_text.specs.Permutations.{Permutes};
-ghost use Rattle.mtx_text.specs.Seeds.{step, word, begun, drawn};
+ghost use Rattle.mtx_text.specs.Seeds.{step, word, seeded, permutation_of};
 
 use bale_items::NoMemory;
 use rand_core::utils::NextWord;
@@ -32,7 +32,7 @@ impl Model for Words {
 impl Words {
     /// The words of a seed.
     pub fn of_seed(seed: u64) -> Words
-        ensures { result ≡ begun seed }
+        ensures { result ≡ seeded seed }
     {
         Words {
             generator: Pcg32::new(seed, STREAM),
@@ -53,8 +53,8 @@ impl Words {
     ///
     /// `NoMemory` where there was none; no word was drawn.
     pub fn permutation(&mut self, alloc: Global, n: u32) -> Result<Vec<u32>, NoMemory>
-        ensures list { IfOk result (λ p. p.items ≡ (drawn n self.old).0) }
-        ensures state { OnOk result (self.new ≡ (drawn n self.old).1) }
+        ensures list { IfOk result (λ p. p.items ≡ (permutation_of n self.old).0) }
+        ensures state { OnOk result (self.new ≡ (permutation_of n self.old).1) }
         ensures permutes { IfOk result (λ p. Permutes n p.items) }
         ensures kept { OnErr result (self.new ≡ self.old) }
     {

@@ -18,7 +18,7 @@ const MOST_LINES: u64 = 262_144;
 
 /// What a size line says.
 #[derive(Clone, Copy)]
-pub(crate) struct Sizes {
+pub struct Sizes {
     pub(crate) rows: u32,
     pub(crate) cols: u32,
     /// How many entry lines follow.

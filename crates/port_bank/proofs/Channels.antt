@@ -2,7 +2,7 @@
 use Rattle.std.proofs.Common.{◌≡◌, ◌≢◌, ℕ, ◌<◌, cond, length, get_or-set_same, get_or-set_other, refl, sym, ap, subst, ◌∙◌, inl, inr, eq-eqb, ne_eqb}
 use Rattle.std.proofs.lemmas.Bool.{cases_eq}
 use Rattle.list_laws.specs.Lists.{changed}
-use Rattle.port_bank.specs.Plain.{Bank, Channel, unused, channel_at, with_channel}
+use Rattle.port_bank.specs.Plain.{Bank, Channel, unused_channel, channel_at, with_channel}
 
 pub changed-here : {X : Type 0} (f : ℕ → X) (l : ℕ) (x : X) → changed f l x l ≡ x
 changed-here f l x = ap (λ b. cond b x (f l)) (eq-eqb l l refl)
@@ -12,10 +12,10 @@ changed-other f l m x ne = ap (λ b. cond b x (f m)) (ne_eqb m l ne)
 
 module _ (b : Bank) (l : ℕ) (c : Channel) (within : l < length b.channels) where
   pub channel-here : channel_at (with_channel b l c) l ≡ c
-  channel-here = get_or-set_same b.channels l c unused within
+  channel-here = get_or-set_same b.channels l c unused_channel within
 
   pub channel-other : (m : ℕ) → m ≢ l → channel_at (with_channel b l c) m ≡ channel_at b m
-  channel-other m ne = get_or-set_other b.channels l m c unused ne
+  channel-other m ne = get_or-set_other b.channels l m c unused_channel ne
 
   read_at : {X : Type 0} (f : ℕ → Channel → X) (m : ℕ) → f m (channel_at (with_channel b l c) m) ≡ changed (λ n. f n (channel_at b n)) l (f l c) m
   read_at f m = elim (cases_eq m l) [

@@ -6,7 +6,7 @@ use Rattle.std.proofs.lemmas.List.{length-map, length-replicate, map-append, tak
 use Rattle.std.proofs.lemmas.List.Elements.{All-nil}
 use Rattle.item_buffer.specs.Capacity.{IsCap}
 use Rattle.item_buffer.specs.Contents.{Shipped}
-use Rattle.list_laws.specs.Counts.{counted}
+use Rattle.list_laws.specs.Counts.{saturated_count}
 use Rattle.route_tensor.specs.Grid.{ranks, IsGrid}
 use Rattle.route_tensor.specs.Link.{links, link}
 use Rattle.route_tensor.proofs.Coordinates.{ranks_some}
@@ -19,7 +19,7 @@ use Rattle.port_bank.specs.Link.{LinkLaw}
 use Rattle.port_bank.specs.Relay.{HasFairTags, RelayLaw}
 use Rattle.port_bank.specs.Port.{IsSlots}
 use Rattle.port_bank.specs.Round.{Round, logs_of, ended_by_all, CloseLaw, IsRound}
-use Rattle.port_bank.specs.Plain.{Bank, Channel, unused, sent_of, got_of, empty_bank, closed, IsBank}
+use Rattle.port_bank.specs.Plain.{Bank, Channel, unused_channel, sent_of, got_of, empty_bank, round_of_bank, IsBank}
 use Rattle.port_bank.proofs.Fronts.{begins_nil}
 use Rattle.port_bank.proofs.Links.{link_unused}
 use Rattle.port_bank.proofs.Pipeline.{Keeps, arrives_in_order, arrives_whole}
@@ -34,7 +34,7 @@ law_nothing dims r got = record {
   whole = λ s d h e p w. absurd (omega arith);
 }
 
-pub channel-empty : (n l : ℕ) → get_or (replicate n unused) l unused ≡ unused
+pub channel-empty : (n l : ℕ) → get_or (replicate n unused_channel) l unused_channel ≡ unused_channel
 channel-empty zero l = refl
 channel-empty (suc n) zero = refl
 channel-empty (suc n) (suc l) = channel-empty n l
@@ -52,7 +52,7 @@ empty_is_bank cap slots dims is_cap g counts =
       is_cap = is_cap;
       grid = g;
       counts = counts;
-      number = length-replicate (links dims) unused;
+      number = length-replicate (links dims) unused_channel;
       each_link = λ l h. empty_links cap slots dims l;
       each_rank = λ r h. subst (λ f. RelayLaw dims r f (got_of (empty_bank dims slots))) sent (law_nothing dims r (got_of (empty_bank dims slots)));
     }
@@ -97,12 +97,12 @@ close_law round k number = record {
 }
 
 -- logs by the map of the channels
-logs-map : (f : Channel → List Shipped) (channels : List Channel) → f unused ≡ [] → (l : ℕ) → logs_of (map f channels) l ≡ f (get_or channels l unused)
+logs-map : (f : Channel → List Shipped) (channels : List Channel) → f unused_channel ≡ [] → (l : ℕ) → logs_of (map f channels) l ≡ f (get_or channels l unused_channel)
 logs-map f [] e l = sym e
 logs-map f (c ∷ channels) e zero = refl
 logs-map f (c ∷ channels) e (suc l) = logs-map f channels e l
 
-pub closed_is_round : (cap : ℕ) (b : Bank) → IsBank cap b → IsRound (closed cap b)
+pub closed_is_round : (cap : ℕ) (b : Bank) → IsBank cap b → IsRound (round_of_bank cap b)
 closed_is_round cap b is =
     let sent : sent_of b ≡ logs_of (map (λ c. c.sent) b.channels) = λ i l. sym (logs-map (λ c. c.sent) b.channels refl l) i in
     let got : got_of b ≡ logs_of (map (λ c. c.got) b.channels) = λ i l. sym (logs-map (λ c. c.got) b.channels refl l) i in
@@ -118,7 +118,7 @@ closed_is_round cap b is =
       fair = λ l h.
           let from : sender_at b.dims l < ranks b.dims = (number_ends b.dims l is.grid h).link.sender in
           subst (λ f. All (HasFairTags b.dims (hop_at b.dims l)) (f l)) sent ((is.each_rank (sender_at b.dims l) from).fair l h refl);
-      in_order = close_law (closed cap b) (record {
+      in_order = close_law (round_of_bank cap b) (record {
         grid = is.grid;
         fronts = λ l h. (links' l h).begins;
         relays = λ r h. subst (λ f. RelayLaw b.dims r (logs_of (map (λ c. c.sent) b.channels)) f) got (subst (λ f. RelayLaw b.dims r f (got_of b)) sent (is.each_rank r h));
@@ -132,13 +132,13 @@ some_links dims g =
     let below : link dims 1 0 0 < links dims = link_below dims 1 0 0 g (record { first_hop = omega arith; last_hop = g.some; sender = rank; reader = rank; agree = λ i ne. refl }) in
     omega arith
 
-counted_min : (m n : ℕ) → min (counted m) (counted n) ≡ counted (min m n)
+counted_min : (m n : ℕ) → min (saturated_count m) (saturated_count n) ≡ saturated_count (min m n)
 counted_min m n = omega arith
 
 -- the least of the first links, with one link more
 pub least_more : (channels : List Channel) (i least next : ℕ) (c : Channel) → i < length channels → c ≡ get_or channels i c
-    → (i ≡ 0 → least ≡ 2 ^ 64 - 1) → (0 < i → least ≡ counted (ended_by_all (map (λ x. x.got) (take i channels)))) → next ≡ counted (lasts c.got)
-    → min least next ≡ counted (ended_by_all (map (λ x. x.got) (take (i + 1) channels)))
+    → (i ≡ 0 → least ≡ 2 ^ 64 - 1) → (0 < i → least ≡ saturated_count (ended_by_all (map (λ x. x.got) (take i channels)))) → next ≡ saturated_count (lasts c.got)
+    → min least next ≡ saturated_count (ended_by_all (map (λ x. x.got) (take (i + 1) channels)))
 least_more channels i least next c within read none some is =
     let grown : map (λ x. x.got) (take (i + 1) channels) ≡ map (λ x. x.got) (take i channels) ++ c.got ∷ [] =
     ap (map (λ x. x.got)) (take_more channels i c within) ∙ (map-append (λ x. x.got) (take i channels) (get_or channels i c ∷ [])
@@ -147,18 +147,18 @@ least_more channels i least next c within read none some is =
     let fold' = ended_more (map (λ x. x.got) (take i channels)) c.got in
     elim (cases_lt 0 i) [
       | inl later ↦
-          ap (λ m. min m next) (some later) ∙ (ap (min (counted (ended_by_all (map (λ x. x.got) (take i channels))))) is
-          ∙ (counted_min (ended_by_all (map (λ x. x.got) (take i channels))) (lasts c.got) ∙ (ap counted (sym (fold' (omega arith))) ∙ ap (λ logs. counted (ended_by_all logs)) (sym grown))))
+          ap (λ m. min m next) (some later) ∙ (ap (min (saturated_count (ended_by_all (map (λ x. x.got) (take i channels))))) is
+          ∙ (counted_min (ended_by_all (map (λ x. x.got) (take i channels))) (lasts c.got) ∙ (ap saturated_count (sym (fold' (omega arith))) ∙ ap (λ logs. saturated_count (ended_by_all logs)) (sym grown))))
       | inr first ↦
           let zero' : i ≡ 0 = omega arith in
           let start : map (λ x. x.got) (take i channels) ≡ [] = ap (λ m. map (λ x. x.got) (take m channels)) zero' in
           let alone : ended_by_all (map (λ x. x.got) (take i channels) ++ c.got ∷ []) ≡ lasts c.got = ap (λ (xs : List (List Shipped)). ended_by_all (xs ++ c.got ∷ [])) start in
           let top : least ≡ 2 ^ 64 - 1 = none zero' in
           let low : min least next ≡ next = omega (arith, top, is) in
-          low ∙ (is ∙ (ap counted (sym alone) ∙ ap (λ logs. counted (ended_by_all logs)) (sym grown)))
+          low ∙ (is ∙ (ap saturated_count (sym alone) ∙ ap (λ logs. saturated_count (ended_by_all logs)) (sym grown)))
     ]
 
 -- and of all of them
-pub least_all : (channels : List Channel) (i least : ℕ) → 0 < length channels → length channels ≤ i → (0 < i → least ≡ counted (ended_by_all (map (λ x. x.got) (take i channels))))
-    → least ≡ counted (ended_by_all (map (λ x. x.got) channels))
-least_all channels i least some all is = is (omega arith) ∙ ap (λ xs. counted (ended_by_all (map (λ x. x.got) xs))) (take_all i channels all)
+pub least_all : (channels : List Channel) (i least : ℕ) → 0 < length channels → length channels ≤ i → (0 < i → least ≡ saturated_count (ended_by_all (map (λ x. x.got) (take i channels))))
+    → least ≡ saturated_count (ended_by_all (map (λ x. x.got) channels))
+least_all channels i least some all is = is (omega arith) ∙ ap (λ xs. saturated_count (ended_by_all (map (λ x. x.got) xs))) (take_all i channels all)

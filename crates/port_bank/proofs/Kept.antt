@@ -5,10 +5,10 @@ use Rattle.item_buffer.specs.Contents.{Shipped}
 use Rattle.route_tensor.specs.Grid.{place, IsGrid}
 use Rattle.route_tensor.specs.Link.{links}
 use Rattle.route_tensor.specs.Ends.{hop_at, sender_at, reader_at}
-use Rattle.port_bank.specs.Logs.{Logs, lasts, segment, added}
-use Rattle.port_bank.specs.Flow.{hop_link, items_of, flow}
+use Rattle.port_bank.specs.Logs.{Logs, lasts, segment, with_parcel}
+use Rattle.port_bank.specs.Flow.{hop_link, passing_items, flow}
 use Rattle.route_tensor.specs.Pair.{belongs, PassesThrough}
-use Rattle.list_laws.specs.Lists.{Begins}
+use Rattle.list_laws.specs.Lists.{IsPrefix}
 use Rattle.port_bank.specs.Relay.{HasFairTags, RelayLaw}
 use Rattle.port_bank.proofs.Fronts.{begins_refl, begins_more, begins_trans}
 use Rattle.port_bank.proofs.Segments.{lasts_begins, items_begins, items_same}
@@ -16,27 +16,27 @@ use Rattle.port_bank.proofs.Routes.{hop-on_route, sender-on_route, reader-on_rou
 
 -- each log begins the log of the same link
 abbrev pub Grows : Logs → Logs → Type 0
-Grows old new = (l : ℕ) → Begins (old l) (new l)
+Grows old new = (l : ℕ) → IsPrefix (old l) (new l)
 
-pub added_grows : (logs : Logs) (l : ℕ) (p : Shipped) → Grows logs (added logs l p)
-added_grows logs l p = λ m. elim (m == l) as (λ b. Begins (logs m) (cond b (logs m ++ p ∷ []) (logs m))) [ true ↦ begins_more (logs m) (p ∷ []) | false ↦ begins_refl (logs m) ]
+pub added_grows : (logs : Logs) (l : ℕ) (p : Shipped) → Grows logs (with_parcel logs l p)
+added_grows logs l p = λ m. elim (m == l) as (λ b. IsPrefix (logs m) (cond b (logs m ++ p ∷ []) (logs m))) [ true ↦ begins_more (logs m) (p ∷ []) | false ↦ begins_refl (logs m) ]
 
-pub added-other : (logs : Logs) (l m : ℕ) (p : Shipped) → m ≢ l → added logs l p m ≡ logs m
+pub added-other : (logs : Logs) (l m : ℕ) (p : Shipped) → m ≢ l → with_parcel logs l p m ≡ logs m
 added-other logs l m p ne = ap (λ b. cond b (logs m ++ p ∷ []) (logs m)) (ne_eqb m l ne)
 
-pub added-here : (logs : Logs) (l : ℕ) (p : Shipped) → added logs l p l ≡ logs l ++ p ∷ []
+pub added-here : (logs : Logs) (l : ℕ) (p : Shipped) → with_parcel logs l p l ≡ logs l ++ p ∷ []
 added-here logs l p = ap (λ b. cond b (logs l ++ p ∷ []) (logs l)) (eq-eqb l l refl)
 
-pub flow_begins : (dims : List ℕ) (old new : Logs) (s d h e : ℕ) → Begins (old (hop_link dims s d h)) (new (hop_link dims s d h)) → Begins (flow dims old s d h e) (flow dims new s d h e)
+pub flow_begins : (dims : List ℕ) (old new : Logs) (s d h e : ℕ) → IsPrefix (old (hop_link dims s d h)) (new (hop_link dims s d h)) → IsPrefix (flow dims old s d h e) (flow dims new s d h e)
 flow_begins dims old new s d h e b = items_begins (belongs dims s d h) e (old (hop_link dims s d h)) (new (hop_link dims s d h)) b
 
-pub flow_same : (dims : List ℕ) (old new : Logs) (s d h e : ℕ) → Begins (old (hop_link dims s d h)) (new (hop_link dims s d h)) → e < lasts (old (hop_link dims s d h))
+pub flow_same : (dims : List ℕ) (old new : Logs) (s d h e : ℕ) → IsPrefix (old (hop_link dims s d h)) (new (hop_link dims s d h)) → e < lasts (old (hop_link dims s d h))
     → flow dims new s d h e ≡ flow dims old s d h e
 flow_same dims old new s d h e b c = items_same (belongs dims s d h) e (old (hop_link dims s d h)) (new (hop_link dims s d h)) b c
 
 -- the flow is read from one link's log
 pub flow_at : (dims : List ℕ) (logs others : Logs) (s d h e : ℕ) → logs (hop_link dims s d h) ≡ others (hop_link dims s d h) → flow dims logs s d h e ≡ flow dims others s d h e
-flow_at dims logs others s d h e same = ap (λ log. items_of (belongs dims s d h) (segment e log)) same
+flow_at dims logs others s d h e same = ap (λ log. passing_items (belongs dims s d h) (segment e log)) same
 
 -- the two links of a route between which a rank stands
 pub record Between (dims : List ℕ) (r m l : ℕ) : Type 0 where
@@ -82,7 +82,7 @@ law_own dims r sent sent' got got' g out in' law = record {
       let b = between dims r s d h g p in
       let x = flow_at dims sent sent' s d (h + 1) e (out _ b.from) in
       let y = flow_at dims got got' s d h e (in' _ b.to) in
-      subst (λ u. Begins u (flow dims got' s d h e)) x (subst (λ u. Begins (flow dims sent s d (h + 1) e) u) y (law.begins s d h e p));
+      subst (λ u. IsPrefix u (flow dims got' s d h e)) x (subst (λ u. IsPrefix (flow dims sent s d (h + 1) e) u) y (law.begins s d h e p));
   closed = λ l m e a b x y z w.
       subst (λ log. e < lasts log) (in' m y) (law.closed l m e a b x y z (subst (λ log. e < lasts log) (sym (out l x)) w));
   whole = λ s d h e p w.
@@ -93,9 +93,9 @@ law_own dims r sent sent' got got' g out in' law = record {
 }
 
 -- where another rank sends, the law is kept
-pub law_sent_elsewhere : (dims : List ℕ) (r : ℕ) (sent got : Logs) (l : ℕ) (p : Shipped) → IsGrid dims → sender_at dims l ≢ r → RelayLaw dims r sent got → RelayLaw dims r (added sent l p) got
+pub law_sent_elsewhere : (dims : List ℕ) (r : ℕ) (sent got : Logs) (l : ℕ) (p : Shipped) → IsGrid dims → sender_at dims l ≢ r → RelayLaw dims r sent got → RelayLaw dims r (with_parcel sent l p) got
 law_sent_elsewhere dims r sent got l p g other law =
-    law_own dims r sent (added sent l p) got got g (λ m from. sym (added-other sent l m p (λ e. other (ap (sender_at dims) (sym e) ∙ from)))) (λ m to. refl) law
+    law_own dims r sent (with_parcel sent l p) got got g (λ m from. sym (added-other sent l m p (λ e. other (ap (sender_at dims) (sym e) ∙ from)))) (λ m to. refl) law
 
 -- the law of equal things
 pub law_same : (dims dims' : List ℕ) (r r' : ℕ) (sent sent' got got' : Logs) → dims' ≡ dims → r' ≡ r → sent' ≡ sent → got' ≡ got → RelayLaw dims r sent got → RelayLaw dims' r' sent' got'

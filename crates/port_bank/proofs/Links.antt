@@ -10,7 +10,7 @@ use Rattle.std.proofs.lemmas.List.Elements.{All-append, All-nil, All-cons}
 use Rattle.std.proofs.lemmas.Option.{same_Some, slice_get_within, get_or_from_slice_get}
 use Rattle.item_buffer.specs.Contents.{Shipped}
 use Rattle.port_bank.specs.Logs.{lasts, IsDated}
-use Rattle.list_laws.specs.Lists.{Begins}
+use Rattle.list_laws.specs.Lists.{IsPrefix}
 use Rattle.port_bank.specs.Link.{LinkLaw}
 use Rattle.port_bank.proofs.Fronts.{begins_nil, begins_more, begins_trans}
 
@@ -42,13 +42,13 @@ link_posted cap slots sent got p fits now room law = record {
   fits = All-append (λ q. length q.entries ≤ cap) sent (p ∷ []) law.fits (All-cons (λ q. length q.entries ≤ cap) p [] fits (All-nil (λ q. length q.entries ≤ cap)));
 }
 
-next_of : (got rest : List Shipped) (p : Shipped) → slice_get (got ++ rest) (length got) ≡ Some p → Begins (got ++ p ∷ []) (got ++ rest)
+next_of : (got rest : List Shipped) (p : Shipped) → slice_get (got ++ rest) (length got) ≡ Some p → IsPrefix (got ++ p ∷ []) (got ++ rest)
 next_of [] [] p h = cc
 next_of [] (q ∷ rest) p h = record { rest = rest; is = ap (λ x. x ∷ rest) (same_Some q p h) }
 next_of (q ∷ got) rest p h = let b = next_of got rest p h in record { rest = b.rest; is = ap (λ xs. q ∷ xs) b.is }
 
-pub begins_next : (sent got : List Shipped) (p : Shipped) → Begins got sent → slice_get sent (length got) ≡ Some p → Begins (got ++ p ∷ []) sent
-begins_next sent got p b h = subst (Begins (got ++ p ∷ [])) (sym b.is) (next_of got b.rest p (subst (λ xs. slice_get xs (length got) ≡ Some p) b.is h))
+pub begins_next : (sent got : List Shipped) (p : Shipped) → IsPrefix got sent → slice_get sent (length got) ≡ Some p → IsPrefix (got ++ p ∷ []) sent
+begins_next sent got p b h = subst (IsPrefix (got ++ p ∷ [])) (sym b.is) (next_of got b.rest p (subst (λ xs. slice_get xs (length got) ≡ Some p) b.is h))
 
 pub link_collected : (cap slots : ℕ) (sent got : List Shipped) (p : Shipped) → slice_get sent (length got) ≡ Some p → LinkLaw cap slots sent got → LinkLaw cap slots sent (got ++ p ∷ [])
 link_collected cap slots sent got p next law = record {

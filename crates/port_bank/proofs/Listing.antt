@@ -3,7 +3,7 @@ use Rattle.std.proofs.Common.{◌≡◌, ◌≢◌, ℕ, zero, suc, ◌+◌, ◌
 use Rattle.std.proofs.lemmas.Bool.{cases_eq, cases_lt, lt-ltb, le-ltb}
 use Rattle.bale_items.specs.declared.item.Item.{Item}
 use Rattle.list_laws.proofs.Lists.{get_before, get_last}
-use Rattle.list_laws.specs.Lists.{Begins}
+use Rattle.list_laws.specs.Lists.{IsPrefix}
 use Rattle.port_bank.specs.Machine.{ItemLists, for_ranks, with_item, without_last, Part, IsThrough, done_of}
 
 pub for_ranks-within : (n : ℕ) (lists : ItemLists) (e r : ℕ) → r < n → for_ranks n lists e r ≡ lists e r
@@ -92,7 +92,7 @@ pub with-item_here : (lists : ItemLists) (e r : ℕ) (x : Item) → with_item li
 with-item_here lists e r x = ap (λ b. cond (b && (r == r)) (lists e r ++ x ∷ []) (lists e r)) (eq-eqb e e refl) ∙ ap (λ b. cond b (lists e r ++ x ∷ []) (lists e r)) (eq-eqb r r refl)
 
 -- an item that is appended to a front stands next in the whole
-pub next_of : (xs ys : List Item) (x : Item) → Begins (xs ++ x ∷ []) ys → slice_get ys (length xs) ≡ Some x
+pub next_of : (xs ys : List Item) (x : Item) → IsPrefix (xs ++ x ∷ []) ys → slice_get ys (length xs) ≡ Some x
 next_of xs ys x b =
     ap (λ l. slice_get l (length xs)) b.is
     ∙ (get_before (xs ++ x ∷ []) b.rest (length xs) (omega (arith, length-append xs (x ∷ []))) ∙ get_last xs x)

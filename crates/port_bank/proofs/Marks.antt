@@ -3,7 +3,7 @@ use Rattle.std.proofs.Common.{◌≡◌, ℕ, zero, suc, ◌+◌, ◌<◌, ◌�
 use Rattle.std.proofs.lemmas.Bool.{cases_Bool}
 use Rattle.std.proofs.lemmas.List.{append-nil}
 use Rattle.item_buffer.specs.Contents.{Shipped}
-use Rattle.list_laws.specs.Lists.{Begins}
+use Rattle.list_laws.specs.Lists.{IsPrefix}
 use Rattle.port_bank.specs.Logs.{lasts, segment, EndsLast, lasts_in}
 use Rattle.port_bank.proofs.Posts.{segment_then}
 use Rattle.port_bank.proofs.Segments.{lasts-append, lasts_first}
@@ -35,8 +35,8 @@ unmarked_none [] rest front final e last none = absurd (omega (arith, ap lasts e
 unmarked_none (g ∷ gs) rest [] final e last none = omega (arith, ap length e, length-append gs rest)
 unmarked_none (g ∷ gs) rest (f ∷ fs) final e last none = unmarked_none gs rest fs final (ap tail_of e) last none
 
--- a front of a log that ends with a last parcel, with as many marks, is all of it
-pub all_got : (got sent : List Shipped) → Begins got sent → EndsLast sent → lasts got ≡ lasts sent → got ≡ sent
+-- a prefix of a log that ends with a last parcel, with as many marks, is all of it
+pub all_got : (got sent : List Shipped) → IsPrefix got sent → EndsLast sent → lasts got ≡ lasts sent → got ≡ sent
 all_got got sent b t e =
     let none : lasts b.rest ≡ 0 = omega (arith, ap lasts b.is, lasts-append got b.rest, e) in
     by b.rest b.is (unmarked_none got b.rest t.front t.final (sym b.is ∙ t.is) t.last none) where

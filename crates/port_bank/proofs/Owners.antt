@@ -3,7 +3,7 @@ use Rattle.std.proofs.Common.{◌≡◌, ◌≢◌, ℕ, ◌==◌, Bool, true, f
 use Rattle.std.proofs.lemmas.Bool.{cases_eq}
 use Rattle.item_buffer.specs.Contents.{Shipped}
 use Rattle.route_tensor.specs.Ends.{sender_at, reader_at}
-use Rattle.port_bank.specs.Logs.{Logs, added, starting_at, ending_at, starting_elsewhere, ending_elsewhere}
+use Rattle.port_bank.specs.Logs.{Logs, with_parcel, starting_at, ending_at, starting_elsewhere, ending_elsewhere}
 use Rattle.port_bank.proofs.Kept.{added-other}
 
 -- a rank's own logs are among all
@@ -44,29 +44,29 @@ pub got_rejoined : (dims : List ℕ) (r : ℕ) (old new : Logs) → ending_at di
 got_rejoined dims r old new here there = λ i l. both (reader_at dims l == r) (new l) (old l) (ap (λ f. f l) here) (ap (λ f. f l) there) i
 
 -- so with one parcel more on its own link
-own_added : (own : ℕ → ℕ) (r : ℕ) (logs : Logs) (l : ℕ) (p : Shipped) → own l ≡ r → (m : ℕ) → added (λ n. cond (own n == r) (logs n) []) l p m ≡ cond (own m == r) (added logs l p m) []
+own_added : (own : ℕ → ℕ) (r : ℕ) (logs : Logs) (l : ℕ) (p : Shipped) → own l ≡ r → (m : ℕ) → with_parcel (λ n. cond (own n == r) (logs n) []) l p m ≡ cond (own m == r) (with_parcel logs l p m) []
 own_added own r logs l p here m = elim (cases_eq m l) [
   | inl e ↦
       let is : (own m == r) ≡ true = eq-eqb (own m) r (ap own e ∙ here) in
-      ap (λ b. cond (m == l) (cond b (logs m) [] ++ p ∷ []) (cond b (logs m) [])) is ∙ sym (ap (λ b. cond b (added logs l p m) []) is)
+      ap (λ b. cond (m == l) (cond b (logs m) [] ++ p ∷ []) (cond b (logs m) [])) is ∙ sym (ap (λ b. cond b (with_parcel logs l p m) []) is)
   | inr other ↦
       added-other (λ n. cond (own n == r) (logs n) []) l m p other ∙ sym (ap (λ (log : List Shipped). cond (own m == r) log []) (added-other logs l m p other))
 ]
 
-elsewhere_added : (own : ℕ → ℕ) (r : ℕ) (logs : Logs) (l : ℕ) (p : Shipped) → own l ≡ r → (m : ℕ) → cond (own m == r) [] (logs m) ≡ cond (own m == r) [] (added logs l p m)
+elsewhere_added : (own : ℕ → ℕ) (r : ℕ) (logs : Logs) (l : ℕ) (p : Shipped) → own l ≡ r → (m : ℕ) → cond (own m == r) [] (logs m) ≡ cond (own m == r) [] (with_parcel logs l p m)
 elsewhere_added own r logs l p here m = elim (cases_eq m l) [
   | inl e ↦
       let is : (own m == r) ≡ true = eq-eqb (own m) r (ap own e ∙ here) in
-      ap (λ b. cond b [] (logs m)) is ∙ sym (ap (λ b. cond b [] (added logs l p m)) is)
+      ap (λ b. cond b [] (logs m)) is ∙ sym (ap (λ b. cond b [] (with_parcel logs l p m)) is)
   | inr other ↦ ap (λ (log : List Shipped). cond (own m == r) [] log) (sym (added-other logs l m p other))
 ]
 
-pub sent_more_rejoined : (dims : List ℕ) (r : ℕ) (old new : Logs) (l : ℕ) (p : Shipped) → sender_at dims l ≡ r → starting_at dims r new ≡ added (starting_at dims r old) l p
-    → starting_elsewhere dims r new ≡ starting_elsewhere dims r old → new ≡ added old l p
+pub sent_more_rejoined : (dims : List ℕ) (r : ℕ) (old new : Logs) (l : ℕ) (p : Shipped) → sender_at dims l ≡ r → starting_at dims r new ≡ with_parcel (starting_at dims r old) l p
+    → starting_elsewhere dims r new ≡ starting_elsewhere dims r old → new ≡ with_parcel old l p
 sent_more_rejoined dims r old new l p from here there =
-    sent_rejoined dims r (added old l p) new (here ∙ (λ i m. own_added (sender_at dims) r old l p from m i)) (there ∙ (λ i m. elsewhere_added (sender_at dims) r old l p from m i))
+    sent_rejoined dims r (with_parcel old l p) new (here ∙ (λ i m. own_added (sender_at dims) r old l p from m i)) (there ∙ (λ i m. elsewhere_added (sender_at dims) r old l p from m i))
 
-pub got_more_rejoined : (dims : List ℕ) (r : ℕ) (old new : Logs) (l : ℕ) (p : Shipped) → reader_at dims l ≡ r → ending_at dims r new ≡ added (ending_at dims r old) l p
-    → ending_elsewhere dims r new ≡ ending_elsewhere dims r old → new ≡ added old l p
+pub got_more_rejoined : (dims : List ℕ) (r : ℕ) (old new : Logs) (l : ℕ) (p : Shipped) → reader_at dims l ≡ r → ending_at dims r new ≡ with_parcel (ending_at dims r old) l p
+    → ending_elsewhere dims r new ≡ ending_elsewhere dims r old → new ≡ with_parcel old l p
 got_more_rejoined dims r old new l p to here there =
-    got_rejoined dims r (added old l p) new (here ∙ (λ i m. own_added (reader_at dims) r old l p to m i)) (there ∙ (λ i m. elsewhere_added (reader_at dims) r old l p to m i))
+    got_rejoined dims r (with_parcel old l p) new (here ∙ (λ i m. own_added (reader_at dims) r old l p to m i)) (there ∙ (λ i m. elsewhere_added (reader_at dims) r old l p to m i))

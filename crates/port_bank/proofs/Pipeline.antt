@@ -1,8 +1,8 @@
 -- Over all hops of a route a pair's items arrive in order, and all of them where the epoch was
 -- ended.
 --
--- On each hop the reader's flow is the front of the sender's, since what was collected is the front
--- of what was posted; and at each rank between two hops the flow sent on is the front of the flow
+-- On each hop the reader's flow is a prefix of the sender's, since what was collected is the front
+-- of what was posted; and at each rank between two hops the flow sent on is a prefix of the flow
 -- got, by the relay law. Where the last link has ended an epoch, its sender had got the end of that
 -- epoch on the hop before, and so on back to the first hop: there every front is the whole.
 use Rattle.std.proofs.Common.{◌≡◌, ℕ, zero, suc, ◌+◌, ◌-◌, ◌<◌, ◌≤◌, List, length, refl, sym, ap, subst, ◌∙◌, arith}
@@ -11,7 +11,7 @@ use Rattle.route_tensor.specs.Link.{links}
 use Rattle.route_tensor.proofs.Coordinates.{place_below}
 use Rattle.port_bank.specs.Logs.{Logs, lasts}
 use Rattle.port_bank.specs.Flow.{hop_link, flow}
-use Rattle.list_laws.specs.Lists.{Begins}
+use Rattle.list_laws.specs.Lists.{IsPrefix}
 use Rattle.port_bank.specs.Relay.{RelayLaw}
 use Rattle.route_tensor.specs.Pair.{PassesThrough}
 use Rattle.port_bank.proofs.Fronts.{begins_trans}
@@ -19,11 +19,11 @@ use Rattle.port_bank.proofs.Segments.{lasts_begins}
 use Rattle.port_bank.proofs.Kept.{flow_begins, flow_same, between}
 use Rattle.port_bank.proofs.Routes.{link-on_route}
 
--- A bank whose links and ranks keep their laws: what is collected of a link is the front of what is
+-- A bank whose links and ranks keep their laws: what is collected of a link is a prefix of what is
 -- posted on it, and each rank's own logs meet the relay law.
 pub record Keeps (dims : List ℕ) (sent got : Logs) : Type 0 where
   pub grid : IsGrid dims
-  pub fronts : (l : ℕ) → l < links dims → Begins (got l) (sent l)
+  pub fronts : (l : ℕ) → l < links dims → IsPrefix (got l) (sent l)
   pub relays : (r : ℕ) → r < ranks dims → RelayLaw dims r sent got
 
 module _ (dims : List ℕ) (sent got : Logs) (k : Keeps dims sent got) (s d e : ℕ) (from : s < ranks dims) (to : d < ranks dims) where
@@ -34,11 +34,11 @@ module _ (dims : List ℕ) (sent got : Logs) (k : Keeps dims sent got) (s d e : 
   rank_at : (h : ℕ) → place dims s d h < ranks dims
   rank_at h = place_below dims s d h k.grid.positive from to
 
-  front_at : (h : ℕ) → 1 ≤ h → h ≤ length dims → Begins (got (hop_link dims s d h)) (sent (hop_link dims s d h))
+  front_at : (h : ℕ) → 1 ≤ h → h ≤ length dims → IsPrefix (got (hop_link dims s d h)) (sent (hop_link dims s d h))
   front_at h first last = k.fronts (hop_link dims s d h) (link-on_route dims s d h k.grid from to first last)
 
   -- over one hop and the rank before it
-  one_more : (h : ℕ) → 1 ≤ h → h < length dims → Begins (flow dims got s d (h + 1) e) (flow dims got s d h e)
+  one_more : (h : ℕ) → 1 ≤ h → h < length dims → IsPrefix (flow dims got s d (h + 1) e) (flow dims got s d h e)
   one_more h first last =
       begins_trans _ _ _ (flow_begins dims got sent s d (h + 1) e (front_at (h + 1) (omega arith) (omega arith)))
       ((k.relays (place dims s d h) (rank_at h)).begins s d h e (relays_at h first last))
@@ -55,11 +55,11 @@ module _ (dims : List ℕ) (sent got : Logs) (k : Keeps dims sent got) (s d e : 
         sym (flow_same dims got sent s d (h + 1) e front ended) ∙ law.whole s d h e (relays_at h first last) sent_all,
       )
 
-  arrived : (n : ℕ) → suc n ≤ length dims → Begins (flow dims got s d (suc n) e) (flow dims sent s d 1 e)
+  arrived : (n : ℕ) → suc n ≤ length dims → IsPrefix (flow dims got s d (suc n) e) (flow dims sent s d 1 e)
   arrived zero last = flow_begins dims got sent s d 1 e (front_at 1 (omega arith) last)
   arrived (suc n) last =
       let next : suc n + 1 ≡ suc (suc n) = omega arith in
-      begins_trans _ _ _ (subst (λ m. Begins (flow dims got s d m e) (flow dims got s d (suc n) e)) next (one_more (suc n) (omega arith) (omega arith))) (arrived n (omega arith))
+      begins_trans _ _ _ (subst (λ m. IsPrefix (flow dims got s d m e) (flow dims got s d (suc n) e)) next (one_more (suc n) (omega arith) (omega arith))) (arrived n (omega arith))
 
   arrived_all : (n : ℕ) → suc n ≤ length dims → e < lasts (got (hop_link dims s d (suc n))) → flow dims got s d (suc n) e ≡ flow dims sent s d 1 e
   arrived_all zero last ended = sym (flow_same dims got sent s d 1 e (front_at 1 (omega arith) last) ended)
@@ -72,8 +72,8 @@ module _ (dims : List ℕ) (sent got : Logs) (k : Keeps dims sent got) (s d e : 
   last_hop : suc (length dims - 1) ≡ length dims
   last_hop = let some = k.grid.some in omega arith
 
-  pub arrives_in_order : Begins (flow dims got s d (length dims) e) (flow dims sent s d 1 e)
-  arrives_in_order = subst (λ m. Begins (flow dims got s d m e) (flow dims sent s d 1 e)) last_hop (arrived (length dims - 1) (let q = last_hop in omega arith))
+  pub arrives_in_order : IsPrefix (flow dims got s d (length dims) e) (flow dims sent s d 1 e)
+  arrives_in_order = subst (λ m. IsPrefix (flow dims got s d m e) (flow dims sent s d 1 e)) last_hop (arrived (length dims - 1) (let q = last_hop in omega arith))
 
   pub arrives_whole : e < lasts (got (hop_link dims s d (length dims))) → flow dims got s d (length dims) e ≡ flow dims sent s d 1 e
   arrives_whole ended =

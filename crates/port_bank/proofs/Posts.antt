@@ -10,10 +10,10 @@ use Rattle.item_buffer.specs.Contents.{Shipped}
 use Rattle.route_tensor.specs.Grid.{IsGrid}
 use Rattle.route_tensor.specs.Link.{links}
 use Rattle.route_tensor.specs.Ends.{hop_at, sender_at, reader_at}
-use Rattle.port_bank.specs.Logs.{Logs, lasts, segment, added}
-use Rattle.port_bank.specs.Flow.{hop_link, items_of, flow}
+use Rattle.port_bank.specs.Logs.{Logs, lasts, segment, with_parcel}
+use Rattle.port_bank.specs.Flow.{hop_link, passing_items, flow}
 use Rattle.route_tensor.specs.Pair.{belongs, PassesThrough}
-use Rattle.list_laws.specs.Lists.{Begins}
+use Rattle.list_laws.specs.Lists.{IsPrefix}
 use Rattle.port_bank.specs.Relay.{HasFairTags, RelayLaw}
 use Rattle.port_bank.proofs.Segments.{lasts-append, lasts_first}
 use Rattle.port_bank.proofs.Routes.{hop-on_route, numbered}
@@ -55,7 +55,7 @@ segment_then (suc e) [] p h = elim p.last as (λ b. cond b (segment e []) (segme
 segment_then zero (q ∷ qs) p h = then_first q p qs q.last (λ x. h (x ∙ sym (lasts_first q qs q.last refl))) (segment_then zero qs p)
 segment_then (suc e) (q ∷ qs) p h = then_later e p qs q.last (λ x. h (x ∙ sym (lasts_first q qs q.last refl))) (segment_then e qs p) (segment_then (suc e) qs p)
 
-pub items-append : (keep : Entry → Bool) (log more : List Shipped) → items_of keep (log ++ more) ≡ items_of keep log ++ items_of keep more
+pub items-append : (keep : Entry → Bool) (log more : List Shipped) → passing_items keep (log ++ more) ≡ passing_items keep log ++ passing_items keep more
 items-append keep log more =
     let f : Shipped → List Entry = λ p. p.entries in
     ap (λ es. map (λ (x : Entry). x.item) (filter keep es)) (flat_map-append f log more)
@@ -63,40 +63,40 @@ items-append keep log more =
 
 module _ (dims : List ℕ) (logs : Logs) (l : ℕ) (p : Shipped) (s d h e : ℕ) where
   -- a parcel on the pair's link adds its items to the flow of the epoch that the link is in
-  pub flow_now : hop_link dims s d h ≡ l → e ≡ lasts (logs l) → flow dims (added logs l p) s d h e ≡ flow dims logs s d h e ++ items_of (belongs dims s d h) (p ∷ [])
+  pub flow_now : hop_link dims s d h ≡ l → e ≡ lasts (logs l) → flow dims (with_parcel logs l p) s d h e ≡ flow dims logs s d h e ++ passing_items (belongs dims s d h) (p ∷ [])
   flow_now here epoch =
       let keep = belongs dims s d h in
-      ap (λ m. items_of keep (segment e (added logs l p m))) here
-      ∙ (ap (λ log. items_of keep (segment e log)) (added-here logs l p)
-      ∙ (ap (items_of keep) (segment_now e (logs l) p epoch)
+      ap (λ m. passing_items keep (segment e (with_parcel logs l p m))) here
+      ∙ (ap (λ log. passing_items keep (segment e log)) (added-here logs l p)
+      ∙ (ap (passing_items keep) (segment_now e (logs l) p epoch)
       ∙ (items-append keep (segment e (logs l)) (p ∷ [])
-      ∙ ap (λ m. items_of keep (segment e (logs m)) ++ items_of keep (p ∷ [])) (sym here))))
+      ∙ ap (λ m. passing_items keep (segment e (logs m)) ++ passing_items keep (p ∷ [])) (sym here))))
 
   -- and to no flow of another epoch
-  pub flow_then : hop_link dims s d h ≡ l → e ≢ lasts (logs l) → flow dims (added logs l p) s d h e ≡ flow dims logs s d h e
+  pub flow_then : hop_link dims s d h ≡ l → e ≢ lasts (logs l) → flow dims (with_parcel logs l p) s d h e ≡ flow dims logs s d h e
   flow_then here epoch =
       let keep = belongs dims s d h in
-      ap (λ m. items_of keep (segment e (added logs l p m))) here
-      ∙ (ap (λ log. items_of keep (segment e log)) (added-here logs l p)
-      ∙ (ap (items_of keep) (segment_then e (logs l) p epoch) ∙ ap (λ m. items_of keep (segment e (logs m))) (sym here)))
+      ap (λ m. passing_items keep (segment e (with_parcel logs l p m))) here
+      ∙ (ap (λ log. passing_items keep (segment e log)) (added-here logs l p)
+      ∙ (ap (passing_items keep) (segment_then e (logs l) p epoch) ∙ ap (λ m. passing_items keep (segment e (logs m))) (sym here)))
 
   -- or another link
-  pub flow_elsewhere : hop_link dims s d h ≢ l → flow dims (added logs l p) s d h e ≡ flow dims logs s d h e
-  flow_elsewhere other = flow_at dims (added logs l p) logs s d h e (added-other logs l (hop_link dims s d h) p other)
+  pub flow_elsewhere : hop_link dims s d h ≢ l → flow dims (with_parcel logs l p) s d h e ≡ flow dims logs s d h e
+  flow_elsewhere other = flow_at dims (with_parcel logs l p) logs s d h e (added-other logs l (hop_link dims s d h) p other)
 
 -- What a rank must know of a parcel that it posts on link l, beside the law of what it sent before.
 -- fair: its tags are fair on the link's hop.
--- begins: with it, what is sent of each pair of the link in this epoch is the front of what was
+-- begins: with it, what is sent of each pair of the link in this epoch is a prefix of what was
 -- got.
 -- closed: where it is marked last, each link in of the hop before has ended this epoch.
 -- whole: and then what is sent of each pair is all that was got.
 pub record MayPost (dims : List ℕ) (r : ℕ) (sent got : Logs) (l : ℕ) (p : Shipped) : Type 0 where
   pub fair : HasFairTags dims (hop_at dims l) p
   pub begins : (s d h : ℕ) → PassesThrough dims r s d h → hop_link dims s d (h + 1) ≡ l
-      → Begins (flow dims sent s d (h + 1) (lasts (sent l)) ++ items_of (belongs dims s d (h + 1)) (p ∷ [])) (flow dims got s d h (lasts (sent l)))
+      → IsPrefix (flow dims sent s d (h + 1) (lasts (sent l)) ++ passing_items (belongs dims s d (h + 1)) (p ∷ [])) (flow dims got s d h (lasts (sent l)))
   pub closed : (m : ℕ) → p.last ≡ true → m < links dims → reader_at dims m ≡ r → hop_at dims l ≡ hop_at dims m + 1 → lasts (sent l) < lasts (got m)
   pub whole : (s d h : ℕ) → p.last ≡ true → PassesThrough dims r s d h → hop_link dims s d (h + 1) ≡ l
-      → flow dims sent s d (h + 1) (lasts (sent l)) ++ items_of (belongs dims s d (h + 1)) (p ∷ []) ≡ flow dims got s d h (lasts (sent l))
+      → flow dims sent s d (h + 1) (lasts (sent l)) ++ passing_items (belongs dims s d (h + 1)) (p ∷ []) ≡ flow dims got s d h (lasts (sent l))
 
 -- a mark counts once
 marked : (p : Shipped) → 0 < lasts (p ∷ []) → p.last ≡ true
@@ -116,31 +116,31 @@ ended_with log p e h = elim (cases_lt e (lasts log)) [
 ]
 
 module _ (dims : List ℕ) (r : ℕ) (sent got : Logs) (l : ℕ) (p : Shipped) (g : IsGrid dims) (law : RelayLaw dims r sent got) (may : MayPost dims r sent got l p) where
-  fair_after : (m : ℕ) → m < links dims → sender_at dims m ≡ r → All (HasFairTags dims (hop_at dims m)) (added sent l p m)
+  fair_after : (m : ℕ) → m < links dims → sender_at dims m ≡ r → All (HasFairTags dims (hop_at dims m)) (with_parcel sent l p m)
   fair_after m a from = elim (cases_eq m l) [
     | inl e ↦
         let P : Shipped → Type 0 = HasFairTags dims (hop_at dims m) in
         let here : HasFairTags dims (hop_at dims m) p = subst (λ n. HasFairTags dims (hop_at dims n) p) (sym e) may.fair in
-        let is : added sent l p m ≡ sent m ++ p ∷ [] = subst (λ n. added sent l p n ≡ sent n ++ p ∷ []) (sym e) (added-here sent l p) in
+        let is : with_parcel sent l p m ≡ sent m ++ p ∷ [] = subst (λ n. with_parcel sent l p n ≡ sent n ++ p ∷ []) (sym e) (added-here sent l p) in
         subst (All P) (sym is) (All-append P (sent m) (p ∷ []) (law.fair m a from) (All-cons P p [] here (All-nil P)))
     | inr ne ↦ subst (All (HasFairTags dims (hop_at dims m))) (sym (added-other sent l m p ne)) (law.fair m a from)
   ]
 
-  begins_after : (s d h e : ℕ) → PassesThrough dims r s d h → Begins (flow dims (added sent l p) s d (h + 1) e) (flow dims got s d h e)
+  begins_after : (s d h e : ℕ) → PassesThrough dims r s d h → IsPrefix (flow dims (with_parcel sent l p) s d (h + 1) e) (flow dims got s d h e)
   begins_after s d h e q = elim (cases_eq (hop_link dims s d (h + 1)) l) [
     | inl here ↦ elim (cases_eq e (lasts (sent l))) [
       | inl now ↦
-          subst (λ u. Begins u (flow dims got s d h e)) (sym (flow_now dims sent l p s d (h + 1) e here now))
-          (subst (λ n. Begins (flow dims sent s d (h + 1) n ++ items_of (belongs dims s d (h + 1)) (p ∷ [])) (flow dims got s d h n)) (sym now) (may.begins s d h q here))
-      | inr then' ↦ subst (λ u. Begins u (flow dims got s d h e)) (sym (flow_then dims sent l p s d (h + 1) e here then')) (law.begins s d h e q)
+          subst (λ u. IsPrefix u (flow dims got s d h e)) (sym (flow_now dims sent l p s d (h + 1) e here now))
+          (subst (λ n. IsPrefix (flow dims sent s d (h + 1) n ++ passing_items (belongs dims s d (h + 1)) (p ∷ [])) (flow dims got s d h n)) (sym now) (may.begins s d h q here))
+      | inr then' ↦ subst (λ u. IsPrefix u (flow dims got s d h e)) (sym (flow_then dims sent l p s d (h + 1) e here then')) (law.begins s d h e q)
     ]
-    | inr other ↦ subst (λ u. Begins u (flow dims got s d h e)) (sym (flow_elsewhere dims sent l p s d (h + 1) e other)) (law.begins s d h e q)
+    | inr other ↦ subst (λ u. IsPrefix u (flow dims got s d h e)) (sym (flow_elsewhere dims sent l p s d (h + 1) e other)) (law.begins s d h e q)
   ]
 
-  closed_after : (k m e : ℕ) → k < links dims → m < links dims → sender_at dims k ≡ r → reader_at dims m ≡ r → hop_at dims k ≡ hop_at dims m + 1 → e < lasts (added sent l p k) → e < lasts (got m)
+  closed_after : (k m e : ℕ) → k < links dims → m < links dims → sender_at dims k ≡ r → reader_at dims m ≡ r → hop_at dims k ≡ hop_at dims m + 1 → e < lasts (with_parcel sent l p k) → e < lasts (got m)
   closed_after k m e a b from to next w = elim (cases_eq k l) [
     | inl here ↦
-        let is : added sent l p k ≡ sent l ++ p ∷ [] = ap (added sent l p) here ∙ added-here sent l p in
+        let is : with_parcel sent l p k ≡ sent l ++ p ∷ [] = ap (with_parcel sent l p) here ∙ added-here sent l p in
         elim (ended_with (sent l) p e (subst (λ log. e < lasts log) is w)) [
           | inl before ↦ law.closed k m e a b from to next (subst (λ n. e < lasts (sent n)) (sym here) before)
           | inr now ↦ subst (λ n. n < lasts (got m)) (sym now.0) (may.closed m now.1 b to (ap (hop_at dims) (sym here) ∙ next))
@@ -148,23 +148,23 @@ module _ (dims : List ℕ) (r : ℕ) (sent got : Logs) (l : ℕ) (p : Shipped) (
     | inr other ↦ law.closed k m e a b from to next (subst (λ log. e < lasts log) (added-other sent l k p other) w)
   ]
 
-  whole_after : (s d h e : ℕ) → PassesThrough dims r s d h → e < lasts (added sent l p (hop_link dims s d (h + 1))) → flow dims (added sent l p) s d (h + 1) e ≡ flow dims got s d h e
+  whole_after : (s d h e : ℕ) → PassesThrough dims r s d h → e < lasts (with_parcel sent l p (hop_link dims s d (h + 1))) → flow dims (with_parcel sent l p) s d (h + 1) e ≡ flow dims got s d h e
   whole_after s d h e q w = elim (cases_eq (hop_link dims s d (h + 1)) l) [
     | inl here ↦
-        let is : added sent l p (hop_link dims s d (h + 1)) ≡ sent l ++ p ∷ [] = ap (added sent l p) here ∙ added-here sent l p in
+        let is : with_parcel sent l p (hop_link dims s d (h + 1)) ≡ sent l ++ p ∷ [] = ap (with_parcel sent l p) here ∙ added-here sent l p in
         elim (ended_with (sent l) p e (subst (λ log. e < lasts log) is w)) [
           | inl before ↦
               let earlier : e ≢ lasts (sent l) = λ same. let k : e < lasts (sent l) = before in omega (arith, k, same) in
               flow_then dims sent l p s d (h + 1) e here earlier ∙ law.whole s d h e q (subst (λ n. e < lasts (sent n)) (sym here) before)
           | inr now ↦
               flow_now dims sent l p s d (h + 1) e here now.0
-              ∙ subst (λ n. flow dims sent s d (h + 1) n ++ items_of (belongs dims s d (h + 1)) (p ∷ []) ≡ flow dims got s d h n) (sym now.0) (may.whole s d h now.1 q here)
+              ∙ subst (λ n. flow dims sent s d (h + 1) n ++ passing_items (belongs dims s d (h + 1)) (p ∷ []) ≡ flow dims got s d h n) (sym now.0) (may.whole s d h now.1 q here)
         ]
     | inr other ↦ flow_elsewhere dims sent l p s d (h + 1) e other ∙ law.whole s d h e q (subst (λ log. e < lasts log) (added-other sent l (hop_link dims s d (h + 1)) p other) w)
   ]
 
   -- so the rank keeps the relay law
-  pub law_posted : RelayLaw dims r (added sent l p) got
+  pub law_posted : RelayLaw dims r (with_parcel sent l p) got
   law_posted = record { fair = fair_after; begins = begins_after; closed = closed_after; whole = whole_after }
 
 -- on the first hop a rank may post whatever has fair tags

@@ -21,6 +21,6 @@ once_if made call = if made then call ∷ [] else []
 -- one.
 -- swept made call n is call 0, call 1, .., call (n - 1), without those that are not made.
 -- Of three posts of which the second is not made, it is Post 0, Post 2.
-abbrev pub swept : (ℕ → Bool) → (ℕ → Call) → ℕ → List Call
-swept made call zero = []
-swept made call (suc n) = swept made call n ++ once_if (made n) (call n)
+abbrev pub sweep_calls : (ℕ → Bool) → (ℕ → Call) → ℕ → List Call
+sweep_calls made call zero = []
+sweep_calls made call (suc n) = sweep_calls made call n ++ once_if (made n) (call n)

@@ -42,8 +42,8 @@ abbrev pub IsDated : List Shipped → Type 0
 IsDated log = EachAt (λ i p. p.epoch ≡ lasts (take i log)) log
 
 -- The logs with one more parcel on link l.
-abbrev pub added : Logs → ℕ → Shipped → Logs
-added logs l p = λ m. if m == l then logs m ++ p ∷ [] else logs m
+abbrev pub with_parcel : Logs → ℕ → Shipped → Logs
+with_parcel logs l p = λ m. if m == l then logs m ++ p ∷ [] else logs m
 
 -- Of all logs, those of the links that start at rank r, or that end there; the others are empty.
 abbrev pub starting_at : List ℕ → ℕ → Logs → Logs

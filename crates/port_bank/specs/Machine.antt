@@ -4,7 +4,7 @@ use Rattle.std.specs.Prelude.{◌≡◌, ◌≢◌, ℕ, ◌+◌, ◌-◌, ◌<�
 use Rattle.std.specs.Prelude.{if◌then◌else◌}
 use Rattle.std.specs.Prelude.{◌∷◌, ◌++◌, length, take, slice_get, Option, Some, None, IsSome}
 use Rattle.bale_items.specs.declared.item.Item.{Item}
-use Rattle.list_laws.specs.Lists.{Begins}
+use Rattle.list_laws.specs.Lists.{IsPrefix}
 
 -- A list of items for each epoch and rank.
 abbrev pub ItemLists : Type 0
@@ -127,12 +127,12 @@ abbrev pub done_of : Part → ℕ
 done_of p = if p.done then p.epoch + 1 else p.epoch
 
 -- What the ranks know of one another's epochs.
--- begins: what a rank pulled of another is the front of what that one pushed toward it.
+-- begins: what a rank pulled of another is a prefix of what that one pushed toward it.
 -- all_done: in each epoch that some rank has completed, every rank was done.
 -- whole: in each epoch that a rank has completed itself, it pulled all that the others pushed
 -- toward it.
 pub record EpochsClose (ranks : ℕ) (state : Ranks) : Type 0 where
-  pub begins : (r s e : ℕ) → r < ranks → s < ranks → Begins ((state r).pulled e s) ((state s).pushed e r)
+  pub begins : (r s e : ℕ) → r < ranks → s < ranks → IsPrefix ((state r).pulled e s) ((state s).pushed e r)
   pub all_done : (r s : ℕ) → r < ranks → s < ranks → completed_of (state r) ≤ done_of (state s)
   pub whole : (r s e : ℕ) → r < ranks → s < ranks → e < completed_of (state r)
       → (state r).pulled e s ≡ (state s).pushed e r

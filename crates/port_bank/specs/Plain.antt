@@ -29,22 +29,22 @@ pub record Channel : Type 0 where
   pub noted : ℕ
 
 -- A link on which nothing was done.
-abbrev pub unused : Channel
-unused = record { sent = []; got = []; looks_out = 0; looks_in = 0; listens = 0; noted = 0 }
+abbrev pub unused_channel : Channel
+unused_channel = record { sent = []; got = []; looks_out = 0; looks_in = 0; listens = 0; noted = 0 }
 
 -- The link after its sender looked, found room and posted a parcel; and after it found none.
-abbrev pub posted : Channel → Shipped → Channel
-posted c p = record c { sent = c.sent ++ p ∷ []; looks_out = next_count c.looks_out }
+abbrev pub channel_after_post : Channel → Shipped → Channel
+channel_after_post c p = record c { sent = c.sent ++ p ∷ []; looks_out = next_count c.looks_out }
 
-abbrev pub refused : Channel → Channel
-refused c = record c { looks_out = next_count c.looks_out }
+abbrev pub channel_after_refusal : Channel → Channel
+channel_after_refusal c = record c { looks_out = next_count c.looks_out }
 
 -- The link after its reader looked and found nothing; and after it collected a parcel.
-abbrev pub listened : Channel → Channel
-listened c = record c { looks_in = next_count c.looks_in; listens = next_count c.listens; noted = next_count c.listens }
+abbrev pub channel_after_look : Channel → Channel
+channel_after_look c = record c { looks_in = next_count c.looks_in; listens = next_count c.listens; noted = next_count c.listens }
 
-abbrev pub collected : Channel → Shipped → Channel
-collected c p = record (listened c) { got = c.got ++ p ∷ [] }
+abbrev pub channel_after_collect : Channel → Shipped → Channel
+channel_after_collect c p = record (channel_after_look c) { got = c.got ++ p ∷ [] }
 
 -- A plain bank: its grid, its number of slots per link, and each link by its number.
 pub record Bank : Type 0 where
@@ -53,7 +53,7 @@ pub record Bank : Type 0 where
   pub channels : List Channel
 
 abbrev pub channel_at : Bank → ℕ → Channel
-channel_at b l = slice_index_or b.channels l unused
+channel_at b l = slice_index_or b.channels l unused_channel
 
 -- The bank with another channel at link l.
 abbrev pub with_channel : Bank → ℕ → Channel → Bank
@@ -81,23 +81,23 @@ abbrev pub idle_of : ℕ → Bank → ℕ → Bool
 idle_of r b l = length (ending_at b.dims r (got_of b) l) == length (sent_of b l)
 
 -- What a post did to the bank, by its answer: each look at a link is counted.
-pub record DidPost (old new : Bank) (l : ℕ) (p : Shipped) (r : Result Posted NoMemory) : Type 0 where
-  pub sent : r ≡ Ok Sent → new ≡ with_channel old l (posted (channel_at old l) p)
-  pub no_room : r ≡ Ok NoRoom → new ≡ with_channel old l (refused (channel_at old l))
+pub record BankPosted (old new : Bank) (l : ℕ) (p : Shipped) (r : Result Posted NoMemory) : Type 0 where
+  pub sent : r ≡ Ok Sent → new ≡ with_channel old l (channel_after_post (channel_at old l) p)
+  pub no_room : r ≡ Ok NoRoom → new ≡ with_channel old l (channel_after_refusal (channel_at old l))
   pub no_memory : IsErr r → new ≡ old
 
 -- What a collect did: it looked and listened once, and p is the next parcel where it got one.
-pub record DidCollect (old new : Bank) (l : ℕ) (p : Shipped) (r : Collected) : Type 0 where
-  pub got : r ≡ Got → new ≡ with_channel old l (collected (channel_at old l) p)
-  pub nothing : r ≡ Nothing → new ≡ with_channel old l (listened (channel_at old l))
+pub record BankCollected (old new : Bank) (l : ℕ) (p : Shipped) (r : Collected) : Type 0 where
+  pub got : r ≡ Got → new ≡ with_channel old l (channel_after_collect (channel_at old l) p)
+  pub nothing : r ≡ Nothing → new ≡ with_channel old l (channel_after_look (channel_at old l))
 
 -- A bank on which nothing was done.
 abbrev pub empty_bank : List ℕ → ℕ → Bank
-empty_bank dims slots = record { dims = dims; slots = slots; channels = replicate (links dims) unused }
+empty_bank dims slots = record { dims = dims; slots = slots; channels = replicate (links dims) unused_channel }
 
 -- What a plain bank of a capacity leaves when it is closed.
-abbrev pub closed : ℕ → Bank → Round
-closed cap b = record {
+abbrev pub round_of_bank : ℕ → Bank → Round
+round_of_bank cap b = record {
   dims = b.dims;
   cap = cap;
   slots = b.slots;
@@ -122,4 +122,4 @@ pub record IsBank (cap : ℕ) (b : Bank) : Type 0 where
 pub record HaveRings (channels : List Channel) (rings : List (List Shipped)) : Type 0 where
   pub number : length rings ≡ length channels
   pub each : (l : ℕ) → l < length channels
-      → (slice_index_or channels l unused).sent ≡ (slice_index_or channels l unused).got ++ slice_index_or rings l []
+      → (slice_index_or channels l unused_channel).sent ≡ (slice_index_or channels l unused_channel).got ++ slice_index_or rings l []

@@ -2,18 +2,18 @@
 use Rattle.std.specs.Prelude.{◌≡◌, ℕ, ◌-◌, ◌≤◌, List, ◌++◌, map, take, drop, length}
 use Rattle.std.specs.List.{All}
 use Rattle.item_buffer.specs.Capacity.{IsCap}
-use Rattle.item_buffer.specs.Contents.{Contents, Shipped, shipped, arrived, blank}
+use Rattle.item_buffer.specs.Contents.{Contents, Shipped, as_shipped, as_arrived, blank}
 
 -- The places from place n on, round to the one before it.
 -- turned n xs = drop n xs ++ take n xs
 -- Of the places a, b, c, from place 2 on: c, a, b.
-abbrev pub turned : {X : Type 0} → ℕ → List X → List X
-turned n xs = drop n xs ++ take n xs
+abbrev pub turned_from : {X : Type 0} → ℕ → List X → List X
+turned_from n xs = drop n xs ++ take n xs
 
 -- The parcels on their way: those of the first places from place `first` on, as many as wait.
 -- Of a, b, c with first 2 and 2 that wait: c, a.
 abbrev pub on_way : ℕ → ℕ → List Contents → List Shipped
-on_way first waiting places = map shipped (take waiting (turned first places))
+on_way first waiting places = map as_shipped (take waiting (turned_from first places))
 
 -- What the places of a link keep, for parcels of capacity cap.
 -- begins: the place of the next collect is one of them.
@@ -25,5 +25,5 @@ pub record IsRing (cap first waiting : ℕ) (places : List Contents) : Type 0 wh
   pub is_cap : IsCap cap
   pub begins : first ≤ length places - 1
   pub within : waiting ≤ length places
-  pub fresh : All (λ c. c ≡ arrived (shipped c)) (take waiting (turned first places))
-  pub empty : All (λ c. c ≡ blank c.epoch) (drop waiting (turned first places))
+  pub fresh : All (λ c. c ≡ as_arrived (as_shipped c)) (take waiting (turned_from first places))
+  pub empty : All (λ c. c ≡ blank c.epoch) (drop waiting (turned_from first places))

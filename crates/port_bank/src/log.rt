@@ -1,7 +1,7 @@
 //! The parcels that went over a link, for contracts alone: none of them is kept.
 ghost use Rattle.std.specs.Prelude.{◌≡◌, ◌++◌, [], ◌∷◌};
-ghost use Rattle.item_buffer.specs.Contents.{shipped};
-ghost use Rattle.port_bank.specs.Passed.{entries_of, parcels_of};
+ghost use Rattle.item_buffer.specs.Contents.{as_shipped};
+ghost use Rattle.port_bank.specs.PassedParcels.{passed_entries, parcels_of};
 
 use bale_items::Entry;
 use item_buffer::Parcel;
@@ -24,7 +24,7 @@ pub(crate) enum Log {
 impl Log {
     /// The log with one more parcel.
     pub(crate) fn with<const CAP: usize>(&self, p: &Parcel<CAP>) -> Log
-        ensures { parcels_of result ≡ parcels_of self.now ++ shipped p.now ∷ [] }
+        ensures { parcels_of result ≡ parcels_of self.now ++ as_shipped p.now ∷ [] }
     {
         let entries = seen(p.untaken());
         Log::Then(
@@ -38,7 +38,7 @@ impl Log {
 
 /// What contracts see of some entries. The loop has no effect, so optimized code has none of it.
 fn seen(entries: &[Entry]) -> Entries
-    ensures { entries_of result ≡ entries.now }
+    ensures { passed_entries result ≡ entries.now }
 {
     let mut all = Entries::None;
     for entry in entries {

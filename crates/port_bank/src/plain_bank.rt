@@ -2,15 +2,15 @@
 ghost use Rattle.std.specs.Prelude.{◌≡◌, ◌≢◌, ◌+◌, ◌<◌, ◌≤◌, length, IfOk, Ok};
 ghost use Rattle.bale_items.specs.Counters.{RoseOrFull};
 ghost use Rattle.item_buffer.specs.Capacity.{IsCap};
-ghost use Rattle.item_buffer.specs.Contents.{shipped, arrived, blank};
+ghost use Rattle.item_buffer.specs.Contents.{as_shipped, as_arrived, blank};
 ghost use Rattle.route_tensor.specs.Grid.{ranks};
 ghost use Rattle.route_tensor.specs.Link.{links};
 ghost use Rattle.route_tensor.specs.Ends.{sender_at};
-ghost use Rattle.port_bank.specs.Logs.{lasts, added, starting_at, ending_at};
+ghost use Rattle.port_bank.specs.Logs.{lasts, with_parcel, starting_at, ending_at};
 ghost use Rattle.port_bank.specs.Relay.{RelayLaw};
 ghost use Rattle.port_bank.specs.Port.{IsSlots};
 ghost use Rattle.port_bank.specs.Round.{IsRound};
-ghost use Rattle.port_bank.specs.Plain.{IsBank, DidPost, DidCollect, channel_at, sent_of, got_of, empty_bank, closed};
+ghost use Rattle.port_bank.specs.Plain.{IsBank, BankPosted, BankCollected, channel_at, sent_of, got_of, empty_bank, round_of_bank};
 ghost use Rattle.port_bank.specs.code.PlainLink.{IsNextOn};
 
 use crate::plain_link::PlainLink;
@@ -81,10 +81,10 @@ impl<const CAP: usize> PlainBank<CAP> {
         PlainPort::new(self, rank)
     }
 
-    /// Ends the exchange: what each rank pulled is the front of what the others pushed toward it,
+    /// Ends the exchange: what each rank pulled is a prefix of what the others pushed toward it,
     /// and all of it in each epoch that every link has ended.
     pub fn close(self) -> PlainRound
-        ensures round { result ≡ closed CAP self.entry }
+        ensures round { result ≡ round_of_bank CAP self.entry }
         ensures in_order { IsRound result }
     {
         let PlainBank {
@@ -99,7 +99,7 @@ impl<const CAP: usize> PlainBank<CAP> {
     /// Does nothing, and tells that the bank keeps the laws of a round at every moment, and not
     /// only when it is closed.
     pub fn live_law(&self)
-        ensures { IsRound (closed CAP self.now) }
+        ensures { IsRound (round_of_bank CAP self.now) }
     {
         let _slots = self.slots;
     }
@@ -117,9 +117,9 @@ impl<const CAP: usize> PlainBank<CAP> {
         requires fresh { p.old.taken ≡ 0 }
         requires epoch { p.old.epoch ≡ lasts (sent_of self.old link) }
         requires law { let rank = sender_at self.old.dims link in RelayLaw self.old.dims rank
-            (added (starting_at self.old.dims rank (sent_of self.old)) link (shipped p.old))
+            (with_parcel (starting_at self.old.dims rank (sent_of self.old)) link (as_shipped p.old))
             (ending_at self.old.dims rank (got_of self.old)) }
-        ensures does { DidPost self.old self.new link (shipped p.old) result }
+        ensures does { BankPosted self.old self.new link (as_shipped p.old) result }
         ensures emptied { result ≡ Ok Posted.Sent → p.new ≡ blank p.old.epoch }
         ensures room { result ≡ Ok Posted.Sent → length (sent_of self.old link) < length (got_of self.old link)
             + self.old.slots }
@@ -137,8 +137,8 @@ impl<const CAP: usize> PlainBank<CAP> {
     pub(crate) fn collect(&mut self, link: u32, p: &mut Parcel<CAP>) -> Collected
         requires link { link < links self.old.dims }
         requires empty { p.old ≡ blank (lasts (got_of self.old link)) }
-        ensures does { DidCollect self.old self.new link (shipped p.new) result }
-        ensures arrived { result ≡ Collected.Got → p.new ≡ arrived (shipped p.new) }
+        ensures does { BankCollected self.old self.new link (as_shipped p.new) result }
+        ensures arrived { result ≡ Collected.Got → p.new ≡ as_arrived (as_shipped p.new) }
         ensures next { result ≡ Collected.Got → IsNextOn CAP self.old link p.new }
         ensures all { result ≡ Collected.Nothing → length (got_of self.old link) ≡ length (sent_of self.old link) }
         ensures kept { result ≡ Collected.Nothing → p.new ≡ p.old }

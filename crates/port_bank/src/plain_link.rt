@@ -1,9 +1,9 @@
 //! One link of a plain bank: what was done on it.
 ghost use Rattle.std.specs.Prelude.{◌≡◌, ◌≢◌, ◌+◌, ◌≤◌, ◌++◌, length, Ok};
-ghost use Rattle.item_buffer.specs.Contents.{shipped, arrived, blank};
-ghost use Rattle.list_laws.specs.Counts.{counted};
+ghost use Rattle.item_buffer.specs.Contents.{as_shipped, as_arrived, blank};
+ghost use Rattle.list_laws.specs.Counts.{saturated_count};
 ghost use Rattle.port_bank.specs.Logs.{lasts};
-ghost use Rattle.port_bank.specs.Plain.{unused};
+ghost use Rattle.port_bank.specs.Plain.{unused_channel};
 ghost use Rattle.port_bank.specs.code.PlainLink.{PostedOn, CollectedOn};
 
 use crate::log::Log;
@@ -31,9 +31,9 @@ pub(crate) struct PlainLink {
 
 impl Model for PlainLink {
     ghost use Rattle.std.specs.Prelude.{◌≡◌};
-    ghost use Rattle.list_laws.specs.Counts.{counted};
+    ghost use Rattle.list_laws.specs.Counts.{saturated_count};
     ghost use Rattle.port_bank.specs.Logs.{lasts};
-    ghost use Rattle.port_bank.specs.Passed.{parcels_of};
+    ghost use Rattle.port_bank.specs.PassedParcels.{parcels_of};
     ghost use Rattle.port_bank.specs.Plain.{Channel};
 
     ghost Value = { Channel };
@@ -47,13 +47,13 @@ impl Model for PlainLink {
       noted = c.listens;
     } };
 
-    ghost invariant = { λ c. c.ended ≡ counted (lasts (parcels_of c.got)) };
+    ghost invariant = { λ c. c.ended ≡ saturated_count (lasts (parcels_of c.got)) };
 }
 
 impl PlainLink {
     /// A link on which nothing was done.
     pub(crate) fn new() -> Self
-        ensures { result ≡ unused }
+        ensures { result ≡ unused_channel }
     {
         PlainLink {
             sent: Log::Nothing,
@@ -73,9 +73,9 @@ impl PlainLink {
     ) -> Result<Posted, NoMemory>
         requires ring { self.old.sent ≡ self.old.got ++ ring.old }
         requires bound { length self.old.sent ≤ length self.old.got + slots }
-        requires fresh { p.old ≡ arrived (shipped p.old) }
+        requires fresh { p.old ≡ as_arrived (as_shipped p.old) }
         ensures ring { self.new.sent ≡ self.new.got ++ ring.new }
-        ensures does { PostedOn slots self.old self.new (shipped p.old) result }
+        ensures does { PostedOn slots self.old self.new (as_shipped p.old) result }
         ensures emptied { result ≡ Ok Posted.Sent → p.new ≡ blank p.old.epoch }
         ensures full { result ≡ Ok Posted.NoRoom → length self.old.sent ≡ length self.old.got + slots }
         ensures kept { result ≢ Ok Posted.Sent → p.new ≡ p.old }
@@ -100,8 +100,8 @@ impl PlainLink {
         requires ring { self.old.sent ≡ self.old.got ++ ring.old }
         requires empty { p.old ≡ blank p.old.epoch }
         ensures ring { self.new.sent ≡ self.new.got ++ ring.new }
-        ensures does { CollectedOn self.old self.new (shipped p.new) result }
-        ensures arrived { result ≡ Collected.Got → p.new ≡ arrived (shipped p.new) }
+        ensures does { CollectedOn self.old self.new (as_shipped p.new) result }
+        ensures arrived { result ≡ Collected.Got → p.new ≡ as_arrived (as_shipped p.new) }
         ensures all { result ≡ Collected.Nothing → length self.old.got ≡ length self.old.sent }
         ensures kept { result ≡ Collected.Nothing → p.new ≡ p.old }
     {
@@ -119,7 +119,7 @@ impl PlainLink {
 
     /// How many epochs the reader has seen the end of.
     pub(crate) fn ended(&self) -> u64
-        ensures { result ≡ counted (lasts self.now.got) }
+        ensures { result ≡ saturated_count (lasts self.now.got) }
     {
         self.ended
     }

@@ -1,7 +1,7 @@
 //! One rank's end of a plain bank.
 ghost use Rattle.std.specs.Prelude.{◌≡◌, length, refl};
 ghost use Rattle.port_bank.specs.Logs.{starting_at, ending_at};
-ghost use Rattle.port_bank.specs.Plain.{IsBank, channel_at, sent_of, got_of, others_of, closed};
+ghost use Rattle.port_bank.specs.Plain.{IsBank, channel_at, sent_of, got_of, others_of, round_of_bank};
 ghost use Rattle.port_bank.specs.Round.{IsRound};
 
 use crate::plain_bank::PlainBank;
@@ -30,10 +30,10 @@ impl<const CAP: usize> PlainPort<CAP> {
     }
 
     /// Does nothing, and tells that the bank keeps the laws of a round at every moment: so in each
-    /// epoch and for each pair of ranks what was got on the last hop is a front of what was sent on
-    /// the first.
+    /// epoch and for each pair of ranks what was got on the last hop is a prefix of what was sent
+    /// on the first.
     pub fn live_law(&self)
-        ensures { IsRound (closed CAP self.now.bank) }
+        ensures { IsRound (round_of_bank CAP self.now.bank) }
     {
         self.bank.live_law();
     }
@@ -55,8 +55,8 @@ impl<const CAP: usize> PlainPort<CAP> {
 impl<const CAP: usize> Port<CAP> for PlainPort<CAP> {
     ghost use Rattle.std.specs.Prelude.{length, refl};
     ghost use Rattle.port_bank.specs.Logs.{starting_at, ending_at};
-    ghost use Rattle.item_buffer.specs.Contents.{shipped};
-    ghost use Rattle.port_bank.specs.Plain.{channel_at, sent_of, got_of, others_of, crowded_of, idle_of, DidPost, DidCollect};
+    ghost use Rattle.item_buffer.specs.Contents.{as_shipped};
+    ghost use Rattle.port_bank.specs.Plain.{channel_at, sent_of, got_of, others_of, crowded_of, idle_of, BankPosted, BankCollected};
     ghost use Rattle.port_bank.specs.Calls.{calls_of};
 
     type Memory = Growing;
@@ -91,9 +91,9 @@ impl<const CAP: usize> Port<CAP> for PlainPort<CAP> {
 
     ghost others = { λ p. others_of p.rank p.bank };
 
-    ghost post_does = { λ old l p result new. DidPost old.bank new.bank l (shipped p) result };
+    ghost post_does = { λ old l p result new. BankPosted old.bank new.bank l (as_shipped p) result };
 
-    ghost collect_does = { λ old l p result new. DidCollect old.bank new.bank l (shipped p) result };
+    ghost collect_does = { λ old l p result new. BankCollected old.bank new.bank l (as_shipped p) result };
 
     ghost crowded_is = { λ p l. refl };
 

@@ -1,9 +1,9 @@
 //! What is left of a plain bank when its exchange is over.
 ghost use Rattle.std.specs.Prelude.{◌≡◌};
 ghost use Rattle.route_tensor.specs.Grid.{ranks};
-ghost use Rattle.list_laws.specs.Counts.{counted};
+ghost use Rattle.list_laws.specs.Counts.{saturated_count};
 ghost use Rattle.port_bank.specs.Round.{Round, IsRound, epochs_of};
-ghost use Rattle.port_bank.specs.Plain.{closed};
+ghost use Rattle.port_bank.specs.Plain.{round_of_bank};
 
 use crate::plain_link::PlainLink;
 use route_tensor::Grid;
@@ -22,20 +22,20 @@ pub struct PlainRound {
 
 impl Model for PlainRound {
     ghost use Rattle.port_bank.specs.Round.{Round, IsRound};
-    ghost use Rattle.port_bank.specs.Plain.{closed};
+    ghost use Rattle.port_bank.specs.Plain.{round_of_bank};
 
     ghost Value = { Round };
 
-    ghost view = { λ r. closed r.cap (record { dims = r.grid; slots = r.slots; channels = r.links.items }) };
+    ghost view = { λ r. round_of_bank r.cap (record { dims = r.grid; slots = r.slots; channels = r.links.items }) };
 
     ghost invariant = { λ r. IsRound
-        (closed r.cap (record { dims = r.grid; slots = r.slots; channels = r.links.items })) };
+        (round_of_bank r.cap (record { dims = r.grid; slots = r.slots; channels = r.links.items })) };
 }
 
 impl PlainRound {
     pub(crate) fn new(grid: Grid, cap: u32, slots: u32, links: Vec<PlainLink>) -> Self
-        requires { IsRound (closed cap (record { dims = grid; slots = slots; channels = links.items })) }
-        ensures { result ≡ closed cap (record { dims = grid; slots = slots; channels = links.items }) }
+        requires { IsRound (round_of_bank cap (record { dims = grid; slots = slots; channels = links.items })) }
+        ensures { result ≡ round_of_bank cap (record { dims = grid; slots = slots; channels = links.items }) }
     {
         PlainRound {
             grid,
@@ -55,7 +55,7 @@ impl PlainRound {
 
     /// How many epochs every link has ended. The count stands still at the last number.
     pub fn epochs(&self) -> u64
-        ensures value { result ≡ counted (epochs_of self.now) }
+        ensures value { result ≡ saturated_count (epochs_of self.now) }
         ensures round { IsRound self.now }
     {
         let mut least = u64::MAX;

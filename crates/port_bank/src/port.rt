@@ -2,14 +2,14 @@
 ghost use Rattle.std.specs.Prelude.{◌≡◌, ◌≢◌, ℕ, ◌+◌, ◌<◌, ◌≤◌, ◌==◌, ◌++◌, ◌∷◌, [], Bool, true, false, List, length, IsOk, IsErr, Ok};
 ghost use Rattle.std.specs.List.{All};
 ghost use Rattle.bale_items.specs.Counters.{RoseOrFull};
-ghost use Rattle.item_buffer.specs.Contents.{shipped, arrived, blank};
+ghost use Rattle.item_buffer.specs.Contents.{as_shipped, as_arrived, blank};
 ghost use Rattle.route_tensor.specs.Link.{links};
 ghost use Rattle.route_tensor.specs.Tag.{IsFair};
 ghost use Rattle.route_tensor.specs.Ends.{hop_at, sender_at, reader_at};
 ghost use Rattle.port_bank.specs.Calls.{Call};
 ghost use Rattle.port_bank.specs.Calls.Call.{Post, Collect};
-ghost use Rattle.port_bank.specs.Logs.{Logs, lasts, added};
-ghost use Rattle.list_laws.specs.Lists.{Begins, changed};
+ghost use Rattle.port_bank.specs.Logs.{Logs, lasts, with_parcel};
+ghost use Rattle.list_laws.specs.Lists.{IsPrefix, changed};
 ghost use Rattle.port_bank.specs.Relay.{RelayLaw};
 ghost use Rattle.port_bank.specs.Port.{Others, PortStays, OutsStay, InsStay, IsSlots, PostDoes, CollectDoes};
 
@@ -108,11 +108,11 @@ pub trait Port<const CAP: usize>: Drop {
         requires starts_here { sender_at (dims self.old) link ≡ rank self.old }
         requires fresh { p.old.taken ≡ 0 }
         requires epoch { p.old.epoch ≡ lasts (sent self.old link) }
-        requires law { RelayLaw (dims self.old) (rank self.old) (added (sent self.old) link (shipped p.old))
+        requires law { RelayLaw (dims self.old) (rank self.old) (with_parcel (sent self.old) link (as_shipped p.old))
             (got self.old) }
 
         // Sent: the parcel stands at the end of the link's log, and one slot was free for it.
-        ensures sent { result ≡ Ok Posted.Sent → sent self.new ≡ added (sent self.old) link (shipped p.old) }
+        ensures sent { result ≡ Ok Posted.Sent → sent self.new ≡ with_parcel (sent self.old) link (as_shipped p.old) }
         ensures emptied { result ≡ Ok Posted.Sent → p.new ≡ blank p.old.epoch }
         ensures room { result ≡ Ok Posted.Sent → length (sent self.old link) < freed self.new link + slots self.old }
 
@@ -152,17 +152,17 @@ pub trait Port<const CAP: usize>: Drop {
 
         // Got: the next parcel of the link, with nothing taken; the relay law and the capacity hold
         // of it.
-        ensures got { result ≡ Collected.Got → got self.new ≡ added (got self.old) link (shipped p.new) }
-        ensures arrived { result ≡ Collected.Got → p.new ≡ arrived (shipped p.new) }
+        ensures got { result ≡ Collected.Got → got self.new ≡ with_parcel (got self.old) link (as_shipped p.new) }
+        ensures arrived { result ≡ Collected.Got → p.new ≡ as_arrived (as_shipped p.new) }
         ensures epoch { result ≡ Collected.Got → p.new.epoch ≡ lasts (got self.old link) }
         ensures fits { result ≡ Collected.Got → length p.new.untaken ≤ CAP }
         ensures fair { result ≡ Collected.Got
             → All (λ e. IsFair (dims self.old) (hop_at (dims self.old) link) e.tag) p.new.untaken }
         ensures known { result ≡ Collected.Got → length (got self.old link) < known self.new link }
 
-        // On a link from the rank to itself: what was collected is the front of what was posted.
+        // On a link from the rank to itself: what was collected is a prefix of what was posted.
         ensures own { result ≡ Collected.Got → sender_at (dims self.old) link ≡ rank self.old
-            → Begins (got self.new link) (sent self.new link) }
+            → IsPrefix (got self.new link) (sent self.new link) }
 
         // Nothing: the port listened since its latest collect on the link, and has collected all
         // that it heard of.

@@ -1,7 +1,7 @@
 //! The places of a link: each has a parcel, which is on its way or empty.
 ghost use Rattle.std.specs.Prelude.{◌≡◌, ◌+◌, ◌<◌, ◌≤◌, ◌⊎◌, ◌++◌, [], ◌∷◌, length, IfOk, OnOk, OnErr};
 ghost use Rattle.item_buffer.specs.Capacity.{IsCap};
-ghost use Rattle.item_buffer.specs.Contents.{shipped, arrived, blank};
+ghost use Rattle.item_buffer.specs.Contents.{as_shipped, as_arrived, blank};
 ghost use Rattle.port_bank.specs.Ring.{on_way, IsRing};
 
 use bale_items::NoMemory;
@@ -60,8 +60,8 @@ impl<const CAP: usize> Ring<CAP> {
     /// # Errors
     /// `NoMemory` changes nothing.
     pub(crate) fn send(&mut self, p: &mut Parcel<CAP>) -> Result<(), NoMemory>
-        requires fresh { p.old ≡ arrived (shipped p.old) }
-        ensures sent { OnOk result (self.new ≡ self.old ++ shipped p.old ∷ []) }
+        requires fresh { p.old ≡ as_arrived (as_shipped p.old) }
+        ensures sent { OnOk result (self.new ≡ self.old ++ as_shipped p.old ∷ []) }
         ensures emptied { OnOk result (p.new ≡ blank p.old.epoch) }
         ensures unchanged { OnErr result (self.new ≡ self.old) }
         ensures kept { OnErr result (p.new ≡ p.old) }
@@ -79,8 +79,8 @@ impl<const CAP: usize> Ring<CAP> {
     pub(crate) fn receive(&mut self, p: &mut Parcel<CAP>)
         requires some { 0 < length self.old }
         requires empty { p.old ≡ blank p.old.epoch }
-        ensures next { self.old ≡ shipped p.new ∷ self.new }
-        ensures arrived { p.new ≡ arrived (shipped p.new) }
+        ensures next { self.old ≡ as_shipped p.new ∷ self.new }
+        ensures arrived { p.new ≡ as_arrived (as_shipped p.new) }
     {
         mem::swap(&mut self.places[self.first], p);
         self.first = place_after(self.first, 1, self.places.len());

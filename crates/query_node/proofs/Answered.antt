@@ -15,7 +15,7 @@ use Rattle.convey.specs.Conveyors.{KeepsAgreement, IsStepOf, GivesNext}
 use Rattle.convey.specs.Parts.{part_of}
 use Rattle.round_program.specs.Talks.{Talk}
 use Rattle.round_program.specs.Replies.{carrying, answers}
-use Rattle.query_node.specs.Taking.{MayAnswer, AnswersOn, Answers, PushesAnswer, RefusesAnswer}
+use Rattle.query_node.specs.Taking.{MayAnswer, AnswersOn, AnswersQueries, PushesAnswer, RefusesAnswer}
 use Rattle.query_node.proofs.Offering.{item_here, item_other}
 use Rattle.query_node.proofs.Pulling.{pulled_same, fewer_pulled, fewer_next}
 
@@ -69,7 +69,7 @@ on_unread T s p a a' r left =
     subst (λ t. AnswersOn T s p a t r r) (sym left.is) (record { asked_epoch = refl; asked_pushed = refl; replied_epoch = refl; replied_pulled = refl; answered = λ is. is })
 
 -- on the conveyors
-pub answers_none : {S : Type 0} (T : Talk S) (s : S) (q r : State) → Answers T s q q r r
+pub answers_none : {S : Type 0} (T : Talk S) (s : S) (q r : State) → AnswersQueries T s q q r r
 answers_none T s q r =
     record {
       same = refl;
@@ -80,7 +80,7 @@ answers_none T s q r =
       on = λ asking asked replying replied a b. on_none T s (ranks q.dims) (part_of (buffers_of q) asking asked) (part_of (buffers_of r) replying replied);
     }
 
-pub answers_both : {S : Type 0} (T : Talk S) (s : S) (q q1 q2 r r1 r2 : State) → Answers T s q q1 r r1 → Answers T s q1 q2 r1 r2 → Answers T s q q2 r r2
+pub answers_both : {S : Type 0} (T : Talk S) (s : S) (q q1 q2 r r1 r2 : State) → AnswersQueries T s q q1 r r1 → AnswersQueries T s q1 q2 r1 r2 → AnswersQueries T s q q2 r r2
 answers_both T s q q1 q2 r r1 r2 f g =
     let dims : ranks q1.dims ≡ ranks q.dims = ap (λ (t : State). ranks t.dims) f.same in
     record {
@@ -97,12 +97,12 @@ answers_both T s q q1 q2 r r1 r2 f g =
     }
 
 -- after so many pulls of one inbox as after n, and one more, with its answer
-pub answers_next : {S : Type 0} (T : Talk S) (s : S) (cap n from from' : ℕ) (x : Item) (q r r1 r2 : State) (result : Pushed) → Answers T s q (pulls n q) r r1 → GivesNext (pulls n q) from x → from' ≡ from
-    → PushesAnswer T s cap from' x result r1 r2 → result ≡ Accepted → Answers T s q (pulls (n + 1) q) r r2
+pub answers_next : {S : Type 0} (T : Talk S) (s : S) (cap n from from' : ℕ) (x : Item) (q r r1 r2 : State) (result : Pushed) → AnswersQueries T s q (pulls n q) r r1 → GivesNext (pulls n q) from x → from' ≡ from
+    → PushesAnswer T s cap from' x result r1 r2 → result ≡ Accepted → AnswersQueries T s q (pulls (n + 1) q) r r2
 answers_next T s cap n from from' x q r r1 r2 result f next same push accepted =
     let c : State = pulls n q in
     let c' : State = pulls (suc n) q in
-    let one : Answers T s c c' r1 r2 = record {
+    let one : AnswersQueries T s c c' r1 r2 = record {
       same = pulled_same c (lowest_unread c);
       same_replies = push.same;
       fewer = fewer_pulled c (lowest_unread c);
@@ -112,12 +112,12 @@ answers_next T s cap n from from' x q r r1 r2 result f next same push accepted =
           (part_of (buffers_of r1) replying replied) (part_of (buffers_of r2) replying replied) (next.step asking asked a)
           (subst (λ k. IsOwnStep (Push k (carrying (T.answer s k x.a))) (part_of (buffers_of r1) replying replied) (part_of (buffers_of r2) replying replied)) same (push.accepted accepted replying replied b));
     } in
-    subst (λ m. Answers T s q (pulls m q) r r2) (sym (add-one n)) (answers_both T s q c c' r r1 r2 f one)
+    subst (λ m. AnswersQueries T s q (pulls m q) r r2) (sym (add-one n)) (answers_both T s q c c' r r1 r2 f one)
 
 -- an answer was refused
-pub answers_refused : {S : Type 0} (T : Talk S) (s : S) (cap from : ℕ) (x : Item) (q c r r1 r2 : State) (result : Pushed) → Answers T s q c r r1 → PushesAnswer T s cap from x result r1 r2 → result ≡ Full → Answers T s q c r r2
+pub answers_refused : {S : Type 0} (T : Talk S) (s : S) (cap from : ℕ) (x : Item) (q c r r1 r2 : State) (result : Pushed) → AnswersQueries T s q c r r1 → PushesAnswer T s cap from x result r1 r2 → result ≡ Full → AnswersQueries T s q c r r2
 answers_refused T s cap from x q c r r1 r2 result f push full =
-    let one : Answers T s c c r1 r2 = record {
+    let one : AnswersQueries T s c c r1 r2 = record {
       same = refl;
       same_replies = push.same;
       fewer = λ l. omega arith;
@@ -129,9 +129,9 @@ answers_refused T s cap from x q c r r1 r2 result f push full =
     answers_both T s q c c r r1 r2 f one
 
 -- it was looked for unread queries
-pub answers_unread : {S : Type 0} (T : Talk S) (s : S) (q c c' r r1 : State) → Answers T s q c r r1 → c' ≡ record c { pulled = None } → KeepsAgreement c c' → IsStepOf Idle c c' → Answers T s q c' r r1
+pub answers_unread : {S : Type 0} (T : Talk S) (s : S) (q c c' r r1 : State) → AnswersQueries T s q c r r1 → c' ≡ record c { pulled = None } → KeepsAgreement c c' → IsStepOf Idle c c' → AnswersQueries T s q c' r r1
 answers_unread T s q c c' r r1 f new kept step =
-    let one : Answers T s c c' r1 r1 = record {
+    let one : AnswersQueries T s c c' r1 r1 = record {
       same = subst (λ (t : State). t ≡ record c { ins = t.ins; pulled = t.pulled }) (sym new) refl;
       same_replies = refl;
       fewer = λ l. omega (arith, ap (λ (t : State). length (in_of t l).parcel.untaken) new);
@@ -142,7 +142,7 @@ answers_unread T s q c c' r r1 f new kept step =
     answers_both T s q c c' r r1 r1 f one
 
 -- and more may be answered
-pub may_still : {S : Type 0} (T : Talk S) (s : S) (q q' r r' : State) → Answers T s q q' r r' → MayAnswer q r → MayAnswer q' r'
+pub may_still : {S : Type 0} (T : Talk S) (s : S) (q q' r r' : State) → AnswersQueries T s q q' r r' → MayAnswer q r → MayAnswer q' r'
 may_still T s q q' r r' f may = record {
   begun = λ e. may.begun (sym (ap (λ (t : State). t.phase) f.same) ∙ e);
   same_dims = ap (λ (t : State). t.dims) f.same_replies ∙ (may.same_dims ∙ sym (ap (λ (t : State). t.dims) f.same));
@@ -153,7 +153,7 @@ may_still T s q q' r r' f may = record {
 -- pushes of answers to the first so many queries of an inbox
 pub record Replying {S : Type 0} (T : Talk S) (s : S) (n count : ℕ) (q r r1 : State) : Type 0 where
   pub number : count ≡ n
-  pub answers : Answers T s q (pulls n q) r r1
+  pub answers : AnswersQueries T s q (pulls n q) r r1
   pub fewer : n + waiting (pulls n q).ins ≤ waiting q.ins
 
 pub replying_next : {S : Type 0} (T : Talk S) (s : S) (cap n count from from' : ℕ) (x : Item) (q r r1 r2 : State) (result : Pushed) → Replying T s n count q r r1 → GivesNext (pulls n q) from x → from' ≡ from

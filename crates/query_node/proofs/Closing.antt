@@ -1,7 +1,7 @@
 -- All ranks of an exchange: what each has heard, at every moment and at the end.
 use Rattle.std.proofs.Common.{◌≡◌, ℕ, ◌+◌, ◌<◌, true, cond, List, take, sym, ap, subst, ◌∙◌, arith}
 use Rattle.route_tensor.specs.Grid.{ranks}
-use Rattle.list_laws.specs.Lists.{Begins}
+use Rattle.list_laws.specs.Lists.{IsPrefix}
 use Rattle.port_bank.specs.Logs.{starting_at, ending_at}
 use Rattle.port_bank.specs.Machine.{Part, EpochsClose, completed_of}
 use Rattle.port_bank.proofs.Fronts.{begins_trans}
@@ -12,16 +12,16 @@ use Rattle.convey.specs.Law.{AgreeTogether, ClosesLaw}
 use Rattle.convey.specs.Parts.{part_of}
 use Rattle.round_program.specs.Canonical.{items_of}
 use Rattle.round_program.specs.Talks.{Talk, TalkLaws}
-use Rattle.round_program.specs.Replies.{asks_of, queries_to, answers, replies_of, answered}
+use Rattle.round_program.specs.Replies.{asks_of, queries_to, answers, replies_of, after_answers}
 use Rattle.query_node.specs.States.{BiState, Sides}
-use Rattle.query_node.specs.Ranks.{AllRanks, HearsInOrder, OrderLaw, AllComplete, EndLaw}
+use Rattle.query_node.specs.Ranks.{AllBiRanks, HearsInOrder, OrderLaw, AllComplete, EndLaw}
 use Rattle.query_node.proofs.Theorem.{answers_begin}
 use Rattle.query_node.proofs.Orders.{all_heard}
 use Rattle.query_node.proofs.Offering.{queries_below}
 use Rattle.query_node.proofs.Turned.{done_of_complete}
 use Rattle.query_node.proofs.Taken.{items_begin, take_whole}
 
-module _ {S : Type 0} (T : Talk S) (laws : TalkLaws T) (law : ClosesLaw) (dims : List ℕ) (cap slots : ℕ) (starts : ℕ → S) (ns : ℕ → BiState S) (s : Sides) (w : AllRanks T dims cap slots starts ns s) where
+module _ {S : Type 0} (T : Talk S) (laws : TalkLaws T) (law : ClosesLaw) (dims : List ℕ) (cap slots : ℕ) (starts : ℕ → S) (ns : ℕ → BiState S) (s : Sides) (w : AllBiRanks T dims cap slots starts ns s) where
   queries_all : AgreeTogether dims cap slots (λ r. buffers_of (ns r).queries) s.asking s.asked
   queries_all = record {
     grid = w.grid;
@@ -73,11 +73,11 @@ module _ {S : Type 0} (T : Talk S) (laws : TalkLaws T) (law : ClosesLaw) (dims :
   pub in_order : HearsInOrder T dims starts ns s
   in_order = record {
     begins = λ r d b c.
-        let asked : Begins ((ask d).pulled 0 r) (queries_to T (starts r) d) =
+        let asked : IsPrefix ((ask d).pulled 0 r) (queries_to T (starts r) d) =
         begins_trans ((ask d).pulled 0 r) ((ask r).pushed 0 d) (queries_to T (starts r) d) (queries_close.begins d r 0 c b)
-        (subst (λ xs. Begins xs (queries_to T (starts r) d)) (sym (pushed_of r d b c)) (items_begin d (ns r).next (asks_of T (starts r)))) in
+        (subst (λ xs. IsPrefix xs (queries_to T (starts r) d)) (sym (pushed_of r d b c)) (items_begin d (ns r).next (asks_of T (starts r)))) in
         begins_trans ((reply r).pulled 0 d) ((reply d).pushed 0 r) (replies_of T starts d r) (replies_close.begins r d 0 b c)
-        (subst (λ xs. Begins xs (replies_of T starts d r)) (sym (replied_of d r c b)) (answers_begin T (starts d) r ((ask d).pulled 0 r) (queries_to T (starts r) d) asked));
+        (subst (λ xs. IsPrefix xs (replies_of T starts d r)) (sym (replied_of d r c b)) (answers_begin T (starts d) r ((ask d).pulled 0 r) (queries_to T (starts r) d) asked));
     state = λ r b. (w.each r b).node.heard.state;
   }
 
@@ -103,7 +103,7 @@ module _ {S : Type 0} (T : Talk S) (laws : TalkLaws T) (law : ClosesLaw) (dims :
         replies_close.whole r d 0 b c (reply_over r b)
         ∙ (replied_of d r c b ∙ ap (answers T (starts d) r) (queries_close.whole d r 0 c b (ask_over d c) ∙ all_asked r d b c))
 
-    pub all_answered : (r : ℕ) → r < ranks dims → (ns r).asker ≡ answered T starts r
+    pub all_answered : (r : ℕ) → r < ranks dims → (ns r).asker ≡ after_answers T starts r
     all_answered r b =
         let n = (w.each r b).node in
         n.heard.state

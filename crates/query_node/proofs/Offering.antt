@@ -13,7 +13,7 @@ use Rattle.list_laws.proofs.Lists.{get_map, all_get, all_from_gets, got_map}
 use Rattle.round_program.specs.Talks.{Talk, TalkLaws}
 use Rattle.round_program.specs.Replies.{carrying, asks_of}
 use Rattle.rank_node.proofs.Offered.{Offers, pushed_none}
-use Rattle.query_node.specs.Taking.{Pushes}
+use Rattle.query_node.specs.Taking.{PushesQueries}
 
 -- where a list got one more item
 pub item_here : (lists : ItemLists) (e f : ℕ) (x : Item) → with_item lists e f x e f ≡ lists e f ++ x ∷ []
@@ -58,7 +58,7 @@ offers_start es old from count all low receivers working all_pushed =
 
 -- the end of pushes: all are pushed, or one was refused
 pub offers_end : (es : List (ℕ × Item)) (cap : ℕ) (old c : State) (from next count : ℕ) → Offers es old c from next count
-    → ((to : ℕ) (x : Item) → slice_get es next ≡ Some (to, x) → (to < ranks c.dims) × (standing_toward c to ≡ cap)) → Pushes es cap from next old c
+    → ((to : ℕ) (x : Item) → slice_get es next ≡ Some (to, x) → (to < ranks c.dims) × (standing_toward c to ≡ cap)) → PushesQueries es cap from next old c
 offers_end es cap old c from next count is refused = record { forward = is.forward; low = is.next_low; same = is.same; kept = is.kept; on = is.pushed; refused = refused }
 
 -- a push that was refused left the open parcel full

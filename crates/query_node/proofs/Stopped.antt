@@ -21,7 +21,7 @@ use Rattle.convey.specs.Conveyors.{AgreesWith}
 use Rattle.convey.specs.Progress.{progress_of}
 use Rattle.convey.specs.declared.progress.Progress.TheVariants as progress
 use Rattle.rank_node.proofs.Halted.{Advanced, lies_less, crowded_toward, still}
-use Rattle.query_node.specs.Taking.{Pushes, Answers, RefusesAnswer, Hears}
+use Rattle.query_node.specs.Taking.{PushesQueries, AnswersQueries, RefusesAnswer, Hears}
 use Rattle.round_program.specs.Talks.{Talk}
 use Rattle.convey.specs.Buffers.{is_complete}
 use Rattle.std.specs.Prelude.{IfSome}
@@ -29,7 +29,7 @@ use Rattle.rank_node.specs.Movers.{AllRead}
 use Rattle.rank_node.specs.Pulls.{NoMore}
 use Rattle.rank_node.specs.Stuck.{HasCrowded}
 use Rattle.query_node.specs.States.{BiState, Sides, AdvancesOnce}
-use Rattle.query_node.specs.Still.{Known, IsStuck}
+use Rattle.query_node.specs.Still.{Known, IsStuckBoth}
 use Rattle.query_node.proofs.Turned.{Advances}
 
 -- the phase of an advance that answers Complete
@@ -102,13 +102,13 @@ read_or (Some to) A P f g = inr (g to refl)
 
 -- a turn that moved nothing on either way
 pub stuck : {S : Type 0} (T : Talk S) (n : BiState S) (es : List (ℕ × Item)) (cap next : ℕ) (done over : Bool) (asker' : S) (lines' : List (List ℕ)) (q1 q2 q3 r1 r2 r3 : State) (refused : Option ℕ) (old new : Sides) (known : Known)
-    → Pushes es cap n.next next n.queries q1 → done ≡ (next == length es) → AgreesWith q1 old.asking old.asked
+    → PushesQueries es cap n.next next n.queries q1 → done ≡ (next == length es) → AgreesWith q1 old.asking old.asked
     → Advances q1 q2 done old.asking old.asked new.asking new.asked → Advanced q1 q2 cap old.asking new.asking old.asked new.asked known.crowded known.idle
-    → Answers T n.asker q2 q3 n.replies r1 → (refused ≡ None → AllRead q3) → IfSome refused (λ to. RefusesAnswer cap to q3 r1) → AgreesWith r1 old.replying old.replied
+    → AnswersQueries T n.asker q2 q3 n.replies r1 → (refused ≡ None → AllRead q3) → IfSome refused (λ to. RefusesAnswer cap to q3 r1) → AgreesWith r1 old.replying old.replied
     → over ≡ is_complete q3.phase → Advances r1 r2 over old.replying old.replied new.replying new.replied → Advanced r1 r2 cap old.replying new.replying old.replied new.replied known.replies_crowded known.replies_idle
     → Hears T n.asker asker' n.lines lines' r2 r3 → IsGrid q3.dims → q3.rank < ranks q3.dims → IsGrid r3.dims → r3.rank < ranks r3.dims
     → ((l : ℕ) → new.asking l ≡ old.asking l) → ((l : ℕ) → new.asked l ≡ old.asked l) → ((l : ℕ) → new.replying l ≡ old.replying l) → ((l : ℕ) → new.replied l ≡ old.replied l)
-    → IsStuck n (record { asker = asker'; next = next; lines = lines'; queries = q3; replies = r3 }) old new known
+    → IsStuckBoth n (record { asker = asker'; next = next; lines = lines'; queries = q3; replies = r3 }) old new known
 stuck T n es cap next done over asker' lines' q1 q2 q3 r1 r2 r3 refused old new known push all agrees adv served ans read toward agrees' is_over adv' served' hears grid own grid' own' s1 g1 s2 g2 =
     let dims_q : q3.dims ≡ n.queries.dims = ap (λ (c : State). c.dims) ans.same ∙ (adv.dims ∙ ap (λ (c : State). c.dims) push.same) in
     let rank_q : q3.rank ≡ n.queries.rank = ap (λ (c : State). c.rank) ans.same ∙ (adv.rank ∙ ap (λ (c : State). c.rank) push.same) in

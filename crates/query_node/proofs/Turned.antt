@@ -25,7 +25,7 @@ use Rattle.round_program.specs.Talks.{Talk, TalkLaws, SameTalk}
 use Rattle.round_program.specs.Replies.{carrying, as_items, asks_of, answers}
 use Rattle.rank_node.specs.Runs.{IsPushed}
 use Rattle.rank_node.specs.Movers.{AllRead}
-use Rattle.query_node.specs.Taking.{IsAnswered, Pushes, Answers, HasHeard, Hears}
+use Rattle.query_node.specs.Taking.{IsAnswered, PushesQueries, AnswersQueries, HasHeard, Hears}
 use Rattle.query_node.specs.States.{BiState, IsBiNode}
 use Rattle.query_node.proofs.Offering.{asked_below}
 
@@ -108,7 +108,7 @@ module _ {S : Type 0} (T : Talk S) (laws : TalkLaws T) (start : S) (n : BiState 
   all_pushed d = is.all_pushed d ∙ ap length (sym same_asks)
 
   -- after the queries' pushes
-  module _ (cap next count : ℕ) (q1 : State) (push : Pushes (asks_of T n.asker) cap n.next next n.queries q1) (counted : count ≡ length (T.queries n.asker)) where
+  module _ (cap next count : ℕ) (q1 : State) (push : PushesQueries (asks_of T n.asker) cap n.next next n.queries q1) (counted : count ≡ length (T.queries n.asker)) where
     pub begun1 : q1.phase ≢ Dormant
     begun1 e = is.asks.begun (sym (ap (λ (c : State). c.phase) push.same) ∙ e)
 
@@ -189,7 +189,7 @@ module _ {S : Type 0} (T : Talk S) (laws : TalkLaws T) (start : S) (n : BiState 
           }
 
       -- after the answers
-      module _ (q3 r1 : State) (ans : Answers T n.asker q2 q3 n.replies r1) where
+      module _ (q3 r1 : State) (ans : AnswersQueries T n.asker q2 q3 n.replies r1) where
         phase3 : q3.phase ≡ q2.phase
         phase3 = ap (λ (c : State). c.phase) ans.same
 

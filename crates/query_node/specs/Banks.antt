@@ -3,18 +3,18 @@ use Rattle.std.specs.Prelude.{◌≡◌, ℕ, ◌<◌, List, length}
 use Rattle.bale_items.specs.declared.item.Item.{Item}
 use Rattle.route_tensor.specs.Grid.{ranks, IsGrid}
 use Rattle.route_tensor.specs.Link.{links}
-use Rattle.list_laws.specs.Lists.{Begins}
+use Rattle.list_laws.specs.Lists.{IsPrefix}
 use Rattle.port_bank.specs.Logs.{Logs, lasts}
 use Rattle.port_bank.specs.Flow.{hop_link, flow}
 use Rattle.port_bank.specs.Relay.{RelayLaw}
 use Rattle.round_program.specs.Talks.{Talk}
 use Rattle.round_program.specs.Replies.{queries_to, answers, replies_of}
 
--- A lawful bank, be it plain or of slots: what was got on a link is the front of what was sent, and
+-- A lawful bank, be it plain or of slots: what was got on a link is a prefix of what was sent, and
 -- each rank keeps the relay law.
-pub record IsLawful (dims : List ℕ) (sent got : Logs) : Type 0 where
+pub record IsLawfulBank (dims : List ℕ) (sent got : Logs) : Type 0 where
   pub grid : IsGrid dims
-  pub fronts : (l : ℕ) → l < links dims → Begins (got l) (sent l)
+  pub fronts : (l : ℕ) → l < links dims → IsPrefix (got l) (sent l)
   pub relays : (r : ℕ) → r < ranks dims → RelayLaw dims r sent got
 
 -- What s sent toward d on hop 1 in the first epoch, and what d got of s on the last hop.
@@ -27,11 +27,11 @@ got_from dims got d s = flow dims got s d (length dims) 0
 -- A rank's own part, by its lists at both banks; all r is the state in which rank r began.
 -- queries: it sent at most its queries, in order. replies: it sent at most its answers, in order,
 -- to queries that it got.
-pub record IsOwn {S : Type 0} (T : Talk S) (dims : List ℕ) (all : ℕ → S) (r : ℕ)
+pub record IsOwnSide {S : Type 0} (T : Talk S) (dims : List ℕ) (all : ℕ → S) (r : ℕ)
     (asking replying got : Logs) : Type 0 where
-  pub queries : (d : ℕ) → d < ranks dims → Begins (sent_to dims asking r d) (queries_to T (all r) d)
+  pub queries : (d : ℕ) → d < ranks dims → IsPrefix (sent_to dims asking r d) (queries_to T (all r) d)
   pub replies : (s : ℕ) → s < ranks dims
-      → Begins (sent_to dims replying r s) (answers T (all r) s (got_from dims got r s))
+      → IsPrefix (sent_to dims replying r s) (answers T (all r) s (got_from dims got r s))
 
 -- It sent all: its queries, and an answer to each query that it got.
 pub record IsAll {S : Type 0} (T : Talk S) (dims : List ℕ) (all : ℕ → S) (r : ℕ)
@@ -39,19 +39,19 @@ pub record IsAll {S : Type 0} (T : Talk S) (dims : List ℕ) (all : ℕ → S) (
   pub queries : (d : ℕ) → d < ranks dims → sent_to dims asking r d ≡ queries_to T (all r) d
   pub replies : (s : ℕ) → s < ranks dims → sent_to dims replying r s ≡ answers T (all r) s (got_from dims got r s)
 
--- The replies theorem. At every moment the replies that s got from d are a front of the replies of
+-- The replies theorem. At every moment the replies that s got from d are a prefix of the replies of
 -- (d,s).
 abbrev pub RepliesBegin : {S : Type 0} → Talk S → Type 0
-RepliesBegin {S} T = (dims : List ℕ) (all : ℕ → S) (asking asked replying replied : Logs) → IsLawful dims asking asked
-    → IsLawful dims replying replied
-    → ((r : ℕ) → r < ranks dims → IsOwn T dims all r asking replying asked)
-    → (s d : ℕ) → s < ranks dims → d < ranks dims → Begins (got_from dims replied s d) (replies_of T all d s)
+RepliesBegin {S} T = (dims : List ℕ) (all : ℕ → S) (asking asked replying replied : Logs) → IsLawfulBank dims asking asked
+    → IsLawfulBank dims replying replied
+    → ((r : ℕ) → r < ranks dims → IsOwnSide T dims all r asking replying asked)
+    → (s d : ℕ) → s < ranks dims → d < ranks dims → IsPrefix (got_from dims replied s d) (replies_of T all d s)
 
 -- Where each rank sent all, and the last links of both ways have ended, they are all of them: each
 -- query has its one reply.
 abbrev pub RepliesEnd : {S : Type 0} → Talk S → Type 0
-RepliesEnd {S} T = (dims : List ℕ) (all : ℕ → S) (asking asked replying replied : Logs) → IsLawful dims asking asked
-    → IsLawful dims replying replied
+RepliesEnd {S} T = (dims : List ℕ) (all : ℕ → S) (asking asked replying replied : Logs) → IsLawfulBank dims asking asked
+    → IsLawfulBank dims replying replied
     → (s d : ℕ) → s < ranks dims → d < ranks dims → IsAll T dims all s asking replying asked
     → IsAll T dims all d asking replying asked
     → 0 < lasts (asked (hop_link dims s d (length dims))) → 0 < lasts (replied (hop_link dims d s (length dims)))

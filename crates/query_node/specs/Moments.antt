@@ -1,11 +1,11 @@
 -- A rank within a turn: what holds after each post and each collect that the turn makes.
 use Rattle.std.specs.Prelude.{◌≡◌, ◌⊎◌, ℕ, ◌<◌, List}
 use Rattle.route_tensor.specs.Grid.{ranks}
-use Rattle.list_laws.specs.Lists.{Begins}
+use Rattle.list_laws.specs.Lists.{IsPrefix}
 use Rattle.port_bank.specs.declared.port.Port.{Ghosts}
 use Rattle.round_program.specs.Talks.{Talk}
 use Rattle.round_program.specs.Replies.{replies_of}
-use Rattle.query_node.specs.Banks.{IsLawful, got_from}
+use Rattle.query_node.specs.Banks.{IsLawfulBank, got_from}
 use Rattle.query_node.specs.States.{BiState, Sides, IsBiNode}
 use Rattle.query_node.specs.Ranks.{sides_at}
 
@@ -22,10 +22,10 @@ sides_of_ports G H queries replies =
 
 -- Each list is a prefix of what it is later.
 pub record OnlyGrow (old new : Sides) : Type 0 where
-  pub asking : (l : ℕ) → Begins (old.asking l) (new.asking l)
-  pub asked : (l : ℕ) → Begins (old.asked l) (new.asked l)
-  pub replying : (l : ℕ) → Begins (old.replying l) (new.replying l)
-  pub replied : (l : ℕ) → Begins (old.replied l) (new.replied l)
+  pub asking : (l : ℕ) → IsPrefix (old.asking l) (new.asking l)
+  pub asked : (l : ℕ) → IsPrefix (old.asked l) (new.asked l)
+  pub replying : (l : ℕ) → IsPrefix (old.replying l) (new.replying l)
+  pub replied : (l : ℕ) → IsPrefix (old.replied l) (new.replied l)
 
 -- A rank's own lists at a moment of a turn that takes them from `old` to `new`: some of its posts
 -- and collects are made.
@@ -60,8 +60,8 @@ pub record IsUnderway {S : Type 0} (T : Talk S) (dims : List ℕ) (r : ℕ) (sta
 -- the replies that a rank got of another, and so those that it heard, are a prefix of that one's
 -- answers to its queries.
 abbrev pub StepLaw : {S : Type 0} → Talk S → Type 0
-StepLaw {S} T = (dims : List ℕ) (starts : ℕ → S) (s : Sides) → IsLawful dims s.asking s.asked
-    → IsLawful dims s.replying s.replied
+StepLaw {S} T = (dims : List ℕ) (starts : ℕ → S) (s : Sides) → IsLawfulBank dims s.asking s.asked
+    → IsLawfulBank dims s.replying s.replied
     → ((r : ℕ) → r < ranks dims → IsUnderway T dims r (starts r) (sides_at dims r s))
     → (r d : ℕ) → r < ranks dims → d < ranks dims
-    → Begins (got_from dims s.replied r d) (replies_of T starts d r)
+    → IsPrefix (got_from dims s.replied r d) (replies_of T starts d r)

@@ -3,14 +3,14 @@ use Rattle.std.specs.Prelude.{◌≡◌, ℕ, ◌<◌, List}
 use Rattle.bale_items.specs.declared.item.Item.{Item}
 use Rattle.route_tensor.specs.Grid.{ranks, IsGrid}
 use Rattle.route_tensor.specs.Link.{links}
-use Rattle.list_laws.specs.Lists.{Begins}
+use Rattle.list_laws.specs.Lists.{IsPrefix}
 use Rattle.port_bank.specs.Logs.{starting_at, ending_at}
 use Rattle.port_bank.specs.Link.{LinkLaw}
 use Rattle.hop_core.specs.declared.phase.Phase.TheVariants.{Complete}
 use Rattle.convey.specs.Buffers.{buffers_of}
 use Rattle.convey.specs.Parts.{part_of}
 use Rattle.round_program.specs.Talks.{Talk}
-use Rattle.round_program.specs.Replies.{replies_of, heard_by, answered}
+use Rattle.round_program.specs.Replies.{replies_of, heard_by, after_answers}
 use Rattle.query_node.specs.States.{BiState, Sides, IsBiNode}
 
 -- Of these, those of the links that start at rank r, or end there.
@@ -24,7 +24,7 @@ sides_at dims r s =
     }
 
 -- Rank r keeps to its own lists; it began in the state `start`.
-pub record HasRank {S : Type 0} (T : Talk S) (dims : List ℕ) (r : ℕ) (start : S) (n : BiState S)
+pub record HasBiRank {S : Type 0} (T : Talk S) (dims : List ℕ) (r : ℕ) (start : S) (n : BiState S)
     (s : Sides) : Type 0 where
   pub same_dims : n.queries.dims ≡ dims
   pub same_rank : n.queries.rank ≡ r
@@ -32,28 +32,28 @@ pub record HasRank {S : Type 0} (T : Talk S) (dims : List ℕ) (r : ℕ) (start 
       (ending_at dims r s.replied)
 
 -- All ranks over two banks whose links keep their law; rank r began in the state `starts r`.
-pub record AllRanks {S : Type 0} (T : Talk S) (dims : List ℕ) (cap slots : ℕ) (starts : ℕ → S) (ns : ℕ → BiState S)
+pub record AllBiRanks {S : Type 0} (T : Talk S) (dims : List ℕ) (cap slots : ℕ) (starts : ℕ → S) (ns : ℕ → BiState S)
     (s : Sides) : Type 0 where
   pub grid : IsGrid dims
   pub queries_keep : (l : ℕ) → l < links dims → LinkLaw cap slots (s.asking l) (s.asked l)
   pub replies_keep : (l : ℕ) → l < links dims → LinkLaw cap slots (s.replying l) (s.replied l)
-  pub each : (r : ℕ) → r < ranks dims → HasRank T dims r (starts r) (ns r) s
+  pub each : (r : ℕ) → r < ranks dims → HasBiRank T dims r (starts r) (ns r) s
 
 -- What rank r pulled of the rank d: the replies that it heard.
 abbrev pub heard_of : {S : Type 0} → List ℕ → (ℕ → BiState S) → Sides → ℕ → ℕ → List Item
 heard_of dims ns s r d =
     (part_of (buffers_of (ns r).replies) (starting_at dims r s.replying) (ending_at dims r s.replied)).pulled 0 d
 
--- Whenever no rank is within a turn, the replies that a rank heard of another are a front of that
+-- Whenever no rank is within a turn, the replies that a rank heard of another are a prefix of that
 -- one's answers to its queries, and it is as after hearing them, by order alone.
 pub record HearsInOrder {S : Type 0} (T : Talk S) (dims : List ℕ) (starts : ℕ → S) (ns : ℕ → BiState S)
     (s : Sides) : Type 0 where
-  pub begins : (r d : ℕ) → r < ranks dims → d < ranks dims → Begins (heard_of dims ns s r d) (replies_of T starts d r)
+  pub begins : (r d : ℕ) → r < ranks dims → d < ranks dims → IsPrefix (heard_of dims ns s r d) (replies_of T starts d r)
   pub state : (r : ℕ) → r < ranks dims → (ns r).asker ≡ heard_by T (starts r) (heard_of dims ns s r)
 
 abbrev pub OrderLaw : {S : Type 0} → Talk S → Type 0
 OrderLaw {S} T = (dims : List ℕ) (cap slots : ℕ) (starts : ℕ → S) (ns : ℕ → BiState S) (s : Sides)
-    → AllRanks T dims cap slots starts ns s → HearsInOrder T dims starts ns s
+    → AllBiRanks T dims cap slots starts ns s → HearsInOrder T dims starts ns s
 
 -- Once all ranks are complete, each has heard, for each of its queries, the answer of the rank
 -- asked.
@@ -63,5 +63,5 @@ pub record AllComplete {S : Type 0} (dims : List ℕ) (ns : ℕ → BiState S) :
 
 abbrev pub EndLaw : {S : Type 0} → Talk S → Type 0
 EndLaw {S} T = (dims : List ℕ) (cap slots : ℕ) (starts : ℕ → S) (ns : ℕ → BiState S) (s : Sides)
-    → AllRanks T dims cap slots starts ns s → AllComplete dims ns
-    → (r : ℕ) → r < ranks dims → (ns r).asker ≡ answered T starts r
+    → AllBiRanks T dims cap slots starts ns s → AllComplete dims ns
+    → (r : ℕ) → r < ranks dims → (ns r).asker ≡ after_answers T starts r

@@ -19,7 +19,7 @@ use Rattle.round_program.specs.Talks.{Talk}
 use Rattle.round_program.specs.Replies.{asks_of}
 use Rattle.rank_node.specs.Runs.{IsPushed}
 use Rattle.rank_node.specs.Movers.{AllRead}
-use Rattle.query_node.specs.Taking.{IsAnswered, Pushes, Answers, RefusesAnswer, HasHeard}
+use Rattle.query_node.specs.Taking.{IsAnswered, PushesQueries, AnswersQueries, RefusesAnswer, HasHeard}
 
 -- What contracts see of a BiNode: its asker, how many queries are pushed, for each rank the numbers
 -- of the queries to it that have no reply yet, and the conveyors of queries and of replies.
@@ -107,7 +107,7 @@ pub record AdvancesOnce {P : Type 0} {cap : ℕ} {M : Type 0} (G : Ghosts P cap 
 pub record HasAsked {S : Type 0} (T : Talk S) (cap : ℕ) (n n' : BiState S) : Type 0 where
   pub at_push : State
   pub fits : HoldsAtMost cap at_push
-  pub pushes : Pushes (asks_of T n.asker) cap n.next n'.next n.queries at_push
+  pub pushes : PushesQueries (asks_of T n.asker) cap n.next n'.next n.queries at_push
 
 -- What it answers, over a port of queries whose lists go from asking and asked to asking' and
 -- asked'.
@@ -126,5 +126,5 @@ pub record HasAnswered {S : Type 0} (T : Talk S) (cap : ℕ) (n n' : BiState S)
       ≡ (part_of (buffers_of n.queries) asking asked).pulled
   pub at_push : State
   pub fits : HoldsAtMost cap at_push
-  pub answers : Answers T n.asker at_pull n'.queries n.replies at_push
+  pub answers : AnswersQueries T n.asker at_pull n'.queries n.replies at_push
   pub all : AllRead n'.queries ⊎ ((to : ℕ) × RefusesAnswer cap to n'.queries at_push)

@@ -17,7 +17,7 @@ pub record Known : Type 0 where
 -- answered: all queries that came are answered, or an answer was refused, and a link out of the
 -- replies is crowded.
 -- done: it is done replying exactly where its queries are complete.
-pub record IsStuck {S : Type 0} (n n' : BiState S) (old new : Sides) (known : Known) : Type 0 where
+pub record IsStuckBoth {S : Type 0} (n n' : BiState S) (old new : Sides) (known : Known) : Type 0 where
   pub queries : IsStill n.queries n'.queries old.asking old.asked new.asking new.asked known.crowded known.idle
   pub replies : IsStill n.replies n'.replies old.replying old.replied new.replying new.replied known.replies_crowded
       known.replies_idle

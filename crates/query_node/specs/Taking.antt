@@ -19,7 +19,7 @@ use Rattle.rank_node.specs.Pulls.{PushedOn, NoMore}
 
 -- Pushes of the items from number `from` on, until one is refused or all are pushed.
 -- refused: the open parcel toward the receiver of the first item that is left is full.
-pub record Pushes (items : List (ℕ × Item)) (cap from next : ℕ) (c c' : State) : Type 0 where
+pub record PushesQueries (items : List (ℕ × Item)) (cap from next : ℕ) (c c' : State) : Type 0 where
   pub forward : from ≤ next
   pub low : next ≤ length items
   pub same : c' ≡ record c { outs = c'.outs; pulled = c'.pulled }
@@ -51,7 +51,7 @@ pub record AnswersOn {S : Type 0} (T : Talk S) (s : S) (p : ℕ) (asked asked' r
   pub answered : IsAnswered T s p asked replied → IsAnswered T s p asked' replied'
 
 -- The same of the conveyor of queries, which goes from q to q', and that of replies, from r to r'.
-pub record Answers {S : Type 0} (T : Talk S) (s : S) (q q' r r' : State) : Type 0 where
+pub record AnswersQueries {S : Type 0} (T : Talk S) (s : S) (q q' r r' : State) : Type 0 where
   pub same : q' ≡ record q { ins = q'.ins; pulled = q'.pulled }
   pub same_replies : r' ≡ record r { outs = r'.outs; pulled = r'.pulled }
   pub fewer : NoMore q q'

@@ -6,7 +6,7 @@ ghost use Rattle.hop_core.specs.Relay.{waiting};
 ghost use Rattle.hop_core.specs.State.{in_at, lowest_unread, pulls};
 ghost use Rattle.convey.specs.Buffers.{is_complete};
 ghost use Rattle.rank_node.specs.Movers.{AllRead};
-ghost use Rattle.query_node.specs.Taking.{MayAnswer, Answers, PushesAnswer, RefusesAnswer};
+ghost use Rattle.query_node.specs.Taking.{MayAnswer, AnswersQueries, PushesAnswer, RefusesAnswer};
 
 use bale_items::Item;
 use convey::{Conveyor, Phase, Pushed};
@@ -20,7 +20,7 @@ pub(crate) fn answer_open<A: Asker, const CAP: usize, const HOPS: usize>(
     replies: &mut Conveyor<CAP, HOPS>,
 ) -> Option<u32>
     requires may { queries.old.phase ≢ Phase.Complete → MayAnswer queries.old replies.old }
-    ensures answers { Answers A.talk asker.now.value queries.old queries.new replies.old replies.new }
+    ensures answers { AnswersQueries A.talk asker.now.value queries.old queries.new replies.old replies.new }
     ensures read { result ≡ None → AllRead queries.new }
     ensures refused { IfSome result (λ to. RefusesAnswer CAP to queries.new replies.new) }
 {
@@ -55,7 +55,7 @@ fn answer_batch<A: Asker, const CAP: usize, const HOPS: usize>(
 ) -> Option<u32>
     requires lowest { lowest_unread queries.old ≡ Some number }
     requires may { MayAnswer queries.old replies.old }
-    ensures answers { Answers A.talk asker.now.value queries.old queries.new replies.old replies.new }
+    ensures answers { AnswersQueries A.talk asker.now.value queries.old queries.new replies.old replies.new }
     ensures less { result ≡ None → waiting queries.new.ins < waiting queries.old.ins }
     ensures refused { IfSome result (λ to. RefusesAnswer CAP to queries.new replies.new) }
 {
@@ -81,7 +81,7 @@ fn push_answers<A: Asker, const CAP: usize, const HOPS: usize>(
 ) -> Replied
     requires lowest { lowest_unread queries.now ≡ Some number }
     requires may { MayAnswer queries.now replies.old }
-    ensures answers { Answers A.talk asker.now.value queries.now
+    ensures answers { AnswersQueries A.talk asker.now.value queries.now
         (pulls result.count queries.now) replies.old replies.new }
     ensures count { result.count + waiting (pulls result.count queries.now).ins ≤ waiting queries.now.ins }
     ensures all { result.refused ≡ None → result.count ≡ length (in_at queries.now number).parcel.untaken }

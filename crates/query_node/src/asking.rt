@@ -10,7 +10,7 @@ ghost use Rattle.convey.specs.Conveyors.{AgreesWith, KeepsAgreement, standing_to
 ghost use Rattle.convey.specs.Parts.{part_of};
 ghost use Rattle.round_program.specs.Replies.{asks_of};
 ghost use Rattle.rank_node.specs.Pulls.{PushedOn};
-ghost use Rattle.query_node.specs.Taking.{Pushes};
+ghost use Rattle.query_node.specs.Taking.{PushesQueries};
 
 use bale_items::Item;
 use convey::{Conveyor, Phase, Pushed};
@@ -27,7 +27,7 @@ pub(crate) fn push_queries<A: Asker, const CAP: usize, const HOPS: usize>(
     requires receivers { All (λ e. e.0 < ranks conveyor.old.dims) (asks_of A.talk asker.now.value) }
     requires working { conveyor.old.done ≡ false → conveyor.old.phase ≡ Phase.Working }
     requires all_pushed { conveyor.old.done ≡ true → from ≡ length (asks_of A.talk asker.now.value) }
-    ensures { Pushes (asks_of A.talk asker.now.value) CAP from result conveyor.old conveyor.new }
+    ensures { PushesQueries (asks_of A.talk asker.now.value) CAP from result conveyor.old conveyor.new }
 {
     let count = asker.count();
     let mut next = from;

@@ -5,9 +5,9 @@ ghost use Rattle.route_tensor.specs.Grid.{ranks};
 ghost use Rattle.convey.specs.Buffers.{in_of, is_complete};
 ghost use Rattle.round_program.specs.Replies.{asks_of};
 ghost use Rattle.query_node.specs.States.{BiState, Sides, IsBiNode, IsFirst, IsPortOf, AdvancesOnce, HasAsked, HasAnswered};
-ghost use Rattle.query_node.specs.Banks.{IsOwn};
+ghost use Rattle.query_node.specs.Banks.{IsOwnSide};
 ghost use Rattle.query_node.specs.Moments.{IsMoment, sides_of_ports};
-ghost use Rattle.query_node.specs.Still.{IsStuck};
+ghost use Rattle.query_node.specs.Still.{IsStuckBoth};
 ghost use Rattle.rank_node.specs.Fits.{FitsGrid};
 
 use crate::answering::{answer_open, is_over};
@@ -118,7 +118,7 @@ impl<A: Asker, const CAP: usize, const HOPS: usize> BiNode<A, CAP, HOPS> {
             (R.sent replies.old) (R.got replies.old)
             → IsMoment (sides_of_ports P.Port R.Port queries.old replies.old)
             (sides_of_ports P.Port R.Port queries.new replies.new) now
-            → IsOwn A.talk self.old.queries.dims (λ r. start) self.old.queries.rank
+            → IsOwnSide A.talk self.old.queries.dims (λ r. start) self.old.queries.rank
             now.asking now.replying now.asked }
         ensures memory { P.Memory.GROWS ≡ false → R.Memory.GROWS ≡ false → IsOk result }
 
@@ -152,7 +152,7 @@ impl<A: Asker, const CAP: usize, const HOPS: usize> BiNode<A, CAP, HOPS> {
             → ((l : ℕ) → P.got queries.new l ≡ P.got queries.old l)
             → ((l : ℕ) → R.sent replies.new l ≡ R.sent replies.old l)
             → ((l : ℕ) → R.got replies.new l ≡ R.got replies.old l)
-            → IsStuck self.old self.new
+            → IsStuckBoth self.old self.new
             (record {
               asking = P.sent queries.old;
               asked = P.got queries.old;

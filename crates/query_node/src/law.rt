@@ -9,8 +9,8 @@ use round_program::Asker;
 
 /// The replies theorem, for a lawful bank of queries and one of replies. Where each rank sends its
 /// queries in order, and in order the answers to the queries that it got, each rank gets from each
-/// other a front of that one's answers to its queries, in order. Where all is sent and has come, it
-/// gets all of them.
+/// other a prefix of that one's answers to its queries, in order. Where all is sent and has come,
+/// it gets all of them.
 pub fn replies_law<A: Asker>()
     ensures begin { RepliesBegin A.talk }
     ensures end { RepliesEnd A.talk }
@@ -18,7 +18,7 @@ pub fn replies_law<A: Asker>()
 
 /// The laws of all ranks of an exchange, over any two banks whose links keep their law. Whenever
 /// each rank stands between two turns, or between the two advances of one, what a rank heard of
-/// another is a front of that one's answers to its queries, matched by order alone. Once all ranks
+/// another is a prefix of that one's answers to its queries, matched by order alone. Once all ranks
 /// are complete, each has heard, for each of its queries, the answer of the rank asked.
 pub fn askers_law<A: Asker>()
     ensures order { OrderLaw A.talk }

@@ -21,9 +21,9 @@ HasEnded over (There worker) = ⊥
 HasEnded over (Here kept) = list_all over kept.now ≡ true
 
 -- it is on its thread, or its ranks are as they were given
-abbrev pub IsUnturned : {A J : Type 0} → Child A J → Type 0
-IsUnturned (There worker) = ⊤
-IsUnturned (Here kept) = kept.now ≡ kept.first
+abbrev pub HasUnturnedRanks : {A J : Type 0} → Child A J → Type 0
+HasUnturnedRanks (There worker) = ⊤
+HasUnturnedRanks (Here kept) = kept.now ≡ kept.first
 
 -- a sweep of the caller: of a worker whose ranks are here, each rank whose run wasn't over made one
 -- turn

@@ -40,7 +40,9 @@ impl<A: Seated> Assignment<A> {
     pub(crate) fn new(alloc: Global, room: usize) -> Result<Assignment<A>, NoMemory>
         ensures { IfOk result (λ c. c ≡ []) }
     {
-        let ranks = Vec::with_capacity(alloc, room)?;
+        let Ok(ranks) = Vec::with_capacity(alloc, room) else {
+            return Err(NoMemory);
+        };
         Ok(Assignment { ranks })
     }
 
@@ -48,7 +50,11 @@ impl<A: Seated> Assignment<A> {
     pub(crate) fn join(&mut self, at: A) -> Result<(), NoMemory>
         ensures { OnOk result (self.new ≡ self.old ++ at ∷ []) }
     {
-        self.ranks.push(at)?;
+        // There is room for all. Told so, the push needs no way to grow.
+        if self.ranks.len() == self.ranks.capacity() {
+            return Err(NoMemory);
+        }
+        self.ranks.push_reserved(at);
         Ok(())
     }
 

@@ -3,15 +3,16 @@ ghost use Rattle.std.specs.Prelude.{◌≡◌, false, ◌∷◌, []};
 ghost use Rattle.rtrb.specs.Ring.{received};
 ghost use Rattle.rank_crews.specs.Runs.{AllRan};
 ghost use Rattle.rank_crews.specs.Rings.{CameBack};
-ghost use Rattle.rank_crews.specs.Children.{first_of, is_there, IsUnturned};
+ghost use Rattle.rank_crews.specs.Children.{first_of, is_there, HasUnturnedRanks};
+ghost use Rattle.rank_crews.specs.Workers.{MayStop};
 
 use crate::assignment::Assignment;
 use crate::gate::Gate;
 use crate::seated::{GateLog, Seated};
 use crate::shared::Shared;
 use crate::turned::Turned;
-use crate::worker_thread::{SameRanks, WorkerThread, run_what_comes};
-use rtrb::{Consumer, RingBuffer};
+use crate::worker_thread::{Returned, SameRanks, WorkerThread, run_what_comes};
+use rtrb::RingBuffer;
 use std::alloc::Global;
 use std::mem;
 use std::snapshot::Snapshot;
@@ -41,7 +42,7 @@ pub(crate) fn start<
     ranks: Assignment<A>,
 ) -> Child<'s, A, J>
     ensures first { first_of result ≡ ranks }
-    ensures unturned { IsUnturned result }
+    ensures unturned { HasUnturnedRanks result }
 {
     let Some(returned) = shared.returned_of(worker) else {
         return keep(ranks);
@@ -50,10 +51,11 @@ pub(crate) fn start<
         return keep(ranks);
     };
     let started = scope.spawn_with(
-        SameRanks::<A, J>::new(&end),
-        move || -> (Assignment<A>, Consumer<Assignment<A>>)
+        SameRanks::<A, J>::new(&end, &shared.fallback),
+        move || -> Returned<'_, A>
             requires { received end ≡ [] }
-            ensures { CameBack (AllRan (A.ran J.told)) end result.1 result.0 }
+            ensures ran { CameBack (AllRan (A.ran J.told)) end result.1 result.0 }
+            ensures stopped { MayStop A.over shared.entry.now.fallback.id result.0 result.2 }
         { run_what_comes(shared, returned, end) },
     );
     let Ok(handle) = started else {
@@ -73,7 +75,7 @@ pub(crate) fn start<
 pub(crate) fn keep<'s, A: Seated, J: GateLog>(ranks: Assignment<A>) -> Child<'s, A, J>
     ensures first { first_of result ≡ ranks }
     ensures here { is_there result ≡ false }
-    ensures unturned { IsUnturned result }
+    ensures unturned { HasUnturnedRanks result }
 {
     Child::Here(Turned::new(ranks))
 }

@@ -18,7 +18,9 @@ pub(crate) fn deal<A: Seated>(
     requires some { 0 < count }
     ensures { IfOk result (λ crews. AreDealt count 0 all.items crews.items) }
 {
-    let mut crews = no_ranks(alloc, count, all.len())?;
+    let Ok(mut crews) = no_ranks(alloc, count, all.len()) else {
+        return Err(NoMemory);
+    };
     let mut all = all;
     while let Some(at) = all.pop() {
         crews[all.len() % count].join(at)?;
@@ -35,9 +37,14 @@ fn no_ranks<A: Seated>(
     requires some { 0 < count }
     ensures { IfOk result (λ crews. crews.items ≡ replicate count []) }
 {
-    let mut crews = Vec::with_capacity(alloc, count)?;
+    let Ok(mut crews) = Vec::with_capacity(alloc, count) else {
+        return Err(NoMemory);
+    };
     for _ in 0..count {
-        crews.push_reserved(Assignment::new(alloc, ranks.div_ceil(count))?);
+        let Ok(none) = Assignment::new(alloc, ranks.div_ceil(count)) else {
+            return Err(NoMemory);
+        };
+        crews.push_reserved(none);
     }
     Ok(crews)
 }

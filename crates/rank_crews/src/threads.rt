@@ -3,7 +3,7 @@ ghost use Rattle.std.specs.Prelude.{◌≡◌, ℕ, ◌+◌, ◌<◌, ◌≤◌,
 ghost use Rattle.std.specs.List.{All, list_all};
 ghost use Rattle.rank_crews.specs.declared.child.Child.{Child};
 ghost use Rattle.rank_crews.specs.Runs.{AllRan, AllEnded};
-ghost use Rattle.rank_crews.specs.Children.{first_of, is_there, HasEnded, IsUnturned};
+ghost use Rattle.rank_crews.specs.Children.{first_of, is_there, HasEnded, HasUnturnedRanks};
 
 use crate::assignment::Assignment;
 use crate::caller::run_caller;
@@ -61,10 +61,16 @@ fn run_workers<
     ensures { IfOk result (λ ended. AllEnded (A.ran J.told) A.over all.items ended.items) }
 {
     let count = all.len();
-    let ended = Vec::with_capacity(alloc, count)?;
-    let dealt = deal(alloc, workers.number.max(1), all)?;
+    let Ok(ended) = Vec::with_capacity(alloc, count) else {
+        return Err(NoMemory);
+    };
+    let Ok(dealt) = deal(alloc, workers.number.max(1), all) else {
+        return Err(NoMemory);
+    };
     let shared = Shared::<R, G, J>::new(rt, alloc, gate, dealt.len())?;
-    let over = run_each(&shared, alloc, threads, dealt)?;
+    let Ok(over) = run_each(&shared, alloc, threads, dealt) else {
+        return Err(NoMemory);
+    };
     Ok(gather::<A, J>(over, count, ended))
 }
 
@@ -87,7 +93,9 @@ fn run_each<
     ensures { IfOk result
         (λ ended. AllEnded (AllRan (A.ran J.told)) (λ xs. list_all A.over xs) all.items ended.items) }
 {
-    let ended = Vec::with_capacity(alloc, all.len())?;
+    let Ok(ended) = Vec::with_capacity(alloc, all.len()) else {
+        return Err(NoMemory);
+    };
     thread::scope(
         thread::scope_env(),
         shared.rt,
@@ -119,7 +127,9 @@ fn run_in<
     requires room { length all.items ≤ vec_capacity ended }
     ensures { IfOk result (λ ys. AllEnded (AllRan (A.ran J.told)) (λ xs. list_all A.over xs) all.items ys.items) }
 {
-    let children = Vec::with_capacity(alloc, all.len())?;
+    let Ok(children) = Vec::with_capacity(alloc, all.len()) else {
+        return Err(NoMemory);
+    };
     let children = start_all(scope, shared, alloc, threads, all, children);
     let children = run_caller(shared, alloc, children);
     Ok(take_ranks(children, ended))
@@ -177,7 +187,7 @@ fn place<
 ) -> Child<'s, A, J>
     ensures first { first_of result ≡ ranks }
     ensures limit { is_there result ≡ true → worker < threads.number }
-    ensures unturned { IsUnturned result }
+    ensures unturned { HasUnturnedRanks result }
 {
     if worker < threads.number {
         start(scope, shared, alloc, worker, ranks)

@@ -1,6 +1,7 @@
 //! A worker on a thread of its own.
 ghost use Rattle.std.specs.Prelude.{◌≡◌, true};
 ghost use Rattle.rank_crews.specs.Runs.{AllRan};
+ghost use Rattle.rank_crews.specs.Workers.{MayStop};
 
 use crate::assignment::Assignment;
 use crate::backoff::Backoff;
@@ -67,21 +68,23 @@ impl<'a, R: Wait, A: Seated, G: Gate, J: GateLog> Job for Worker<'a, R, A, G, J>
     }
 }
 
-/// Sweeps over ranks until the run of each is over, or the fallback is called.
+/// Sweeps over ranks until the run of each is over, or the fallback is called. Answers the ranks
+/// and, if it stopped for the fallback, what shows that it was called.
 pub(crate) fn run_worker<'a, R: Wait, A: Seated, G: Gate, J: GateLog>(
     shared: &'a Shared<'a, R, G, J>,
     ranks: Assignment<A>,
-) -> Assignment<A>
-    ensures { AllRan (A.ran J.told) ranks result }
+) -> (Assignment<A>, Option<OnceToken<'a, ()>>)
+    ensures ran { AllRan (A.ran J.told) ranks result.0 }
+    ensures stopped { MayStop A.over shared.now.fallback.id result.0 result.1 }
 {
     let Worker {
         shared: _,
         ranks,
-        called: _,
+        called,
     } = do_job(Worker {
         shared,
         ranks,
         called: None,
     });
-    ranks
+    (ranks, called)
 }

@@ -17,9 +17,9 @@ use Rattle.round_program.specs.Epochs.{IsCanonical}
 use Rattle.round_program.proofs.Items.{items_total}
 use Rattle.round_program.proofs.Members.{in_round_at}
 use Rattle.rank_node.specs.Sending.{is_voting, epoch_of}
-use Rattle.rank_node.specs.Movers.{dims_of, rank_of, epoch_in, part_in}
+use Rattle.rank_node.specs.Movers.{mover_dims, mover_rank, epoch_in, part_in}
 use Rattle.rank_node.specs.Movers.Manner.{ByConveyor}
-use Rattle.rank_node.specs.Next.{extended}
+use Rattle.rank_node.specs.Next.{with_next}
 use Rattle.rank_group.specs.Ranks.{RankState, HasRank, progress}
 use Rattle.rank_node.proofs.Onward.{epoch_is}
 use Rattle.rank_group.proofs.Movers.{part_epoch}
@@ -28,7 +28,7 @@ use Rattle.rank_node.proofs.Between.{extended_before}
 use Rattle.rank_group.proofs.Counted.{pushed_in}
 use Rattle.rank_group.proofs.Pushed.{work_few, votes_few, mover_pushed, items_before, count_in}
 use Rattle.rank_group.proofs.Worlds.{Core, core, canonical, still_within, over_at_last}
-use Rattle.rank_group.specs.Worlds.{progress_in, history_in, World}
+use Rattle.rank_group.specs.RanksOverBank.{progress_in, history_in, World}
 
 -- two epochs a round
 by_rounds : (f : ℕ → ℕ) (g : ℕ → ℕ) (q n : ℕ) → ((m : ℕ) → m < n → f (2 * m) ≤ g m) → ((m : ℕ) → m < n → f (2 * m + 1) ≤ q) → (sum : ℕ → ℕ) → sum 0 ≡ 0 → ((m : ℕ) → sum (suc m) ≡ sum m + (g m + q)) → total (2 * n) f ≤ sum n
@@ -66,7 +66,7 @@ module _ {S : Type 0} (R : Rules S) (laws : Laws R) (law : ClosesLaws) (dims : L
             let member = all.each s (h s m) state in
             let each = total_le (ranks dims) (λ d. length (flow dims sent s d 1 (2 * m))) (λ d. length (items_of d (R.emissions (h s m))))
             (λ d to. let a = few d to in
-            let b = work_few R (ranks (dims_of x.0.node.mover)) (rank_of x.0.node.mover) (h s) x.0.node.run.round x.0.node.run.sends x.0.node.run.next i.prog x.0.node.run.sum x.0.node.run.spoiled part (record { passed = i.is.passed; within = i.is.within }) m d (subst (λ ds. d < ranks ds) (sym has.same_dims) to) (omega (arith, begun, here)) in
+            let b = work_few R (ranks (mover_dims x.0.node.mover)) (mover_rank x.0.node.mover) (h s) x.0.node.run.round x.0.node.run.sends x.0.node.run.next i.prog x.0.node.run.sum x.0.node.run.spoiled part (record { passed = i.is.passed; within = i.is.within }) m d (subst (λ ds. d < ranks ds) (sym has.same_dims) to) (omega (arith, begun, here)) in
             omega (arith, a, b)) in
             let sums = items_total (ranks dims) (R.emissions (h s m)) (subst (λ p. All (λ (e : ℕ × Item). e.0 < p) (R.emissions (h s m))) member.all_ranks (receivers_below R laws (h s m) member.valid)) in
             let is = ap (count_in R) state in
@@ -84,8 +84,8 @@ module _ {S : Type 0} (R : Rules S) (laws : Laws R) (law : ClosesLaws) (dims : L
 
         before : (x : RankState S) → m ≤ x.node.run.round → history_in (h s) (Some x) m ≡ h s m
         before x b = elim (cases_Bool x.over) [
-          | inl t ↦ ap (λ b. cond b (extended (h s) (x.node.run.round + 1) x.node.run.prog) (h s) m) t ∙ extended_before (h s) (x.node.run.round + 1) x.node.run.prog m (λ q. omega (arith, q, b))
-          | inr f ↦ ap (λ b. cond b (extended (h s) (x.node.run.round + 1) x.node.run.prog) (h s) m) f
+          | inl t ↦ ap (λ b. cond b (with_next (h s) (x.node.run.round + 1) x.node.run.prog) (h s) m) t ∙ extended_before (h s) (x.node.run.round + 1) x.node.run.prog m (λ q. omega (arith, q, b))
+          | inr f ↦ ap (λ b. cond b (with_next (h s) (x.node.run.round + 1) x.node.run.prog) (h s) m) f
         ]
 
   -- one rank's votes on a round
@@ -97,7 +97,7 @@ module _ {S : Type 0} (R : Rules S) (laws : Laws R) (law : ClosesLaws) (dims : L
       let part : Part = part_in x.0.node.mover (starting_at dims s sent) (ending_at dims s got) in
       let b = total_bound (ranks dims) 1 (λ d. length (flow dims sent s d 1 (2 * m + 1)))
       (λ d to. let a = mover_pushed dims x.0.node.mover steady sent got s d (2 * m + 1) w.ranked.grid has.same_manner has.same_dims has.same_rank from to in
-      let v = votes_few R (ranks (dims_of x.0.node.mover)) (rank_of x.0.node.mover) (h s) x.0.node.run.round x.0.node.run.sends x.0.node.run.next i.prog x.0.node.run.sum x.0.node.run.spoiled part (record { passed = i.is.passed; within = i.is.within }) m d (subst (λ ds. d < ranks ds) (sym has.same_dims) to) in
+      let v = votes_few R (ranks (mover_dims x.0.node.mover)) (mover_rank x.0.node.mover) (h s) x.0.node.run.round x.0.node.run.sends x.0.node.run.next i.prog x.0.node.run.sum x.0.node.run.spoiled part (record { passed = i.is.passed; within = i.is.within }) m d (subst (λ ds. d < ranks ds) (sym has.same_dims) to) in
       omega (arith, a, v)) in
       omega (arith, b)
 

@@ -2,27 +2,27 @@
 use Rattle.std.proofs.Common.{◌≡◌, ℕ, ◌+◌, ◌<◌, ◌≤◌, ◌==◌, true, false, cond, List, [], ◌∷◌, length, sym, ap, subst, ◌∙◌, arith, inl, inr}
 use Rattle.std.proofs.lemmas.Bool.{cases_Bool, true≢false, eq-eqb, ne_eqb}
 use Rattle.port_bank.specs.Logs.{Logs, lasts, starting_at, ending_at, lasts_in}
-use Rattle.exstack.specs.Links.{no_in}
-use Rattle.exstack.specs.State.{Stack, number, in_at}
+use Rattle.exstack.specs.Links.{no_stack_in}
+use Rattle.exstack.specs.State.{Stack, number, stack_in_at}
 use Rattle.exstack.specs.Parts.{is_all_done}
 use Rattle.exstack.specs.Agreement.{AgreesIn}
 use Rattle.exstack.specs.Standing.{IsStack}
 use Rattle.round_program.specs.Rules.{Rules}
 use Rattle.rank_node.specs.Runs.{Running}
 use Rattle.rank_node.specs.Sending.{to_send}
-use Rattle.rank_node.specs.Movers.{MoverState, Manner, dims_of, rank_of, epoch_in, manner_in, has_completed, IsMoving}
+use Rattle.rank_node.specs.Movers.{MoverState, Manner, mover_dims, mover_rank, epoch_in, manner_in, has_completed, IsMoving}
 use Rattle.rank_node.specs.Movers.MoverState.{Conveying, Stacking}
 use Rattle.rank_node.specs.Cycles.{IsInCycle, cycle_of_turn}
 use Rattle.port_bank.proofs.Marks.{at_most}
 use Rattle.rank_group.specs.Ranks.{RankState, HasRank, AfterRank, StaysIn, EndsEpoch}
-use Rattle.rank_group.specs.Halves.{HasCycled, IsBetween, KeepsCycle, next_cycle}
+use Rattle.rank_group.specs.RoundProgress.{HasCycled, IsBetween, KeepsCycle, next_cycle}
 
 -- an exstack that agrees with lists in which its epoch isn't over is between two ends
 pub not_over : (cap n : ℕ) (x : Stack) (sent got : Logs) → IsStack cap x → AgreesIn n x sent got → lasts (got (number x.ranks x.rank x.rank)) ≤ x.epoch → is_all_done x.stage ≡ false
 not_over cap n x sent got s a low = elim (cases_Bool (is_all_done x.stage)) [
   | inr f ↦ f
   | inl t ↦
-      let i = s.each_in x.rank no_in (omega (arith, s.rank, s.all_ins)) in
+      let i = s.each_in x.rank no_stack_in (omega (arith, s.rank, s.all_ins)) in
       let e : lasts (got (number x.ranks x.rank x.rank)) ≡ x.epoch + 1 = (a.ins x.rank s.rank).ended ∙ ap (lasts_in x.epoch) (i.all_ended t) in
       absurd (omega (arith, e, low))
 ]
@@ -32,8 +32,8 @@ anew : (k k' : ℕ) (cap : ℕ) (x x' : Stack) (sent got : Logs) → IsStack cap
 anew k k' cap x x' sent got s a a' same_ranks same_rank next =
     let low : x.rank < x.ranks = omega (arith, s.rank, same_ranks, same_rank) in
     let at : number x.ranks x.rank x.rank ≡ number x'.ranks x'.rank x'.rank = ap (λ p. number p x.rank x.rank) same_ranks ∙ ap (λ q. number x'.ranks q q) same_rank in
-    let e : lasts (got (number x.ranks x.rank x.rank)) ≡ lasts_in x.epoch (in_at x x.rank).ended = (a.ins x.rank low).ended in
-    let few = at_most x.epoch (in_at x x.rank).ended in
+    let e : lasts (got (number x.ranks x.rank x.rank)) ≡ lasts_in x.epoch (stack_in_at x x.rank).ended = (a.ins x.rank low).ended in
+    let few = at_most x.epoch (stack_in_at x x.rank).ended in
     let same = ap (λ l. lasts (got l)) at in
     not_over cap k' x' sent got s a' (omega (arith, e, few, same, next))
 
@@ -41,7 +41,7 @@ abbrev first : List ℕ → ℕ
 first [] = 0
 first (d ∷ ds) = d
 
-begun_anew : {S : Type 0} (R : Rules S) (quota : ℕ → ℕ) (k k' : ℕ) (run run' : Running S) (m m' : MoverState) (sent got : Logs) → manner_in m' ≡ manner_in m → dims_of m' ≡ dims_of m → rank_of m' ≡ rank_of m → epoch_in m' ≡ epoch_in m + 1
+begun_anew : {S : Type 0} (R : Rules S) (quota : ℕ → ℕ) (k k' : ℕ) (run run' : Running S) (m m' : MoverState) (sent got : Logs) → manner_in m' ≡ manner_in m → mover_dims m' ≡ mover_dims m → mover_rank m' ≡ mover_rank m → epoch_in m' ≡ epoch_in m + 1
     → IsMoving m' sent got → IsInCycle R quota k run m sent got → IsInCycle R quota k' run' m' sent got → IsBetween m'
 begun_anew R quota k k' run run' m (Conveying c') sent got same_manner same_dims same_rank next moves i i' = tt
 begun_anew R quota k k' run run' (Conveying c) (Stacking cap' x') sent got same_manner same_dims same_rank next moves i i' = absurd (cc)

@@ -17,8 +17,8 @@ use Rattle.exstack.specs.Lockstep.{finished_in}
 use Rattle.rank_node.specs.Movers.{MoverState, Manner, epoch_in, manner_in}
 use Rattle.rank_node.specs.Movers.MoverState.{Conveying, Stacking}
 use Rattle.rank_node.specs.Movers.Manner.{ByConveyor, ByExstack}
-use Rattle.rank_group.specs.Halves.{most_rounds, rounds_made, HasMade, MoverMade}
-use Rattle.rank_group.specs.Told.{turns_within}
+use Rattle.rank_group.specs.RoundProgress.{most_rounds, rounds_made, HasMade, MoverMade}
+use Rattle.rank_group.specs.Transcript.{turns_within}
 use Rattle.rank_group.specs.Ranks.{RankState, IsOrder, progress}
 use Rattle.rank_group.proofs.Worlds.{still_within, over_at_last}
 use Rattle.rank_group.proofs.Moves.{moves_few}
@@ -29,7 +29,7 @@ use Rattle.rank_group.proofs.Halves.{total_more, halves_low}
 use Rattle.rank_group.proofs.Worlds.{stack_of}
 use Rattle.rank_group.proofs.Stacks.{over_in, stack_in, stack_is, all_stacks}
 use Rattle.rank_group.proofs.Made.{to_stack, of_stack}
-use Rattle.rank_group.specs.Worlds.{World, moves, RestsBy, Plan, SweptTo, AllMade}
+use Rattle.rank_group.specs.RanksOverBank.{World, moves, RestsBy, DrivePlan, SweptTo, AllMade}
 use Rattle.rank_group.specs.Drives.{progs_of}
 
 -- a rank whose run isn't over
@@ -74,7 +74,7 @@ pub record Reached {S : Type 0} (R : Rules S) (dims : List ℕ) (cap slots : ℕ
   pub count : steps ≤ steps0 + ranks dims * sweeps
 
 -- over conveyors
-module _ {S : Type 0} (R : Rules S) (laws : Laws R) (law : ClosesLaws) (rest : RestLaw) (dims : List ℕ) (cap slots : ℕ) (steady : Bool) (starts : List S) (n : ℕ) (plan : Plan R dims slots starts n) where
+module _ {S : Type 0} (R : Rules S) (laws : Laws R) (law : ClosesLaws) (rest : RestLaw) (dims : List ℕ) (cap slots : ℕ) (steady : Bool) (starts : List S) (n : ℕ) (plan : DrivePlan R dims slots starts n) where
   -- no more sweeps than a run has
   pub low : (h : ℕ → ℕ → S) (rs : List (RankState S)) (sent got : Logs) → World R dims cap slots (ByConveyor steady) starts h rs sent got → moves dims rs sent got + least rs ≤ sweeps_within R dims starts n
   low h rs sent got w =
@@ -149,7 +149,7 @@ module _ {S : Type 0} (R : Rules S) (laws : Laws R) (law : ClosesLaws) (rest : R
               s.rests light place.0 r (within order place.0 r place.1) place.1 y.0 x y.1 at over (omega (arith, a, b, here))
 
 -- over exstacks
-module _ {S : Type 0} (R : Rules S) (laws : Laws R) (law : ClosesLaws) (dims : List ℕ) (cap slots : ℕ) (starts : List S) (n : ℕ) (plan : Plan R dims slots starts n) (h : ℕ → ℕ → S) (rs : List (RankState S)) (sent got : Logs)
+module _ {S : Type 0} (R : Rules S) (laws : Laws R) (law : ClosesLaws) (dims : List ℕ) (cap slots : ℕ) (starts : List S) (n : ℕ) (plan : DrivePlan R dims slots starts n) (h : ℕ → ℕ → S) (rs : List (RankState S)) (sent got : Logs)
     (w : World R dims cap slots ByExstack starts h rs sent got) where
   abbrev top : ℕ
   top = total (2 * n) (most_rounds R (ranks dims) starts)
@@ -215,7 +215,7 @@ module _ {S : Type 0} (R : Rules S) (laws : Laws R) (law : ClosesLaws) (dims : L
       ]
 
 -- over either
-module _ {S : Type 0} (R : Rules S) (laws : Laws R) (law : ClosesLaws) (rest : RestLaw) (dims : List ℕ) (cap slots : ℕ) (starts : List S) (n : ℕ) (plan : Plan R dims slots starts n) where
+module _ {S : Type 0} (R : Rules S) (laws : Laws R) (law : ClosesLaws) (rest : RestLaw) (dims : List ℕ) (cap slots : ℕ) (starts : List S) (n : ℕ) (plan : DrivePlan R dims slots starts n) where
   turns_enough : (manner : Manner) → ranks dims * most_sweeps R manner dims starts n ≤ turns_within R manner dims starts n
   turns_enough (ByConveyor steady) = turns_low R steady dims starts n
   turns_enough ByExstack = round_turns R laws dims plan.shape plan.most starts plan.start n
@@ -286,7 +286,7 @@ pub record Driving {S : Type 0} (R : Rules S) (cap : ℕ) (rs0 : List (RankState
   pub is_bank : IsBank cap b
   pub same_dims : b.dims ≡ b0.dims
   pub same_slots : b.slots ≡ b0.slots
-  pub reached : (manner : Manner) (starts : List S) (n : ℕ) (h : ℕ → ℕ → S) → Plan R b0.dims b0.slots starts n → World R b0.dims cap b0.slots manner starts h rs0 (sent_of b0) (got_of b0)
+  pub reached : (manner : Manner) (starts : List S) (n : ℕ) (h : ℕ → ℕ → S) → DrivePlan R b0.dims b0.slots starts n → World R b0.dims cap b0.slots manner starts h rs0 (sent_of b0) (got_of b0)
       → Reached R b0.dims cap b0.slots manner starts steps0 rs (sent_of b) (got_of b) steps
 
 pub driving_none : {S : Type 0} (R : Rules S) (cap : ℕ) (rs0 : List (RankState S)) (b0 : Bank) (steps0 : ℕ) → IsBank cap b0 → Driving R cap rs0 b0 steps0 rs0 b0 steps0
@@ -303,31 +303,31 @@ left R rs0 b0 steps0 steps = steps0 + turns_within R (manner_in_all rs0) b0.dims
 
 module _ {S : Type 0} (R : Rules S) (cap : ℕ) (rs0 : List (RankState S)) (b0 : Bank) (steps0 : ℕ) (rs : List (RankState S)) (b : Bank) (steps : ℕ) (v : Driving R cap rs0 b0 steps0 rs b steps) where
   -- all ranks between two sweeps
-  pub world_now : (manner : Manner) (starts : List S) (n : ℕ) (h : ℕ → ℕ → S) → Plan R b0.dims b0.slots starts n → World R b0.dims cap b0.slots manner starts h rs0 (sent_of b0) (got_of b0)
-      → (manner : Manner) × (starts : List S) × (n : ℕ) × (h : ℕ → ℕ → S) × Plan R b.dims b.slots starts n × World R b.dims cap b.slots manner starts h rs (sent_of b) (got_of b)
+  pub world_now : (manner : Manner) (starts : List S) (n : ℕ) (h : ℕ → ℕ → S) → DrivePlan R b0.dims b0.slots starts n → World R b0.dims cap b0.slots manner starts h rs0 (sent_of b0) (got_of b0)
+      → (manner : Manner) × (starts : List S) × (n : ℕ) × (h : ℕ → ℕ → S) × DrivePlan R b.dims b.slots starts n × World R b.dims cap b.slots manner starts h rs (sent_of b) (got_of b)
   world_now manner starts n h p w =
       let s = v.reached manner starts n h p w in (
         manner,
         starts,
         n,
         s.h,
-        subst (λ d. Plan R d b.slots starts n) (sym v.same_dims) (subst (λ k. Plan R b0.dims k starts n) (sym v.same_slots) p),
+        subst (λ d. DrivePlan R d b.slots starts n) (sym v.same_dims) (subst (λ k. DrivePlan R b0.dims k starts n) (sym v.same_slots) p),
         subst (λ d. World R d cap b.slots manner starts s.h rs (sent_of b) (got_of b)) (sym v.same_dims) (subst (λ k. World R b0.dims cap k manner starts s.h rs (sent_of b) (got_of b)) (sym v.same_slots) s.world),
       )
 
   module _ (laws : Laws R) (law : ClosesLaws) (rest : RestLaw) (order : List ℕ) (is : IsOrder (ranks b0.dims) order) (on : GoesOn rs) (rs' : List (RankState S)) (b' : Bank) (steps' : ℕ)
       (lawful : IsBank cap b') (ed : b'.dims ≡ b.dims) (es : b'.slots ≡ b.slots) (turned : steps' ≤ steps + length order)
-      (swept : (manner : Manner) (starts : List S) (n : ℕ) (h : ℕ → ℕ → S) → Plan R b.dims b.slots starts n → (w : World R b.dims cap b.slots manner starts h rs (sent_of b) (got_of b))
+      (swept : (manner : Manner) (starts : List S) (n : ℕ) (h : ℕ → ℕ → S) → DrivePlan R b.dims b.slots starts n → (w : World R b.dims cap b.slots manner starts h rs (sent_of b) (got_of b))
       → SweptTo R b.dims cap b.slots manner starts order (length order) w.cycle rs (sent_of b) (got_of b) rs' (sent_of b') (got_of b')) where
-    swept_at : (manner : Manner) (starts : List S) (n : ℕ) (h : ℕ → ℕ → S) → Plan R b0.dims b0.slots starts n → (w : World R b0.dims cap b0.slots manner starts h rs (sent_of b) (got_of b))
+    swept_at : (manner : Manner) (starts : List S) (n : ℕ) (h : ℕ → ℕ → S) → DrivePlan R b0.dims b0.slots starts n → (w : World R b0.dims cap b0.slots manner starts h rs (sent_of b) (got_of b))
         → SweptTo R b0.dims cap b0.slots manner starts order (length order) w.cycle rs (sent_of b) (got_of b) rs' (sent_of b') (got_of b')
     swept_at =
-        subst (λ d. (manner : Manner) (starts : List S) (n : ℕ) (h : ℕ → ℕ → S) → Plan R d b0.slots starts n → (w : World R d cap b0.slots manner starts h rs (sent_of b) (got_of b))
+        subst (λ d. (manner : Manner) (starts : List S) (n : ℕ) (h : ℕ → ℕ → S) → DrivePlan R d b0.slots starts n → (w : World R d cap b0.slots manner starts h rs (sent_of b) (got_of b))
         → SweptTo R d cap b0.slots manner starts order (length order) w.cycle rs (sent_of b) (got_of b) rs' (sent_of b') (got_of b')) v.same_dims
-        (subst (λ k. (manner : Manner) (starts : List S) (n : ℕ) (h : ℕ → ℕ → S) → Plan R b.dims k starts n → (w : World R b.dims cap k manner starts h rs (sent_of b) (got_of b))
+        (subst (λ k. (manner : Manner) (starts : List S) (n : ℕ) (h : ℕ → ℕ → S) → DrivePlan R b.dims k starts n → (w : World R b.dims cap k manner starts h rs (sent_of b) (got_of b))
         → SweptTo R b.dims cap k manner starts order (length order) w.cycle rs (sent_of b) (got_of b) rs' (sent_of b') (got_of b')) v.same_slots swept)
 
-    reached' : (manner : Manner) (starts : List S) (n : ℕ) (h : ℕ → ℕ → S) → Plan R b0.dims b0.slots starts n → World R b0.dims cap b0.slots manner starts h rs0 (sent_of b0) (got_of b0)
+    reached' : (manner : Manner) (starts : List S) (n : ℕ) (h : ℕ → ℕ → S) → DrivePlan R b0.dims b0.slots starts n → World R b0.dims cap b0.slots manner starts h rs0 (sent_of b0) (got_of b0)
         → Reached R b0.dims cap b0.slots manner starts steps0 rs' (sent_of b') (got_of b') steps'
     reached' manner starts n h p w0 =
         let r = v.reached manner starts n h p w0 in
@@ -336,7 +336,7 @@ module _ {S : Type 0} (R : Rules S) (cap : ℕ) (rs0 : List (RankState S)) (b0 :
     pub driving_more : Driving R cap rs0 b0 steps0 rs' b' steps'
     driving_more = record { is_bank = lawful; same_dims = ed ∙ v.same_dims; same_slots = es ∙ v.same_slots; reached = reached' }
 
-    pub fewer_left : steps < steps' → (manner : Manner) (n : ℕ) (h : ℕ → ℕ → S) (p : Plan R b0.dims b0.slots (progs_of rs0) n) → n ≤ p.most → World R b0.dims cap b0.slots manner (progs_of rs0) h rs0 (sent_of b0) (got_of b0)
+    pub fewer_left : steps < steps' → (manner : Manner) (n : ℕ) (h : ℕ → ℕ → S) (p : DrivePlan R b0.dims b0.slots (progs_of rs0) n) → n ≤ p.most → World R b0.dims cap b0.slots manner (progs_of rs0) h rs0 (sent_of b0) (got_of b0)
         → left R rs0 b0 steps0 steps' < left R rs0 b0 steps0 steps
     fewer_left rose manner n h p few w0 =
         let r = reached' manner (progs_of rs0) n h p w0 in

@@ -9,7 +9,7 @@ use Rattle.list_laws.proofs.Sums.{total_same, total_const, total_zero}
 use Rattle.route_tensor.specs.Grid.{ranks}
 use Rattle.route_tensor.specs.Ends.{reader_at}
 use Rattle.port_bank.specs.Logs.{Logs, starting_at, ending_at}
-use Rattle.port_bank.specs.Plain.{Bank, Channel, unused, IsBank, sent_of, got_of, empty_bank, closed}
+use Rattle.port_bank.specs.Plain.{Bank, Channel, unused_channel, IsBank, sent_of, got_of, empty_bank, round_of_bank}
 use Rattle.port_bank.specs.Port.{IsSlots}
 use Rattle.port_bank.specs.Round.{Round, IsRound, logs_of}
 use Rattle.port_bank.proofs.Closing.{none_sent, none_got, channel-empty}
@@ -18,27 +18,27 @@ use Rattle.round_program.specs.Rules.{Rules}
 use Rattle.round_program.specs.Laws.{Laws}
 use Rattle.round_program.specs.Canonical.{HasRounds, InRound, EndsWithin, HaveEnded, states_at}
 use Rattle.round_program.proofs.Members.{in_round_at, rounds_once}
-use Rattle.rank_node.specs.Movers.{MoverState, Manner, IsShape, IsMoving, NoneUnread, lying, epoch_in}
+use Rattle.rank_node.specs.Movers.{MoverState, Manner, IsLogShape, IsMoving, NoneUnread, lying, epoch_in}
 use Rattle.rank_node.specs.Movers.MoverState.{Conveying, Stacking}
 use Rattle.rank_node.specs.Runs.{Running}
 use Rattle.rank_node.specs.Cycles.{IsInCycle}
-use Rattle.rank_group.specs.Halves.{emission_count, quota_of, IsBetween}
+use Rattle.rank_group.specs.RoundProgress.{emission_count, quota_of, IsBetween}
 use Rattle.rank_group.proofs.Cycled.{not_over}
 use Rattle.rank_node.specs.Nodes.{IsNode}
 use Rattle.rank_group.specs.Ranks.{RankState, AllRanks}
-use Rattle.rank_group.specs.Told.{TellsRun, turns_within}
+use Rattle.rank_group.specs.Transcript.{TellsRun, turns_within}
 use Rattle.route_tensor.proofs.Coordinates.{ranks_some}
 use Rattle.rank_group.proofs.Orders.{lawful}
 use Rattle.rank_group.proofs.Movers.{shape_none}
 use Rattle.rank_group.proofs.Telling.{tells_run}
 use Rattle.rank_group.proofs.Worlds.{over_at_last}
-use Rattle.rank_group.specs.Worlds.{World, Plan, inbox, mover_in, progress_in, all_progress}
+use Rattle.rank_group.specs.RanksOverBank.{World, DrivePlan, inbox, mover_in, progress_in, all_progress}
 use Rattle.rank_group.specs.Drives.{progs_of, AreFresh}
 
 -- all ranks as a drive begins, over its bank
 pub record Begun {S : Type 0} (R : Rules S) (cap : ℕ) (manner : Manner) (starts : List S) (n : ℕ) (rs : List (RankState S)) (b : Bank) : Type 0 where
   pub h : ℕ → ℕ → S
-  pub plan : Plan R b.dims b.slots starts n
+  pub plan : DrivePlan R b.dims b.slots starts n
   pub few : n ≤ plan.most
   pub world : World R b.dims cap b.slots manner starts h rs (sent_of b) (got_of b)
 
@@ -84,7 +84,7 @@ begun {S} R laws cap dims slots manner starts shape most n rs fresh some is star
                 runs = λ on. subst (λ s. IsNode R (λ m. s) x.node (starting_at dims r (sent_of b)) (ending_at dims r (got_of b))) same
                     (subst (λ (a : Logs). IsNode R (λ m. x.node.run.prog) x.node a (ending_at dims r (got_of b))) (sym (no_sent r)) (subst (λ (a : Logs). IsNode R (λ m. x.node.run.prog) x.node (λ l. []) a) (sym (no_got r)) f.node));
                 stopped = λ over. absurd (true≢false (sym over ∙ f.on));
-                shape = λ l below own. subst (λ (a : Logs). IsShape manner cap (a l)) (sym (no_sent r)) (shape_none manner cap);
+                shape = λ l below own. subst (λ (a : Logs). IsLogShape manner cap (a l)) (sym (no_sent r)) (shape_none manner cap);
               };
           begins = λ r s at. get_or_from_slice_get starts r s first.0 at;
         };
@@ -126,36 +126,36 @@ module _ {S : Type 0} (R : Rules S) (laws : Laws R) (cap : ℕ) (dims : List ℕ
       (begun R laws cap dims slots manner starts shape most n rs fresh some (subst (IsBank cap) made is) start rounds (let e = rounds_once R starts n ends.rounds rounds ends.has_rounds in let l = ends.at_most in omega (arith, e, l)))
 
   -- what the sweeps need
-  pub run_needs : (manner : Manner) × (n : ℕ) × (h : ℕ → ℕ → S) × (plan : Plan R b.dims b.slots (progs_of rs) n) × (n ≤ plan.most) × World R b.dims cap b.slots manner (progs_of rs) h rs (sent_of b) (got_of b)
+  pub run_needs : (manner : Manner) × (n : ℕ) × (h : ℕ → ℕ → S) × (plan : DrivePlan R b.dims b.slots (progs_of rs) n) × (n ≤ plan.most) × World R b.dims cap b.slots manner (progs_of rs) h rs (sent_of b) (got_of b)
   run_needs =
       let x : Begun R cap manner (progs_of rs) ends.rounds rs b = subst (λ ps. Begun R cap manner ps ends.rounds rs b) (sym fresh.programs) (begun_at ends.rounds ends.has_rounds) in
       (manner, ends.rounds, x.h, x.plan, x.few, x.world)
 
   -- and what they leave
-  pub steps_at : (steps steps' : ℕ) → ((manner : Manner) (starts : List S) (n : ℕ) (h : ℕ → ℕ → S) → Plan R b.dims b.slots starts n → World R b.dims cap b.slots manner starts h rs (sent_of b) (got_of b) → steps' ≤ steps + turns_within R manner b.dims starts n)
+  pub steps_at : (steps steps' : ℕ) → ((manner : Manner) (starts : List S) (n : ℕ) (h : ℕ → ℕ → S) → DrivePlan R b.dims b.slots starts n → World R b.dims cap b.slots manner starts h rs (sent_of b) (got_of b) → steps' ≤ steps + turns_within R manner b.dims starts n)
       → (n : ℕ) → HasRounds R starts n → steps' ≤ steps + turns_within R manner dims starts n
   steps_at steps steps' told n rounds =
       let x = begun_at n rounds in
       subst (λ ds. steps' ≤ steps + turns_within R manner ds starts n) (ap (λ (y : Bank). y.dims) made) (told manner starts n x.h x.plan x.world)
 
-  pub world_after : (rs' : List (RankState S)) (b' : Bank) → ((manner : Manner) (starts : List S) (n : ℕ) (h : ℕ → ℕ → S) → Plan R b.dims b.slots starts n → World R b.dims cap b.slots manner starts h rs (sent_of b) (got_of b)
+  pub world_after : (rs' : List (RankState S)) (b' : Bank) → ((manner : Manner) (starts : List S) (n : ℕ) (h : ℕ → ℕ → S) → DrivePlan R b.dims b.slots starts n → World R b.dims cap b.slots manner starts h rs (sent_of b) (got_of b)
       → (g : ℕ → ℕ → S) × World R b.dims cap b.slots manner starts g rs' (sent_of b') (got_of b')) → (g : ℕ → ℕ → S) × World R dims cap slots manner starts g rs' (sent_of b') (got_of b')
   world_after rs' b' told =
       let x = begun_at ends.rounds ends.has_rounds in
       let w = told manner starts ends.rounds x.h x.plan x.world in
       (w.0, subst (λ (y : Bank). World R y.dims cap y.slots manner starts w.0 rs' (sent_of b') (got_of b')) made w.1)
 
-logs_map : (f : Channel → List Shipped) (channels : List Channel) → f unused ≡ [] → (l : ℕ) → logs_of (map f channels) l ≡ f (get_or channels l unused)
+logs_map : (f : Channel → List Shipped) (channels : List Channel) → f unused_channel ≡ [] → (l : ℕ) → logs_of (map f channels) l ≡ f (get_or channels l unused_channel)
 logs_map f [] e l = sym e
 logs_map f (c ∷ channels) e zero = refl
 logs_map f (c ∷ channels) e (suc l) = logs_map f channels e l
 
 -- what a closed bank tells of a link is what was sent on it and got from it, and at first that is
 -- nothing
-pub all_sent : (cap : ℕ) (b : Bank) (round : Round) (l : ℕ) → round ≡ closed cap b → logs_of round.sent l ≡ sent_of b l
+pub all_sent : (cap : ℕ) (b : Bank) (round : Round) (l : ℕ) → round ≡ round_of_bank cap b → logs_of round.sent l ≡ sent_of b l
 all_sent cap b round l is = ap (λ (c : Round). logs_of c.sent l) is ∙ logs_map (λ c. c.sent) b.channels refl l
 
-pub all_got : (cap : ℕ) (b : Bank) (round : Round) (l : ℕ) → round ≡ closed cap b → logs_of round.got l ≡ got_of b l
+pub all_got : (cap : ℕ) (b : Bank) (round : Round) (l : ℕ) → round ≡ round_of_bank cap b → logs_of round.got l ≡ got_of b l
 all_got cap b round l is = ap (λ (c : Round). logs_of c.got l) is ∙ logs_map (λ c. c.got) b.channels refl l
 
 pub none_first : (dims : List ℕ) (slots l : ℕ) → length (sent_of (empty_bank dims slots) l) ≡ 0
@@ -189,10 +189,10 @@ module _ {S : Type 0} (R : Rules S) (laws : Laws R) (law : ClosesLaws) (cap : �
     (ed : b.dims ≡ dims) (es : b.slots ≡ slots) (w : AllRanks R dims cap slots manner starts h rs (sent_of b) (got_of b)) (over : (r : ℕ) (x : RankState S) → slice_get rs r ≡ Some x → x.over ≡ true)
     (shape : List ℕ) (most n : ℕ) (start : InRound R (ranks dims) 0 shape most starts) (rounds : HasRounds R starts n) where
   -- and the closed bank tells the run
-  pub told : (round : Round) → round ≡ closed cap b → IsRound round → TellsRun R starts n (record { dims = dims; cap = cap; slots = slots; by_slots = false }) manner round
+  pub told : (round : Round) → round ≡ round_of_bank cap b → IsRound round → TellsRun R starts n (record { dims = dims; cap = cap; slots = slots; by_slots = false }) manner round
   told round is in_order =
       subst (λ c. TellsRun R starts n (record { dims = dims; cap = cap; slots = slots; by_slots = false }) manner c) (sym is)
-      (tells_run R laws law (closed cap b) cap slots manner starts h rs world (subst IsRound is in_order).in_order over shape most n (subst (λ ds. InRound R (ranks ds) 0 shape most starts) (sym ed) start) rounds
+      (tells_run R laws law (round_of_bank cap b) cap slots manner starts h rs world (subst IsRound is in_order).in_order over shape most n (subst (λ ds. InRound R (ranks ds) 0 shape most starts) (sym ed) start) rounds
       (record { dims = dims; cap = cap; slots = slots; by_slots = false }) (ap (λ ds. record { dims = ds; cap = cap; slots = b.slots; by_slots = false }) ed ∙ ap (λ k. record { dims = dims; cap = cap; slots = k; by_slots = false }) es) refl) where
         sent : ◌≡◌ {A = Logs} (sent_of b) (logs_of (map (λ c. c.sent) b.channels))
         sent = λ i l. sym (logs_map (λ c. c.sent) b.channels refl l) i

@@ -4,7 +4,7 @@ use Rattle.std.specs.List.{flat_map}
 use Rattle.std.proofs.lemmas.Bool.{cases_eq, cases_lt}
 use Rattle.std.proofs.lemmas.List.{append-nil}
 use Rattle.item_buffer.specs.Contents.{Shipped}
-use Rattle.list_laws.specs.Lists.{Begins}
+use Rattle.list_laws.specs.Lists.{IsPrefix}
 use Rattle.list_laws.specs.Sums.{total}
 use Rattle.list_laws.proofs.Sums.{total_le, total_lt}
 use Rattle.route_tensor.specs.Link.{links}
@@ -24,8 +24,8 @@ move_over sent got inbox l = length (sent l) + length (got l) + (entries_of (got
 pub record Grows (dims : List ℕ) (r : ℕ) (sent got sent' got' : Logs) (inbox inbox' : ℕ → ℕ) : Type 0 where
   pub sent_elsewhere : starting_elsewhere dims r sent' ≡ starting_elsewhere dims r sent
   pub got_elsewhere : ending_elsewhere dims r got' ≡ ending_elsewhere dims r got
-  pub sent_grows : (l : ℕ) → Begins (starting_at dims r sent l) (starting_at dims r sent' l)
-  pub got_grows : (l : ℕ) → Begins (ending_at dims r got l) (ending_at dims r got' l)
+  pub sent_grows : (l : ℕ) → IsPrefix (starting_at dims r sent l) (starting_at dims r sent' l)
+  pub got_grows : (l : ℕ) → IsPrefix (ending_at dims r got l) (ending_at dims r got' l)
   pub apart : (l : ℕ) → reader_at dims l ≢ r → inbox' l ≡ inbox l
   pub lies : (l : ℕ) (more : List Shipped) → l < links dims → reader_at dims l ≡ r → ending_at dims r got' l ≡ ending_at dims r got l ++ more
       → inbox' l ≤ inbox l + entries_of more
@@ -33,17 +33,17 @@ pub record Grows (dims : List ℕ) (r : ℕ) (sent got sent' got' : Logs) (inbox
   pub past : (l : ℕ) → links dims ≤ l → (sent' l ≡ sent l) × (got' l ≡ got l)
 
 -- where a rank's own logs grow and the others stay, all grow
-grown : (own : ℕ → Bool) (old new : Logs) → ((l : ℕ) → Begins (cond (own l) (old l) []) (cond (own l) (new l) [])) → ((l : ℕ) → cond (own l) [] (new l) ≡ cond (own l) [] (old l)) → (l : ℕ) → Begins (old l) (new l)
+grown : (own : ℕ → Bool) (old new : Logs) → ((l : ℕ) → IsPrefix (cond (own l) (old l) []) (cond (own l) (new l) [])) → ((l : ℕ) → cond (own l) [] (new l) ≡ cond (own l) [] (old l)) → (l : ℕ) → IsPrefix (old l) (new l)
 grown own old new grows same l = pick (own l) (grows l) (same l) where
-  pick : (b : Bool) → Begins (cond b (old l) []) (cond b (new l) []) → cond b [] (new l) ≡ cond b [] (old l) → Begins (old l) (new l)
+  pick : (b : Bool) → IsPrefix (cond b (old l) []) (cond b (new l) []) → cond b [] (new l) ≡ cond b [] (old l) → IsPrefix (old l) (new l)
   pick true g s = g
   pick false g s = record { rest = []; is = s ∙ sym (append-nil (old l)) }
 
 module _ (dims : List ℕ) (r : ℕ) (sent got sent' got' : Logs) (inbox inbox' : ℕ → ℕ) (t : Grows dims r sent got sent' got' inbox inbox') where
-  sent_more : (l : ℕ) → Begins (sent l) (sent' l)
+  sent_more : (l : ℕ) → IsPrefix (sent l) (sent' l)
   sent_more = grown (λ l. sender_at dims l == r) sent sent' t.sent_grows (λ l. ap (λ (f : Logs). f l) t.sent_elsewhere)
 
-  pub got_more : (l : ℕ) → Begins (got l) (got' l)
+  pub got_more : (l : ℕ) → IsPrefix (got l) (got' l)
   got_more = grown (λ l. reader_at dims l == r) got got' t.got_grows (λ l. ap (λ (f : Logs). f l) t.got_elsewhere)
 
   entries_more : (l : ℕ) → entries_of (got' l) ≡ entries_of (got l) + entries_of (got_more l).rest

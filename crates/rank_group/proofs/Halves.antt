@@ -4,19 +4,19 @@ use Rattle.std.proofs.lemmas.Bool.{cases_Bool, cases_eq, cases_lt, cases_order, 
 use Rattle.list_laws.specs.Sums.{total}
 use Rattle.port_bank.proofs.Fronts.{begins_whole}
 use Rattle.port_bank.specs.Logs.{Logs, lasts, starting_at, ending_at, lasts_in}
-use Rattle.port_bank.specs.Flow.{Begins}
+use Rattle.port_bank.specs.Flow.{IsPrefix}
 use Rattle.port_bank.proofs.Segments.{lasts_begins}
 use Rattle.exstack.specs.declared.stage.Stage.{Stage}
 use Rattle.exstack.specs.declared.stage.Stage.TheVariants.{Start, Proceeding, Filling, Exchanging, Full, AllDone}
-use Rattle.exstack.specs.State.{Stack, out_at, in_at, number, link_to, link_from, is_proceeding, is_exchanging}
+use Rattle.exstack.specs.State.{Stack, stack_out_at, stack_in_at, number, stack_link_to, stack_link_from, is_proceeding, is_exchanging}
 use Rattle.exstack.specs.Parts.{is_all_done}
 use Rattle.exstack.specs.Agreement.{cycle_after}
-use Rattle.exstack.specs.Lockstep.{finished_in, HasFinished, HasPosted, InStep, RoomLaw, ArrivalLaw}
+use Rattle.exstack.specs.Lockstep.{finished_in, HasFinishedRounds, HasPostedRounds, InStep, RoomLaw, ArrivalLaw}
 use Rattle.exstack.proofs.Lockstep.{begins, sent_own, got_own, out_end, out_is, in_end, in_is}
 use Rattle.rank_node.specs.Cycles.{IsOnward, Awaits}
 use Rattle.rank_node.specs.Moves.{WaitsFor}
 use Rattle.rank_group.specs.Ranks.{crowded_in, idle_in}
-use Rattle.rank_group.specs.Halves.{rounds_made, IsHalfway, HasMade}
+use Rattle.rank_group.specs.RoundProgress.{rounds_made, IsHalfway, HasMade}
 
 -- more terms, no smaller sum
 pub total_more : (f : ℕ → ℕ) (a b : ℕ) → a ≤ b → total a f ≤ total b f
@@ -104,10 +104,10 @@ module _ (p cap slots : ℕ) (n : ℕ → ℕ) (all : ℕ → Stack) (sent got :
   l = number p a b
 
   -- a link whose parcel is due isn't through
-  pub out_going : (out_at (all a) b).due ≡ true → lasts (sent l) ≡ (all a).epoch
+  pub out_going : (stack_out_at (all a) b).due ≡ true → lasts (sent l) ≡ (all a).epoch
   out_going due = (out_end p cap slots n all sent got t a b la lb).ended ∙ ap (lasts_in (all a).epoch) ((out_is p cap slots n all sent got t a b la lb).due_open due)
 
-  pub in_going : (in_at (all b) a).due ≡ true → lasts (got l) ≡ (all b).epoch
+  pub in_going : (stack_in_at (all b) a).due ≡ true → lasts (got l) ≡ (all b).epoch
   in_going due = (in_end p cap slots n all sent got t a b la lb).ended ∙ ap (lasts_in (all b).epoch) ((in_is p cap slots n all sent got t a b la lb).due_open due)
 
   -- and where its reader, or its sender, is done with the epoch it is
@@ -115,7 +115,7 @@ module _ (p cap slots : ℕ) (n : ℕ → ℕ) (all : ℕ → Stack) (sent got :
   in_through over = (in_end p cap slots n all sent got t a b la lb).ended ∙ ap (lasts_in (all b).epoch) ((in_is p cap slots n all sent got t a b la lb).all_ended over)
 
   pub out_through : is_all_done (all a).stage ≡ true → (all a).done ≡ true → lasts (sent l) ≡ (all a).epoch + 1
-  out_through over done = (out_end p cap slots n all sent got t a b la lb).ended ∙ ap (lasts_in (all a).epoch) ((out_is p cap slots n all sent got t a b la lb).done_closed done (none (out_at (all a) b).due refl)) where
+  out_through over done = (out_end p cap slots n all sent got t a b la lb).ended ∙ ap (lasts_in (all a).epoch) ((out_is p cap slots n all sent got t a b la lb).done_closed done (none (stack_out_at (all a) b).due refl)) where
     no_round : (s : Stage) → is_all_done s ≡ true → (is_proceeding s || is_exchanging s) ≡ true → ⊥
     no_round Start e k = false≢true e
     no_round Proceeding e k = false≢true e
@@ -124,7 +124,7 @@ module _ (p cap slots : ℕ) (n : ℕ → ℕ) (all : ℕ → Stack) (sent got :
     no_round Full e k = false≢true e
     no_round AllDone e k = false≢true k
 
-    none : (d : Bool) → (out_at (all a) b).due ≡ d → (out_at (all a) b).due ≡ false
+    none : (d : Bool) → (stack_out_at (all a) b).due ≡ d → (stack_out_at (all a) b).due ≡ false
     none true e = absurd (no_round (all a).stage over ((out_is p cap slots n all sent got t a b la lb).due_round e))
     none false e = e
 
@@ -133,7 +133,7 @@ module _ (room : RoomLaw) (arrival : ArrivalLaw) (p cap slots : ℕ) (most : ℕ
     (w : AllStacks p cap slots most epochs over n all sent got) (r : ℕ) (low : r < p) (on : over r ≡ false) (going : is_all_done (all r).stage ≡ false)
     (x : Stack) (k : ℕ) (before : Logs) (same_ranks : x.ranks ≡ p) (same_rank : x.rank ≡ r) (same_epoch : (all r).epoch ≡ x.epoch) (cycle : n r ≡ cycle_after k x.stage) (onward : IsOnward x.stage (all r).stage)
     (awaits : Awaits (all r)) (waits : WaitsFor x (all r) before (ending_at (p ∷ []) r got) (crowded_in (p ∷ []) slots r sent got) (idle_in (p ∷ []) r sent got))
-    (still : finished_in (n r) (all r).stage ≡ finished_in k x.stage → (b : ℕ) → b < p → (out_at (all r) b).due ≡ true → ending_at (p ∷ []) r got (link_to x b) ≡ before (link_to x b))
+    (still : finished_in (n r) (all r).stage ≡ finished_in k x.stage → (b : ℕ) → b < p → (stack_out_at (all r) b).due ≡ true → ending_at (p ∷ []) r got (stack_link_to x b) ≡ before (stack_link_to x b))
     (j : ℕ) (others : (b : ℕ) → b < p → b ≢ r → HasMade most j (over b) (n b) (all b)) (mine : HasMade most j false k x) where
   abbrev e : ℕ
   e = (all r).epoch
@@ -175,7 +175,7 @@ module _ (room : RoomLaw) (arrival : ArrivalLaw) (p cap slots : ℕ) (most : ℕ
     inside = stays_within k x.stage (all r).stage onward going (sym finished ∙ same)
 
     -- the others that go on have finished as much
-    position : (b : ℕ) → b < p → b ≢ r → over b ≡ false → HasFinished e f (n b) (all b)
+    position : (b : ℕ) → b < p → b ≢ r → over b ≡ false → HasFinishedRounds e f (n b) (all b)
     position b lb apart off =
         let a = halves_low most j (over b) (n b) (all b) (others b lb apart) in
         let c = made_by b off in
@@ -190,9 +190,9 @@ module _ (room : RoomLaw) (arrival : ArrivalLaw) (p cap slots : ℕ) (most : ℕ
     late b lb is = let a = w.last b lb is in let c = w.within r low on in omega (arith, a, c)
 
     -- so all that was posted was collected where a parcel is to be posted
-    level : (b : ℕ) → b < p → (out_at (all r) b).due ≡ true → length (got (number p r b)) ≡ length (sent (number p r b))
+    level : (b : ℕ) → b < p → (stack_out_at (all r) b).due ≡ true → length (got (number p r b)) ≡ length (sent (number p r b))
     level b lb due = elim (cases_eq b r) [
-      | inl here ↦ room p cap slots n all sent got t r b low lb (subst (λ q. HasFinished e f (n q) (all q)) (sym here) (inr (refl, omega arith))) due
+      | inl here ↦ room p cap slots n all sent got t r b low lb (subst (λ q. HasFinishedRounds e f (n q) (all q)) (sym here) (inr (refl, omega arith))) due
       | inr apart ↦ elim (cases_Bool (over b)) [
         | inr off ↦ room p cap slots n all sent got t r b low lb (position b lb apart off) due
         | inl is ↦ elim (cases_lt e (all b).epoch) [
@@ -208,12 +208,12 @@ module _ (room : RoomLaw) (arrival : ArrivalLaw) (p cap slots : ℕ) (most : ℕ
     ]
 
     -- and nothing is left to post
-    none_due : (b : ℕ) → b < (all r).ranks → (out_at (all r) b).due ≡ false
-    none_due b lb = elim (cases_Bool (out_at (all r) b).due) [
+    none_due : (b : ℕ) → b < (all r).ranks → (stack_out_at (all r) b).due ≡ false
+    none_due b lb = elim (cases_Bool (stack_out_at (all r) b).due) [
       | inr no' ↦ no'
       | inl due ↦
           let lp : b < p = omega (arith, lb, t.same_ranks r low) in
-          let at : link_to x b ≡ number p r b = ap (λ i. number i x.rank b) same_ranks ∙ ap (λ q. number p q b) same_rank in
+          let at : stack_link_to x b ≡ number p r b = ap (λ i. number i x.rank b) same_ranks ∙ ap (λ q. number p q b) same_rank in
           let full : crowded_in (p ∷ []) slots r sent got (number p r b) ≡ true = ap (crowded_in (p ∷ []) slots r sent got) (sym at) ∙ waits.posts b (omega (arith, lp, same_ranks)) due (still same b lp due) in
           let c : length (starting_at (p ∷ []) r sent (number p r b)) ≡ length (got (number p r b)) + slots = eqb-true (length (starting_at (p ∷ []) r sent (number p r b))) (length (got (number p r b)) + slots) full in
           let own = ap length (sent_own p cap slots n all sent got t r b low lp) in
@@ -226,7 +226,7 @@ module _ (room : RoomLaw) (arrival : ArrivalLaw) (p cap slots : ℕ) (most : ℕ
 
     -- where all ranks had posted their parcels of this round, it would have collected its own
     module _ (odd : j ≡ 2 * m + 1) where
-      posted : (a : ℕ) → a < p → a ≢ r → over a ≡ false → HasPosted e f (n a) (all a)
+      posted : (a : ℕ) → a < p → a ≢ r → over a ≡ false → HasPostedRounds e f (n a) (all a)
       posted a la apart off =
           let c = made_by a off in
           let h : HasMade most j (over a) (n a) (all a) = others a la apart in
@@ -245,10 +245,10 @@ module _ (room : RoomLaw) (arrival : ArrivalLaw) (p cap slots : ℕ) (most : ℕ
                 )
           ]
 
-      waiting : (a : ℕ) → a < p → (in_at (all r) a).due ≡ true → length (got (number p a r)) < length (sent (number p a r))
+      waiting : (a : ℕ) → a < p → (stack_in_at (all r) a).due ≡ true → length (got (number p a r)) < length (sent (number p a r))
       waiting a la due = elim (cases_eq a r) [
         | inl here ↦ arrival p cap slots n all sent got t r a low la
-            (subst (λ q. HasPosted e f (n q) (all q)) (sym here) (inr (refl, inr (record { round = refl; begun = inside; none_due = none_due })))) due
+            (subst (λ q. HasPostedRounds e f (n q) (all q)) (sym here) (inr (refl, inr (record { round = refl; begun = inside; none_due = none_due })))) due
         | inr apart ↦ elim (cases_Bool (over a)) [
           | inr off ↦ arrival p cap slots n all sent got t r a low la (posted a la apart off) due
           | inl is ↦ elim (cases_lt e (all a).epoch) [
@@ -261,7 +261,7 @@ module _ (room : RoomLaw) (arrival : ArrivalLaw) (p cap slots : ℕ) (most : ℕ
           ]
         ]
       ] where
-        longer : (xs ys : List _) → Begins xs ys → lasts xs < lasts ys → length xs < length ys
+        longer : (xs ys : List _) → IsPrefix xs ys → lasts xs < lasts ys → length xs < length ys
         longer xs ys b less = elim (cases_lt (length xs) (length ys)) [
           | inl yes' ↦ yes'
           | inr no' ↦ let same' = ap lasts (begins_whole xs ys b (omega (arith, no'))) in absurd (omega (arith, same', less))
@@ -272,7 +272,7 @@ module _ (room : RoomLaw) (arrival : ArrivalLaw) (p cap slots : ℕ) (most : ℕ
         | inl o ↦ true≢false (sym o.due ∙ none_due o.other o.low)
         | inr i ↦
             let la : i.other < p = omega (arith, i.low, t.same_ranks r low) in
-            let at : link_from x i.other ≡ number p i.other r = ap (λ q. number q i.other x.rank) same_ranks ∙ ap (λ q. number p i.other q) same_rank in
+            let at : stack_link_from x i.other ≡ number p i.other r = ap (λ q. number q i.other x.rank) same_ranks ∙ ap (λ q. number p i.other q) same_rank in
             let quiet : idle_in (p ∷ []) r sent got (number p i.other r) ≡ true = ap (idle_in (p ∷ []) r sent got) (sym at) ∙ waits.collects i.other (omega (arith, la, same_ranks)) i.due in
             let c : length (ending_at (p ∷ []) r got (number p i.other r)) ≡ length (sent (number p i.other r)) = eqb-true (length (ending_at (p ∷ []) r got (number p i.other r))) (length (sent (number p i.other r))) quiet in
             let own = ap length (got_own p cap slots n all sent got t i.other r la low) in

@@ -6,8 +6,8 @@ use Rattle.list_laws.proofs.Lists.{within, get_once}
 use Rattle.route_tensor.specs.Grid.{ranks}
 use Rattle.route_tensor.specs.Ends.{reader_at}
 use Rattle.port_bank.specs.Logs.{Logs, ending_at}
-use Rattle.port_bank.specs.Flow.{Begins}
-use Rattle.exstack.specs.State.{Stack, out_at, number, link_to}
+use Rattle.port_bank.specs.Flow.{IsPrefix}
+use Rattle.exstack.specs.State.{Stack, stack_out_at, number, stack_link_to}
 use Rattle.exstack.specs.Agreement.{cycle_after}
 use Rattle.exstack.specs.Lockstep.{finished_in, InStep}
 use Rattle.exstack.specs.Parts.{is_all_done}
@@ -22,8 +22,8 @@ use Rattle.rank_node.specs.Moves.{WaitsFor, Waits}
 use Rattle.rank_node.specs.Cycles.{IsOnward, Awaits, TurnsOnward, AwaitsSome, cycle_of_turn}
 use Rattle.rank_group.specs.Closes.{ClosesLaws}
 use Rattle.rank_group.specs.Ranks.{RankState, AfterRank, StaysIn, EndsEpoch, crowded_in, idle_in}
-use Rattle.rank_group.specs.Halves.{most_rounds, rounds_made, HasMade, MoverMade, next_cycle}
-use Rattle.rank_group.specs.Worlds.{World, Plan, AllMade}
+use Rattle.rank_group.specs.RoundProgress.{most_rounds, rounds_made, HasMade, MoverMade, next_cycle}
+use Rattle.rank_group.specs.RanksOverBank.{World, DrivePlan, AllMade}
 use Rattle.rank_group.proofs.Worlds.{stack_of}
 use Rattle.exstack.proofs.Lockstep.{got_own}
 use Rattle.rank_group.proofs.Halves.{halves_low, halves_less, half_more}
@@ -66,9 +66,9 @@ epoch_is : (m : MoverState) (cap : ℕ) → m ≡ Stacking cap (stack_of m) → 
 epoch_is m cap e = ap epoch_in e
 
 module _ {S : Type 0} (R : Rules S) (laws : Laws R) (law : ClosesLaws) (dims : List ℕ) (cap slots : ℕ) (starts : List S) (h g : ℕ → ℕ → S) (r : ℕ) (n n' : RankState S) (rs rs' : List (RankState S)) (sent got sent' got' : Logs)
-    (w : World R dims cap slots ByExstack starts h rs sent got) (v : World R dims cap slots ByExstack starts g rs' sent' got') (rounds : ℕ) (plan : Plan R dims slots starts rounds)
+    (w : World R dims cap slots ByExstack starts h rs sent got) (v : World R dims cap slots ByExstack starts g rs' sent' got') (rounds : ℕ) (plan : DrivePlan R dims slots starts rounds)
     (at : slice_get rs r ≡ Some n) (at' : slice_get rs' r ≡ Some n') (others : (k : ℕ) → k ≢ r → slice_get rs' k ≡ slice_get rs k) (t : AfterRank R dims cap slots r n n' sent got sent' got')
-    (grows : (l : ℕ) → Begins (got l) (got' l)) (here : v.cycle r ≡ next_cycle (w.cycle r) n n') (elsewhere : (k : ℕ) → k ≢ r → v.cycle k ≡ w.cycle k)
+    (grows : (l : ℕ) → IsPrefix (got l) (got' l)) (here : v.cycle r ≡ next_cycle (w.cycle r) n n') (elsewhere : (k : ℕ) → k ≢ r → v.cycle k ≡ w.cycle k)
     (j : ℕ) (all : AllMade (most_rounds R (ranks dims) starts) j w.cycle rs) where
   abbrev p : ℕ
   p = ranks dims
@@ -164,15 +164,15 @@ module _ {S : Type 0} (R : Rules S) (laws : Laws R) (law : ClosesLaws) (dims : L
         (subst (λ (ds : List ℕ). WaitsFor x x' (ending_at ds r got) (ending_at ds r got') (crowded_in ds slots r sent' got') (idle_in ds r sent' got')) (sym (one R laws law dims cap slots starts h rs sent got w rounds plan))
         (waits_of R n.node.run n.node.mover n'.node.mover cap _ _ _ _ _ _ is is' s.waits))
 
-    still : finished_in (v.cycle r) now.stage ≡ finished_in (w.cycle r) x.stage → (b : ℕ) → b < p → (out_at now b).due ≡ true → ending_at (p ∷ []) r got' (link_to x b) ≡ ending_at (p ∷ []) r got (link_to x b)
+    still : finished_in (v.cycle r) now.stage ≡ finished_in (w.cycle r) x.stage → (b : ℕ) → b < p → (stack_out_at now b).due ≡ true → ending_at (p ∷ []) r got' (stack_link_to x b) ≡ ending_at (p ∷ []) r got (stack_link_to x b)
     still same b lb due =
-        let to : link_to x b ≡ number p r b = ap (λ i. number i x.rank b) same_ranks ∙ ap (λ q. number p q b) same_rank in
+        let to : stack_link_to x b ≡ number p r b = ap (λ i. number i x.rank b) same_ranks ∙ ap (λ q. number p q b) same_rank in
         subst (λ l. ending_at (p ∷ []) r got' l ≡ ending_at (p ∷ []) r got l) (sym to) (elim (cases_eq b r) [
           | inl own ↦
               let e : now.epoch ≡ (stack_in (slice_get rs r)).epoch = same_epoch ∙ ap (λ o. (stack_in o).epoch) (sym at) in
               let f : finished_in (v.cycle r) now.stage ≡ finished_in (w.cycle r) (stack_in (slice_get rs r)).stage = same ∙ ap (λ o. finished_in (w.cycle r) (stack_in o).stage) (sym at) in
               let quiet : got' (number p r r) ≡ got (number p r r) =
-              own_still p cap slots w.cycle v.cycle (λ k. stack_in (slice_get rs k)) (λ k. stack_in (slice_get rs' k)) sent got sent' got' t0 t1 r low (grows (number p r r)) e f (subst (λ q. (out_at now q).due ≡ true) own due) in
+              own_still p cap slots w.cycle v.cycle (λ k. stack_in (slice_get rs k)) (λ k. stack_in (slice_get rs' k)) sent got sent' got' t0 t1 r low (grows (number p r r)) e f (subst (λ q. (stack_out_at now q).due ≡ true) own due) in
               subst (λ q. ending_at (p ∷ []) r got' (number p r q) ≡ ending_at (p ∷ []) r got (number p r q)) (sym own)
               (got_own p cap slots v.cycle (λ k. stack_in (slice_get rs' k)) sent' got' t1 r r low low ∙ (quiet ∙ sym (got_own p cap slots w.cycle (λ k. stack_in (slice_get rs k)) sent got t0 r r low low)))
           | inr apart ↦

@@ -5,16 +5,16 @@ use Rattle.std.proofs.lemmas.List.{map-append, length-map, append-nil}
 use Rattle.list_laws.proofs.Lists.{within, get_once, get_last, get_before}
 use Rattle.round_program.specs.Rules.{Rules}
 use Rattle.round_program.specs.Canonical.{InRound}
-use Rattle.rank_node.specs.Movers.{Manner, dims_of, rank_of, epoch_in, manner_in, HasCap, NoneUnread}
+use Rattle.rank_node.specs.Movers.{Manner, mover_dims, mover_rank, epoch_in, manner_in, HasCap, NoneUnread}
 use Rattle.rank_node.specs.Nodes.{NodeState, IsNode}
 use Rattle.rank_node.specs.Cycles.{IsInCycle}
 use Rattle.rank_group.specs.Ranks.{RankState}
-use Rattle.rank_group.specs.Drives.{progs_of, IsFresh, AreFresh}
+use Rattle.rank_group.specs.Drives.{progs_of, IsFreshRank, AreFresh}
 
 -- ranks for the programs so far
 pub record Making {S : Type 0} (R : Rules S) (dims : List ℕ) (cap : ℕ) (manner : Manner) (starts rest : List S) (rs : List (RankState S)) : Type 0 where
   pub left : starts ≡ progs_of rs ++ rest
-  pub each : (r : ℕ) (n : RankState S) → slice_get rs r ≡ Some n → IsFresh R dims cap manner r n
+  pub each : (r : ℕ) (n : RankState S) → slice_get rs r ≡ Some n → IsFreshRank R dims cap manner r n
 
 pub making_none : {S : Type 0} (R : Rules S) (dims : List ℕ) (cap : ℕ) (manner : Manner) (starts : List S) → Making R dims cap manner starts starts []
 making_none R dims cap manner starts = record { left = refl; each = λ r n at. absurd (omega (arith, within [] r n at)) }
@@ -43,11 +43,11 @@ module _ {S : Type 0} (R : Rules S) (dims : List ℕ) (cap : ℕ) (manner : Mann
       ∙ (ap (slice_get (progs_of rs ++ q ∷ drop 1 rest)) (sym (length-map rs (λ (n : RankState S). n.node.run.prog))) ∙ at_end (progs_of rs) (drop 1 rest) q)
 
   pub making_more : (p : ℕ) (shape : List ℕ) (most : ℕ) (rest' : List S) (rs' : List (RankState S)) (q : S) (n : NodeState S) → InRound R p 0 shape most starts → slice_get rest 0 ≡ Some q → rest' ≡ drop 1 rest
-      → rs' ≡ rs ++ record { node = n; over = false } ∷ [] → IsNode R (λ m. q) n (λ l. []) (λ l. []) → n.run.prog ≡ q → dims_of n.mover ≡ dims → rank_of n.mover ≡ R.rank q → manner_in n.mover ≡ manner → HasCap cap n.mover → epoch_in n.mover ≡ 0
+      → rs' ≡ rs ++ record { node = n; over = false } ∷ [] → IsNode R (λ m. q) n (λ l. []) (λ l. []) → n.run.prog ≡ q → mover_dims n.mover ≡ dims → mover_rank n.mover ≡ R.rank q → manner_in n.mover ≡ manner → HasCap cap n.mover → epoch_in n.mover ≡ 0
       → NoneUnread n.mover → ((quota : ℕ → ℕ) → length (R.emissions q) ≤ quota 0 → IsInCycle R quota 0 n.run n.mover (λ l. []) (λ l. [])) → Making R dims cap manner starts rest' rs'
   making_more p shape most rest' rs' q n all at gone more node np nd nr ns nc epoch unread cycle =
       let x : RankState S = record { node = n; over = false } in
-      let made : IsFresh R dims cap manner (length rs) x = record {
+      let made : IsFreshRank R dims cap manner (length rs) x = record {
         on = refl;
         same_dims = nd;
         same_rank = nr ∙ (all.each (length rs) q (next_prog q at)).own_rank;
@@ -67,7 +67,7 @@ module _ {S : Type 0} (R : Rules S) (dims : List ℕ) (cap : ℕ) (manner : Mann
           | inr past ↦
               let same : r ≡ length rs = omega (arith, past, within rs' r m now, ap length more, size) in
               let is : x ≡ m = get_once (rs ++ x ∷ []) (length rs) x m (get_last rs x) (ap (λ ns. slice_get ns (length rs)) (sym more) ∙ subst (λ i. slice_get rs' i ≡ Some m) same now) in
-              subst (λ i. IsFresh R dims cap manner i m) (sym same) (subst (λ y. IsFresh R dims cap manner (length rs) y) is made)
+              subst (λ i. IsFreshRank R dims cap manner i m) (sym same) (subst (λ y. IsFreshRank R dims cap manner (length rs) y) is made)
         ];
       }
 

@@ -15,7 +15,7 @@ use Rattle.route_tensor.specs.Tag.{IsFair, sender_of, destination_of}
 use Rattle.route_tensor.specs.Ends.{hop_at, sender_at, reader_at}
 use Rattle.route_tensor.proofs.Tags.{pair_route}
 use Rattle.port_bank.specs.Logs.{Logs, lasts, segment, starting_at, ending_at, EndsLast, lasts_in}
-use Rattle.port_bank.specs.Flow.{hop_link, flow, items_of}
+use Rattle.port_bank.specs.Flow.{hop_link, flow, passing_items}
 use Rattle.port_bank.specs.Relay.{HasFairTags}
 use Rattle.port_bank.specs.Shapes.{IsFilled}
 use Rattle.port_bank.proofs.Marks.{at_most}
@@ -26,15 +26,15 @@ use Rattle.convey.specs.Parts as conveyor_parts
 use Rattle.convey.proofs.OneRank.{OneRank, one_rank_of, starting-own, ending-own, first_link}
 use Rattle.exstack.specs.declared.stage.Stage.{Stage}
 use Rattle.exstack.specs.declared.stage.Stage.TheVariants.{AllDone}
-use Rattle.exstack.specs.Links.{no_out, no_in}
+use Rattle.exstack.specs.Links.{no_stack_out, no_stack_in}
 use Rattle.exstack.specs.State.{Stack}
-use Rattle.exstack.specs.State.{dims_of as stack_dims}
-use Rattle.exstack.specs.State.{out_at, in_at, number, link_to, link_from, is_proceeding, is_exchanging}
+use Rattle.exstack.specs.State.{stack_dims}
+use Rattle.exstack.specs.State.{stack_out_at, stack_in_at, number, stack_link_to, stack_link_from, is_proceeding, is_exchanging}
 use Rattle.exstack.specs.Cycles.{items, entries_sent}
 use Rattle.exstack.specs.Agreement as exstacks
 use Rattle.exstack.specs.Parts as exstack_parts
 use Rattle.exstack.proofs.OneHop.{ranks_one, grid_one, number_is, number_within, number_sender, number_reader, place_none, place_one}
-use Rattle.rank_node.specs.Movers.{MoverState, Manner, IsShape, dims_of, rank_of, epoch_in, part_in, has_completed, IsStacking, IsMoving}
+use Rattle.rank_node.specs.Movers.{MoverState, Manner, IsLogShape, mover_dims, mover_rank, epoch_in, part_in, has_completed, IsStacking, IsMoving}
 use Rattle.rank_node.specs.Movers.MoverState.{Conveying, Stacking}
 use Rattle.rank_node.specs.Movers.Manner.{ByConveyor, ByExstack}
 use Rattle.rank_node.proofs.Stacked.{all_done_is, done_of_all_done}
@@ -128,11 +128,11 @@ module _ (r cap : ℕ) (x : Stack) (sent got : Logs) (same_rank : x.rank ≡ r)
   none_due : (s : Stage) → s ≡ AllDone → (is_proceeding s || is_exchanging s) ≡ true → ⊥
   none_due s e h = absurd (cc)
 
-  closed : (b : ℕ) → b < x.ranks → (out_at x b).closed ≡ true
+  closed : (b : ℕ) → b < x.ranks → (stack_out_at x b).closed ≡ true
   closed b w =
-      let o = is.stack.each_out b no_out (omega (arith, w, is.stack.all_outs)) in
+      let o = is.stack.each_out b no_stack_out (omega (arith, w, is.stack.all_outs)) in
       let done : x.done ≡ true = done_of_all_done cap x (starting_at dims r sent) (ending_at dims r got) is over in
-      o.done_closed done (not_due (out_at x b).due (λ d. none_due x.stage (all_done_is x.stage over) (o.due_round d))) where
+      o.done_closed done (not_due (stack_out_at x b).due (λ d. none_due x.stage (all_done_is x.stage over) (o.due_round d))) where
         not_due : (b : Bool) → (b ≡ true → ⊥) → b ≡ false
         not_due true f = absurd (f refl)
         not_due false f = refl
@@ -142,15 +142,15 @@ module _ (r cap : ℕ) (x : Stack) (sent got : Logs) (same_rank : x.rank ≡ r)
       let t = toward x.ranks x.rank l some is.stack.few below (own ∙ sym same_rank) in
       let o = agrees.outs t.other t.low in
       let c = closed t.other t.low in
-      let e : starting_at dims r sent (link_to x t.other) ≡ sent l = ap (starting_at dims r sent) (sym t.out) ∙ starting-own dims r sent l own in
+      let e : starting_at dims r sent (stack_link_to x t.other) ≡ sent l = ap (starting_at dims r sent) (sym t.out) ∙ starting-own dims r sent l own in
       (sym (ap lasts e) ∙ (o.ended ∙ ap (lasts_in x.epoch) c), subst EndsLast e (o.by_last c))
 
   stack_in : (l : ℕ) → l < links dims → reader_at dims l ≡ r → lasts (got l) ≡ x.epoch + 1
   stack_in l below own =
       let t = from x.ranks x.rank l some is.stack.few below (own ∙ sym same_rank) in
       let i = agrees.ins t.other t.low in
-      let ended : (in_at x t.other).ended ≡ true = (is.stack.each_in t.other no_in (omega (arith, t.low, is.stack.all_ins))).all_ended over in
-      let e : ending_at dims r got (link_from x t.other) ≡ got l = ap (ending_at dims r got) (sym t.in') ∙ ending-own dims r got l own in
+      let ended : (stack_in_at x t.other).ended ≡ true = (is.stack.each_in t.other no_stack_in (omega (arith, t.low, is.stack.all_ins))).all_ended over in
+      let e : ending_at dims r got (stack_link_from x t.other) ≡ got l = ap (ending_at dims r got) (sym t.in') ∙ ending-own dims r got l own in
       sym (ap lasts e) ∙ (i.ended ∙ ap (lasts_in x.epoch) ended)
 
   stack_pushed : (e d : ℕ) → d < ranks dims → (part_in (Stacking cap x) (starting_at dims r sent) (ending_at dims r got)).pushed e d ≡ flow dims sent r d 1 e
@@ -160,12 +160,12 @@ module _ (r cap : ℕ) (x : Stack) (sent got : Logs) (same_rank : x.rank ≡ r)
       let ld : d < n = omega (arith, to, ranks_one n) in
       let l : ℕ = number n r d in
       let is_link : hop_link dims r d 1 ≡ l = number_is n r d lr ld in
-      let k : link_to x d ≡ l = ap (λ q. number n q d) same_rank in
+      let k : stack_link_to x d ≡ l = ap (λ q. number n q d) same_rank in
       let own : sender_at dims l ≡ r = number_sender n r d lr ld is.stack.few in
       let below : l < links dims = number_within n r d lr ld is.stack.few in
-      let log : starting_at dims r sent (link_to x d) ≡ sent l = ap (starting_at dims r sent) k ∙ starting-own dims r sent l own in
-      let o = is.stack.each_out d no_out (omega (arith, ld, is.stack.all_outs)) in
-      let waits : (out_at x d).waiting ≡ [] = o.closed_empty (closed d ld) in
+      let log : starting_at dims r sent (stack_link_to x d) ≡ sent l = ap (starting_at dims r sent) k ∙ starting-own dims r sent l own in
+      let o = is.stack.each_out d no_stack_out (omega (arith, ld, is.stack.all_outs)) in
+      let waits : (stack_out_at x d).waiting ≡ [] = o.closed_empty (closed d ld) in
       let fair : All (HasFairTags dims (hop_at dims l)) (starting_at dims r sent l) = agrees.law.fair l below (own ∙ sym same_rank) in
       let grid : IsGrid dims = grid_one n some is.stack.few in
       let num = numbered dims l grid below in
@@ -176,11 +176,11 @@ module _ (r cap : ℕ) (x : Stack) (sent got : Logs) (same_rank : x.rank ≡ r)
       let entries : List Entry = flat_map (λ p. p.entries) (segment e (sent l)) in
       let tags : All (λ (y : Entry). IsFair dims 1 y.tag) entries = all_flat (λ (y : Entry). IsFair dims 1 y.tag) (λ (p : Shipped). p.entries) (segment e (sent l)) (all_segment (HasFairTags dims 1) e (sent l) fair1) in
       let whole : filter (belongs dims r d 1) entries ≡ entries = filter_whole (belongs dims r d 1) entries (all_map (λ y. IsFair dims 1 y.tag) (λ y. belongs dims r d 1 y ≡ true) entries (λ y f. own_entry n r d y some is.stack.few grid joins f lr ld) tags) in
-      ap (λ b. cond b (exstack_parts.pushed_to x (starting_at dims r sent) e d) []) (lt-ltb d n ld)
-      ∙ (ap (λ w. items (entries_sent e (starting_at dims r sent (link_to x d))) ++ cond (e == x.epoch) (items w) []) waits
-      ∙ (nothing (e == x.epoch) (items (entries_sent e (starting_at dims r sent (link_to x d))))
+      ap (λ b. cond b (exstack_parts.stack_pushed_to x (starting_at dims r sent) e d) []) (lt-ltb d n ld)
+      ∙ (ap (λ w. items (entries_sent e (starting_at dims r sent (stack_link_to x d))) ++ cond (e == x.epoch) (items w) []) waits
+      ∙ (nothing (e == x.epoch) (items (entries_sent e (starting_at dims r sent (stack_link_to x d))))
       ∙ (ap (λ g. items (entries_sent e g)) log
-      ∙ (ap items (sym whole) ∙ ap (λ k. items_of (belongs dims r d 1) (segment e (sent k))) (sym is_link))))) where
+      ∙ (ap items (sym whole) ∙ ap (λ k. passing_items (belongs dims r d 1) (segment e (sent k))) (sym is_link))))) where
         nothing : (b : Bool) (xs : List Item) → xs ++ cond b [] [] ≡ xs
         nothing true xs = append-nil xs
         nothing false xs = append-nil xs
@@ -189,7 +189,7 @@ module _ (r cap : ℕ) (x : Stack) (sent got : Logs) (same_rank : x.rank ≡ r)
   stack_completed = record { out_lasts = λ l b o. (stack_out l b o).0; out_by_last = λ l b o. (stack_out l b o).1; in_lasts = stack_in; pushed = λ e d to early. stack_pushed e d to }
 
 -- of either
-pub completed : (dims : List ℕ) (r : ℕ) (m : MoverState) (sent got : Logs) → IsGrid dims → r < ranks dims → dims_of m ≡ dims → rank_of m ≡ r → IsMoving m (starting_at dims r sent) (ending_at dims r got) → has_completed m ≡ true
+pub completed : (dims : List ℕ) (r : ℕ) (m : MoverState) (sent got : Logs) → IsGrid dims → r < ranks dims → mover_dims m ≡ dims → mover_rank m ≡ r → IsMoving m (starting_at dims r sent) (ending_at dims r got) → has_completed m ≡ true
     → Completed dims r m sent got
 completed dims r (Conveying c) sent got grid low same_dims same_rank is over = conveyor_completed dims r c sent got grid low same_dims same_rank is over
 completed dims r (Stacking cap x) sent got grid low same_dims same_rank is over =
@@ -201,15 +201,15 @@ no_segment : (e : ℕ) → length (segment e []) ≡ 0
 no_segment zero = refl
 no_segment (suc e) = refl
 
-pub shape_none : (manner : Manner) (cap : ℕ) → IsShape manner cap []
+pub shape_none : (manner : Manner) (cap : ℕ) → IsLogShape manner cap []
 shape_none (ByConveyor steady) cap = All-nil (λ (p : Shipped). p.last ≡ false → IsFilled steady cap p)
 shape_none ByExstack cap = record { empty = λ e i d low. absurd (omega (arith, low, no_segment e)); goes_on = λ e i d low. absurd (omega (arith, low, no_segment e)) }
 
 -- how many parcels of a log are marked last
-pub lasts_low : (m : MoverState) (sent got : Logs) → IsMoving m sent got → (l : ℕ) → l < links (dims_of m) → sender_at (dims_of m) l ≡ rank_of m → lasts (sent l) ≤ epoch_in m + 1
+pub lasts_low : (m : MoverState) (sent got : Logs) → IsMoving m sent got → (l : ℕ) → l < links (mover_dims m) → sender_at (mover_dims m) l ≡ mover_rank m → lasts (sent l) ≤ epoch_in m + 1
 lasts_low (Conveying c) sent got is l below own =
     let o = is.agrees.outs l below own in omega (arith, at_most c.epoch (out_of c l).closed, o.lasts)
 lasts_low (Stacking cap x) sent got is l below own =
     let t = toward x.ranks x.rank l (let a = is.stack.rank in omega (arith, a)) is.stack.few below own in
     let o = is.agrees.agrees.outs t.other t.low in
-    subst (λ k. lasts (sent k) ≤ x.epoch + 1) (sym t.out) (omega (arith, at_most x.epoch (out_at x t.other).closed, o.ended))
+    subst (λ k. lasts (sent k) ≤ x.epoch + 1) (sym t.out) (omega (arith, at_most x.epoch (stack_out_at x t.other).closed, o.ended))

@@ -12,7 +12,7 @@ use Rattle.route_tensor.specs.Link.{links}
 use Rattle.route_tensor.specs.Tag.{IsFair}
 use Rattle.route_tensor.specs.Ends.{hop_at, sender_at}
 use Rattle.port_bank.specs.Logs.{Logs, lasts, segment, starting_at}
-use Rattle.port_bank.specs.Flow.{Begins}
+use Rattle.port_bank.specs.Flow.{IsPrefix}
 use Rattle.port_bank.specs.Relay.{HasFairTags}
 use Rattle.port_bank.specs.Shapes.{IsConveyorShape}
 use Rattle.port_bank.proofs.Fronts.{begins_shorter, begins_flat_map}
@@ -32,7 +32,7 @@ use Rattle.rank_group.proofs.Bounds.{pushed_all, none_past}
 use Rattle.rank_group.proofs.Counted.{by_segments, pushed_in, all_links, log_short}
 use Rattle.rank_group.proofs.Pushed.{items_before}
 use Rattle.rank_group.proofs.Worlds.{Core, core, still_within, over_at_last}
-use Rattle.rank_group.specs.Worlds.{entries_of, World, move_of, moves}
+use Rattle.rank_group.specs.RanksOverBank.{parcel_entries, World, move_of, moves}
 
 total_times : (n k : ℕ) (f : ℕ → ℕ) → total n (λ e. k * f e) ≡ k * total n f
 total_times zero k f = omega arith
@@ -52,7 +52,7 @@ module _ {S : Type 0} (R : Rules S) (laws : Laws R) (law : ClosesLaws) (dims : L
   fair : (l : ℕ) → l < links dims → All (HasFairTags dims (hop_at dims l)) (sent l)
   fair l below = let k = numbered dims l w.ranked.grid below in (w.relays (sender_at dims l) k.is_link.sender).fair l below refl
 
-  fair_in : (e l : ℕ) → l < links dims → All (λ (x : Entry). IsFair dims (hop_at dims l) x.tag) (entries_of (segment e (sent l)))
+  fair_in : (e l : ℕ) → l < links dims → All (λ (x : Entry). IsFair dims (hop_at dims l) x.tag) (parcel_entries (segment e (sent l)))
   fair_in e l below = all_flat (λ (x : Entry). IsFair dims (hop_at dims l) x.tag) (λ (p : Shipped). p.entries) (segment e (sent l)) (all_segment (HasFairTags dims (hop_at dims l)) e (sent l) (fair l below))
 
   -- a link ends at most two epochs a round
@@ -70,12 +70,12 @@ module _ {S : Type 0} (R : Rules S) (laws : Laws R) (law : ClosesLaws) (dims : L
       omega (arith, ap lasts own, few, low)
 
   -- the entries that were sent
-  sent_all : total (links dims) (λ l. length (entries_of (sent l))) ≤ length dims * items_before R (ranks dims) starts n
+  sent_all : total (links dims) (λ l. length (parcel_entries (sent l))) ≤ length dims * items_before R (ranks dims) starts n
   sent_all =
       let E : ℕ = suc (2 * n) in
-      let a = total_same (links dims) (λ l. length (entries_of (sent l))) (λ l. total E (λ e. length (entries_of (segment e (sent l))))) (λ l below. by_segments E (sent l) (let few = lasts_few l below in omega (arith, few))) in
-      let b = total_swap (links dims) E (λ l e. length (entries_of (segment e (sent l)))) in
-      let c = total_le E (λ e. total (links dims) (λ l. length (entries_of (segment e (sent l))))) (λ e. length dims * pushed_in dims sent e) (λ e low. all_links dims sent got keeps fair e (fair_in e)) in
+      let a = total_same (links dims) (λ l. length (parcel_entries (sent l))) (λ l. total E (λ e. length (parcel_entries (segment e (sent l))))) (λ l below. by_segments E (sent l) (let few = lasts_few l below in omega (arith, few))) in
+      let b = total_swap (links dims) E (λ l e. length (parcel_entries (segment e (sent l)))) in
+      let c = total_le E (λ e. total (links dims) (λ l. length (parcel_entries (segment e (sent l))))) (λ e. length dims * pushed_in dims sent e) (λ e low. all_links dims sent got keeps fair e (fair_in e)) in
       let d = total_times E (length dims) (pushed_in dims sent) in
       let p = pushed_all R laws law dims cap slots steady starts h rs sent got w shape most n start rounds in
       let q = none_past R laws law dims cap slots steady starts h rs sent got w shape most n start rounds in
@@ -86,16 +86,16 @@ module _ {S : Type 0} (R : Rules S) (laws : Laws R) (law : ClosesLaws) (dims : L
   -- all moves
   pub moves_few : moves dims rs sent got ≤ 3 * (length dims * items_before R (ranks dims) starts n) + links dims * (4 * n)
   moves_few =
-      let a = total_le (links dims) (move_of dims rs sent got) (λ l. 3 * length (entries_of (sent l)) + 4 * n) one in
-      let b = total_add (links dims) (λ l. 3 * length (entries_of (sent l))) (λ l. 4 * n) in
-      let c = total_times (links dims) 3 (λ l. length (entries_of (sent l))) in
+      let a = total_le (links dims) (move_of dims rs sent got) (λ l. 3 * length (parcel_entries (sent l)) + 4 * n) one in
+      let b = total_add (links dims) (λ l. 3 * length (parcel_entries (sent l))) (λ l. 4 * n) in
+      let c = total_times (links dims) 3 (λ l. length (parcel_entries (sent l))) in
       let d = total_const (links dims) (4 * n) in
       omega (arith, a, b, c, d, sent_all) where
-        one : (l : ℕ) → l < links dims → move_of dims rs sent got l ≤ 3 * length (entries_of (sent l)) + 4 * n
+        one : (l : ℕ) → l < links dims → move_of dims rs sent got l ≤ 3 * length (parcel_entries (sent l)) + 4 * n
         one l below =
-            let front : Begins (got l) (sent l) = (w.ranked.links_keep l below).begins in
+            let front : IsPrefix (got l) (sent l) = (w.ranked.links_keep l below).begins in
             let g = begins_shorter (got l) (sent l) front in
-            let e = begins_shorter (entries_of (got l)) (entries_of (sent l)) (begins_flat_map (λ (p : Shipped). p.entries) (got l) (sent l) front) in
+            let e = begins_shorter (parcel_entries (got l)) (parcel_entries (sent l)) (begins_flat_map (λ (p : Shipped). p.entries) (got l) (sent l) front) in
             let k = numbered dims l w.ranked.grid below in
             let x : (x : RankState S) × (slice_get rs (sender_at dims l) ≡ Some x) = find rs (sender_at dims l) (let from = k.is_link.sender in omega (arith, from, w.ranked.all)) in
             let s = log_short steady cap (sent l) w.some (subst (IsConveyorShape steady cap) (starting-own dims (sender_at dims l) sent l refl) ((w.ranked.each (sender_at dims l) x.0 x.1).shape l below refl)) in

@@ -1,7 +1,7 @@
 -- A rank on its way stays on it by a turn.
 use Rattle.std.proofs.Common.{◌≡◌, ℕ, ◌+◌, ◌<◌, ◌≤◌, Bool, true, false, cond, refl, sym, ap, subst, arith}
 use Rattle.std.proofs.lemmas.Bool.{true≢false}
-use Rattle.link_slots.specs.Seen.{Manning, named, posted_on, collected_from}
+use Rattle.link_slots.specs.SeatView.{Manning, table_name, posted_on, collected_from}
 use Rattle.link_slots.proofs.Ported.{one_bank}
 use Rattle.round_program.specs.Rules.{Rules}
 use Rattle.rank_node.specs.Movers.{Manner, epoch_in}
@@ -48,5 +48,5 @@ pub going_progress : {S : Type 0} (n : RankState S) → n.over ≡ false → pro
 going_progress n e = ap (λ b. cond b (epoch_in n.node.mover + 1) (epoch_in n.node.mover)) e
 
 -- seats of one bank, by what no turn changes
-pub one_place : {S : Type 0} (x : SeatedState S) (seat : Manning) → named seat.id ≡ named x.seat.id → seat.shape.dims ≡ x.seat.shape.dims → seat.shape.slots ≡ x.seat.shape.slots → bank_of (record x { seat = seat }) ≡ bank_of x
+pub one_place : {S : Type 0} (x : SeatedState S) (seat : Manning) → table_name seat.id ≡ table_name x.seat.id → seat.shape.dims ≡ x.seat.shape.dims → seat.shape.slots ≡ x.seat.shape.slots → bank_of (record x { seat = seat }) ≡ bank_of x
 one_place x seat e ed es = let i = one_bank seat.id x.seat.id e in λ k. record { id = i k; shape = record { dims = ed k; slots = es k } }

@@ -6,41 +6,41 @@ use Rattle.route_tensor.specs.Link.{links}
 use Rattle.route_tensor.specs.Ends.{sender_at}
 use Rattle.round_program.specs.Rules.{Rules}
 use Rattle.rank_node.specs.Sending.{is_voting}
-use Rattle.rank_node.specs.Movers.{Manner, IsShape, dims_of, rank_of, epoch_in, manner_in, HasCap, SameUnread}
+use Rattle.rank_node.specs.Movers.{Manner, IsLogShape, mover_dims, mover_rank, epoch_in, manner_in, HasCap, SameUnread}
 use Rattle.rank_node.specs.Nodes.{NodeState, IsNode}
-use Rattle.rank_node.specs.Next.{extended, HasStopped}
+use Rattle.rank_node.specs.Next.{with_next, HasStopped}
 use Rattle.rank_group.specs.Ranks.{RankState, IsRank}
 use Rattle.rank_node.proofs.Between.{extended_before}
 
 -- what a turn tells of a node
 pub record OneTurn {S : Type 0} (R : Rules S) (cap : ℕ) (n n' : NodeState S) (sent got sent' got' : Logs) : Type 0 where
-  pub dims : dims_of n'.mover ≡ dims_of n.mover
-  pub rank : rank_of n'.mover ≡ rank_of n.mover
+  pub dims : mover_dims n'.mover ≡ mover_dims n.mover
+  pub rank : mover_rank n'.mover ≡ mover_rank n.mover
   pub manner : manner_in n'.mover ≡ manner_in n.mover
   pub cap_is : HasCap cap n'.mover
-  pub shape : (l : ℕ) → l < links (dims_of n.mover) → sender_at (dims_of n.mover) l ≡ rank_of n.mover → IsShape (manner_in n.mover) cap (sent l) → IsShape (manner_in n.mover) cap (sent' l)
+  pub shape : (l : ℕ) → l < links (mover_dims n.mover) → sender_at (mover_dims n.mover) l ≡ mover_rank n.mover → IsLogShape (manner_in n.mover) cap (sent l) → IsLogShape (manner_in n.mover) cap (sent' l)
   pub kept : (h : ℕ → S) → IsNode R h n sent got → IsNode R h n' sent' got'
 
 -- what `next` tells
 pub record NextTold {S : Type 0} (R : Rules S) (cap : ℕ) (n n' : NodeState S) (more : Bool) : Type 0 where
-  pub self_dims : dims_of n'.mover ≡ dims_of n.mover
-  pub self_rank : rank_of n'.mover ≡ rank_of n.mover
+  pub self_dims : mover_dims n'.mover ≡ mover_dims n.mover
+  pub self_rank : mover_rank n'.mover ≡ mover_rank n.mover
   pub manner : manner_in n'.mover ≡ manner_in n.mover
   pub cap_is : HasCap cap n'.mover
   pub epoch : more ≡ true → epoch_in n'.mover ≡ epoch_in n.mover + 1
   pub unread : SameUnread n.mover n'.mover
   pub votes : is_voting n.run.sends ≡ false → (more ≡ true) × ((h : ℕ → S) (sent got : Logs) → IsNode R h n sent got → IsNode R h n' sent got)
-  pub work : is_voting n.run.sends ≡ true → more ≡ true → (h : ℕ → S) (sent got : Logs) → IsNode R h n sent got → IsNode R (extended h (n.run.round + 1) (R.ended n.run.prog n.run.sum)) n' sent got
+  pub work : is_voting n.run.sends ≡ true → more ≡ true → (h : ℕ → S) (sent got : Logs) → IsNode R h n sent got → IsNode R (with_next h (n.run.round + 1) (R.ended n.run.prog n.run.sum)) n' sent got
   pub stays : more ≡ false → n'.mover ≡ n.mover
   pub stopped : more ≡ false → (h : ℕ → S) (sent got : Logs) → IsNode R h n sent got → HasStopped R h n' sent got
 
 module _ {S : Type 0} (R : Rules S) (dims : List ℕ) (cap r : ℕ) (manner : Manner) (h : ℕ → S) (n : RankState S) (n1 : NodeState S) (sent got sent' got' : Logs)
     (is : IsRank R dims cap manner r h n sent got) (on : n.over ≡ false) (t : OneTurn R cap n.node n1 sent got sent' got') where
-  shaped : (l : ℕ) → l < links dims → sender_at dims l ≡ r → IsShape manner cap (sent' l)
+  shaped : (l : ℕ) → l < links dims → sender_at dims l ≡ r → IsLogShape manner cap (sent' l)
   shaped l below own =
-      let b : l < links (dims_of n.node.mover) = subst (λ (ds : List ℕ). l < links ds) (sym is.same_dims) below in
-      let o : sender_at (dims_of n.node.mover) l ≡ rank_of n.node.mover = ap (λ (ds : List ℕ). sender_at ds l) is.same_dims ∙ (own ∙ sym is.same_rank) in
-      subst (λ b. IsShape b cap (sent' l)) is.same_manner (t.shape l b o (subst (λ b. IsShape b cap (sent l)) (sym is.same_manner) (is.shape l below own)))
+      let b : l < links (mover_dims n.node.mover) = subst (λ (ds : List ℕ). l < links ds) (sym is.same_dims) below in
+      let o : sender_at (mover_dims n.node.mover) l ≡ mover_rank n.node.mover = ap (λ (ds : List ℕ). sender_at ds l) is.same_dims ∙ (own ∙ sym is.same_rank) in
+      subst (λ b. IsLogShape b cap (sent' l)) is.same_manner (t.shape l b o (subst (λ b. IsLogShape b cap (sent l)) (sym is.same_manner) (is.shape l below own)))
 
   -- a rank that stays in its epoch
   pub stays_in : (over : Bool) → over ≡ false → IsRank R dims cap manner r h (record { node = n1; over = over }) sent' got'
@@ -76,6 +76,6 @@ module _ {S : Type 0} (R : Rules S) (dims : List ℕ) (cap r : ℕ) (manner : Ma
     by : (b : Bool) → more ≡ b → (v : Bool) → is_voting n1.run.sends ≡ v → (g : ℕ → S) × (g 0 ≡ h 0) × IsRank R dims cap manner r g (record { node = n2; over = not more }) sent' got'
     by true m false v = (h, refl, has h (λ e. (x.votes v).1 h _ _ node1) (λ e. absurd (true≢false (sym e ∙ ap not m))))
     by true m true v =
-        let g : ℕ → S = extended h (n1.run.round + 1) (R.ended n1.run.prog n1.run.sum) in
+        let g : ℕ → S = with_next h (n1.run.round + 1) (R.ended n1.run.prog n1.run.sum) in
         (g, extended_before h (n1.run.round + 1) (R.ended n1.run.prog n1.run.sum) 0 (λ q. omega (arith, q)), has g (λ e. x.work v m h _ _ node1) (λ e. absurd (true≢false (sym e ∙ ap not m))))
     by false m v e = (h, refl, has h (λ q. absurd (true≢false (sym (ap not m) ∙ q))) (λ q. x.stopped m h _ _ node1))

@@ -10,17 +10,17 @@ use Rattle.route_tensor.specs.Grid.{ranks}
 use Rattle.route_tensor.specs.Link.{links}
 use Rattle.route_tensor.specs.Ends.{sender_at}
 use Rattle.port_bank.specs.Logs.{Logs}
-use Rattle.port_bank.specs.Plain.{Bank, IsBank, unused, channel_at, sent_of, got_of}
+use Rattle.port_bank.specs.Plain.{Bank, IsBank, unused_channel, channel_at, sent_of, got_of}
 use Rattle.round_program.specs.Rules.{Rules}
 use Rattle.round_program.specs.Laws.{Laws}
 use Rattle.rank_node.specs.Movers.{MoverState, Manner, epoch_in, manner_in}
 use Rattle.rank_node.specs.Movers.MoverState.{Conveying, Stacking}
 use Rattle.rank_node.specs.Movers.Manner.{ByConveyor, ByExstack}
-use Rattle.port_bank.specs.Flow.{Begins}
+use Rattle.port_bank.specs.Flow.{IsPrefix}
 use Rattle.rank_group.specs.Closes.{ClosesLaws}
-use Rattle.rank_group.specs.Halves.{most_rounds, MoverMade, next_cycle}
+use Rattle.rank_group.specs.RoundProgress.{most_rounds, MoverMade, next_cycle}
 use Rattle.rank_group.specs.Ranks.{RankState, AfterRank, IsOrder, progress}
-use Rattle.rank_group.specs.Worlds.{World, inbox, moves, Lawful, RestsBy, Plan, SweptTo, AllMade, progress_in, all_progress}
+use Rattle.rank_group.specs.RanksOverBank.{World, inbox, moves, Lawful, RestsBy, DrivePlan, SweptTo, AllMade, progress_in, all_progress}
 use Rattle.rank_group.proofs.Growing.{moves_on, got_more}
 use Rattle.rank_group.proofs.Swept.{grows, world_on, cycle_here, cycle_other, rests_here, rests_on}
 use Rattle.rank_group.proofs.Made.{all_made, made_here}
@@ -31,7 +31,7 @@ lawful cap b dims slots is ed es =
     (subst (λ k. Lawful b.dims cap k (sent_of b) (got_of b)) es
     (record {
       links_keep = is.each_link;
-      none_past = λ l past. let e : channel_at b l ≡ unused = get_or_past b.channels l unused (omega (arith, past, is.number)) in (ap (λ c. c.sent) e, ap (λ c. c.got) e);
+      none_past = λ l past. let e : channel_at b l ≡ unused_channel = get_or_past b.channels l unused_channel (omega (arith, past, is.number)) in (ap (λ c. c.sent) e, ap (λ c. c.got) e);
       relays = is.each_rank;
     }))
 
@@ -49,9 +49,9 @@ swept_none R dims cap slots manner starts order h rs sent got w =
 
 -- what a turn makes of a round, whatever carries the items
 made_more : {S : Type 0} (R : Rules S) → Laws R → ClosesLaws → (rounds : ℕ) (dims : List ℕ) (cap slots : ℕ) (manner : Manner) (starts : List S) (h g : ℕ → ℕ → S) (r : ℕ) (n n' : RankState S) (rs rs' : List (RankState S)) (sent got sent' got' : Logs)
-    → (w : World R dims cap slots manner starts h rs sent got) (v : World R dims cap slots manner starts g rs' sent' got') → Plan R dims slots starts rounds
+    → (w : World R dims cap slots manner starts h rs sent got) (v : World R dims cap slots manner starts g rs' sent' got') → DrivePlan R dims slots starts rounds
     → slice_get rs r ≡ Some n → slice_get rs' r ≡ Some n' → ((k : ℕ) → k ≢ r → slice_get rs' k ≡ slice_get rs k) → AfterRank R dims cap slots r n n' sent got sent' got'
-    → ((l : ℕ) → Begins (got l) (got' l)) → v.cycle r ≡ next_cycle (w.cycle r) n n' → ((k : ℕ) → k ≢ r → v.cycle k ≡ w.cycle k)
+    → ((l : ℕ) → IsPrefix (got l) (got' l)) → v.cycle r ≡ next_cycle (w.cycle r) n n' → ((k : ℕ) → k ≢ r → v.cycle k ≡ w.cycle k)
     → (j : ℕ) → AllMade (most_rounds R (ranks dims) starts) j w.cycle rs
     → AllMade (most_rounds R (ranks dims) starts) j v.cycle rs' × ((n'.over ≡ true) ⊎ MoverMade (most_rounds R (ranks dims) starts) (j + 1) n'.over (v.cycle r) n'.node.mover)
 made_more R laws closes rounds dims cap slots ByExstack starts h g r n n' rs rs' sent got sent' got' w v plan at at' others t grows here elsewhere j all = (
@@ -65,7 +65,7 @@ made_more {S} R laws closes rounds dims cap slots (ByConveyor steady) starts h g
       none j o c (Stacking k y) e = absurd (cc)
 
 pub swept_more : {S : Type 0} (R : Rules S) → Laws R → ClosesLaws → (rounds : ℕ) (dims : List ℕ) (cap slots : ℕ) (manner : Manner) (starts : List S) (order : List ℕ) (i r : ℕ) (cycle0 : ℕ → ℕ) (rs0 rs rs' : List (RankState S)) (sent0 got0 sent got sent' got' : Logs)
-    → Plan R dims slots starts rounds → slice_get order i ≡ Some r → r < ranks dims → length rs' ≡ length rs → ((k : ℕ) → k ≢ r → slice_get rs' k ≡ slice_get rs k) → Lawful dims cap slots sent' got'
+    → DrivePlan R dims slots starts rounds → slice_get order i ≡ Some r → r < ranks dims → length rs' ≡ length rs → ((k : ℕ) → k ≢ r → slice_get rs' k ≡ slice_get rs k) → Lawful dims cap slots sent' got'
     → ((n n' : RankState S) → slice_get rs r ≡ Some n → slice_get rs' r ≡ Some n' → AfterRank R dims cap slots r n n' sent got sent' got')
     → SweptTo R dims cap slots manner starts order i cycle0 rs0 sent0 got0 rs sent got → SweptTo R dims cap slots manner starts order (i + 1) cycle0 rs0 sent0 got0 rs' sent' got'
 swept_more {S} R laws closes rounds dims cap slots manner starts order i r cycle0 rs0 rs rs' sent0 got0 sent got sent' got' plan here low size others law turned v =
@@ -139,7 +139,7 @@ pub record Sweeping {S : Type 0} (R : Rules S) (cap : ℕ) (order : List ℕ) (r
   pub fewest : steps0 ≤ steps
   pub posted : (l : ℕ) → l < links b0.dims → length (sent_of b l) + steps0 ≤ length (sent_of b0 l) + steps
   pub completed : all_progress b0.dims rs + steps0 ≤ all_progress b0.dims rs0 + steps
-  pub swept : (manner : Manner) (starts : List S) (n : ℕ) (h : ℕ → ℕ → S) → Plan R b0.dims b0.slots starts n → (w : World R b0.dims cap b0.slots manner starts h rs0 (sent_of b0) (got_of b0))
+  pub swept : (manner : Manner) (starts : List S) (n : ℕ) (h : ℕ → ℕ → S) → DrivePlan R b0.dims b0.slots starts n → (w : World R b0.dims cap b0.slots manner starts h rs0 (sent_of b0) (got_of b0))
       → SweptTo R b0.dims cap b0.slots manner starts order i w.cycle rs0 (sent_of b0) (got_of b0) rs (sent_of b) (got_of b)
 
 turns_more : {S : Type 0} (order : List ℕ) (rs0 rs rs' : List (RankState S)) (i r steps0 steps steps' : ℕ) (n n' : RankState S) → slice_get order i ≡ Some r → slice_get rs r ≡ Some n → slice_get rs' r ≡ Some n' → ((k : ℕ) → k ≢ r → slice_get rs' k ≡ slice_get rs k)
@@ -265,15 +265,15 @@ sweeping_more R laws closes cap order rs0 b0 steps0 i r rs rs' b b' steps steps'
 
 -- all ranks in the midst of a sweep
 pub world_at : {S : Type 0} (R : Rules S) (cap : ℕ) (order : List ℕ) (rs0 : List (RankState S)) (b0 : Bank) (steps0 i : ℕ) (rs : List (RankState S)) (b : Bank) (steps : ℕ) → Sweeping R cap order rs0 b0 steps0 i rs b steps
-    → (manner : Manner) (starts : List S) (n : ℕ) (h : ℕ → ℕ → S) → Plan R b0.dims b0.slots starts n → World R b0.dims cap b0.slots manner starts h rs0 (sent_of b0) (got_of b0)
-    → (manner : Manner) × (starts : List S) × (n : ℕ) × (h : ℕ → ℕ → S) × Plan R b.dims b.slots starts n × World R b.dims cap b.slots manner starts h rs (sent_of b) (got_of b)
+    → (manner : Manner) (starts : List S) (n : ℕ) (h : ℕ → ℕ → S) → DrivePlan R b0.dims b0.slots starts n → World R b0.dims cap b0.slots manner starts h rs0 (sent_of b0) (got_of b0)
+    → (manner : Manner) × (starts : List S) × (n : ℕ) × (h : ℕ → ℕ → S) × DrivePlan R b.dims b.slots starts n × World R b.dims cap b.slots manner starts h rs (sent_of b) (got_of b)
 world_at R cap order rs0 b0 steps0 i rs b steps v manner starts n h p w =
     let s = v.swept manner starts n h p w in (
       manner,
       starts,
       n,
       s.h,
-      subst (λ d. Plan R d b.slots starts n) (sym v.same_dims) (subst (λ k. Plan R b0.dims k starts n) (sym v.same_slots) p),
+      subst (λ d. DrivePlan R d b.slots starts n) (sym v.same_dims) (subst (λ k. DrivePlan R b0.dims k starts n) (sym v.same_slots) p),
       subst (λ d. World R d cap b.slots manner starts s.h rs (sent_of b) (got_of b)) (sym v.same_dims) (subst (λ k. World R b0.dims cap k manner starts s.h rs (sent_of b) (got_of b)) (sym v.same_slots) s.world),
     )
 

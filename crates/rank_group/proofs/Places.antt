@@ -10,7 +10,7 @@ use Rattle.route_tensor.specs.Grid.{ranks}
 use Rattle.route_tensor.specs.Link.{links}
 use Rattle.port_bank.specs.Logs.{Logs}
 use Rattle.link_slots.specs.Gathering.{Gathering}
-use Rattle.link_slots.specs.Seen.{Identity, Manning, posted_on, collected_from}
+use Rattle.link_slots.specs.SeatView.{Identity, Manning, posted_on, collected_from}
 use Rattle.link_slots.specs.Shape.{shipped_all}
 use Rattle.link_slots.specs.View.{no_logs}
 use Rattle.link_slots.proofs.Opening.{no_sent, no_got}
@@ -18,7 +18,7 @@ use Rattle.round_program.specs.Rules.{Rules}
 use Rattle.rank_group.specs.Ranks.{RankState, IsRank}
 use Rattle.rank_node.specs.Movers.{Manner, epoch_in}
 use Rattle.rank_group.proofs.Movers.{shape_none}
-use Rattle.rank_group.specs.Drives.{IsFresh, AreFresh}
+use Rattle.rank_group.specs.Drives.{IsFreshRank, AreFresh}
 use Rattle.rank_group.specs.Seats.{SeatedState, IsSeated, bank_of}
 use Rattle.rank_crews.proofs.Joining.{one_less, next_is}
 
@@ -53,7 +53,7 @@ module _ {S : Type 0} (R : Rules S) (cap : ℕ) (b : Identity) (gather : Gatheri
 
     pub seated : (manner : Manner) (starts : List S) → AreFresh R b.shape.dims cap manner starts all → IsSeated R cap manner b (length taken) x
     seated manner starts fresh =
-        let f : IsFresh R b.shape.dims cap manner (length taken) rank = fresh.each (length taken) rank (next_is taken rest all now rank s.left is) in
+        let f : IsFreshRank R b.shape.dims cap manner (length taken) rank = fresh.each (length taken) rank (next_is taken rest all now rank s.left is) in
         let h : ℕ → S = λ m. rank.node.run.prog in
         let own : IsRank R b.shape.dims cap manner (length taken) h rank (λ l. []) (λ l. []) = record {
           same_dims = f.same_dims;

@@ -8,7 +8,7 @@ use Rattle.round_program.specs.Rules.{Rules}
 use Rattle.round_program.specs.Canonical.{items_at}
 use Rattle.rank_node.specs.Movers.{Manner}
 use Rattle.rank_node.specs.Movers.Manner.{ByConveyor}
-use Rattle.rank_group.specs.Told.{turns_within}
+use Rattle.rank_group.specs.Transcript.{turns_within}
 use Rattle.rank_group.specs.Ranks.{RankState, progress}
 use Rattle.rank_group.proofs.Pushed.{items_before}
 

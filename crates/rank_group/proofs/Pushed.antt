@@ -12,14 +12,14 @@ use Rattle.convey.specs.Buffers.{buffers_of}
 use Rattle.convey.specs.Parts.{part_of, pushed_to}
 use Rattle.convey.proofs.OneRank.{starting-own, first_link}
 use Rattle.round_program.specs.Rules.{Rules}
-use Rattle.round_program.specs.Canonical.{items_of, emitted, items_at}
+use Rattle.round_program.specs.Canonical.{items_of, emissions_to, items_at}
 use Rattle.round_program.proofs.Items.{items_push}
 use Rattle.rank_node.specs.declared.sends.Sends.{Sends}
 use Rattle.rank_node.specs.declared.sends.Sends.TheVariants.{Emissions, Nothing, Votes}
 use Rattle.rank_node.specs.Sending.{votes_to}
 use Rattle.rank_node.specs.Runs.{HasTaken}
 use Rattle.rank_node.proofs.Ballots.{votes_each}
-use Rattle.rank_node.specs.Movers.{MoverState, dims_of, rank_of, manner_in, part_in}
+use Rattle.rank_node.specs.Movers.{MoverState, mover_dims, mover_rank, manner_in, part_in}
 use Rattle.rank_node.specs.Movers.MoverState.{Conveying, Stacking}
 use Rattle.rank_node.specs.Movers.Manner.{ByConveyor}
 use Rattle.rank_group.proofs.Counted.{flow_alike}
@@ -39,7 +39,7 @@ pub work_few : {S : Type 0} (R : Rules S) (p rank : ℕ) (h : ℕ → S) (round 
     → (m d : ℕ) → d < p → 2 * m ≤ part.epoch → length (part.pushed (2 * m) d) ≤ length (items_of d (R.emissions (h m)))
 work_few R p rank h round sends next prog sum spoiled part is m d to low =
     elim (cases_lt (2 * m) part.epoch) [
-      | inl before ↦ begins_shorter (part.pushed (2 * m) d) (emitted R (h m) d) (is.passed.emitted_front m d to before)
+      | inl before ↦ begins_shorter (part.pushed (2 * m) d) (emissions_to R (h m) d) (is.passed.emitted_front m d to before)
       | inr here ↦
           let e : part.epoch ≡ 2 * m = omega (arith, here, low) in
           subst (λ k. length (part.pushed k d) ≤ length (items_of d (R.emissions (h m)))) e (now sends e is)
@@ -89,7 +89,7 @@ flow_pushed dims c sent got s d e g ds rs from to =
       more xs ys = omega (arith, length-append xs ys)
 
 -- the same of a mover
-pub mover_pushed : (dims : List ℕ) (m : MoverState) (steady : Bool) (sent got : Logs) (s d e : ℕ) → IsGrid dims → manner_in m ≡ ByConveyor steady → dims_of m ≡ dims → rank_of m ≡ s → s < ranks dims → d < ranks dims
+pub mover_pushed : (dims : List ℕ) (m : MoverState) (steady : Bool) (sent got : Logs) (s d e : ℕ) → IsGrid dims → manner_in m ≡ ByConveyor steady → mover_dims m ≡ dims → mover_rank m ≡ s → s < ranks dims → d < ranks dims
     → length (flow dims sent s d 1 e) ≤ length ((part_in m (starting_at dims s sent) (ending_at dims s got)).pushed e d)
 mover_pushed dims (Stacking cap x) steady sent got s d e g k ds rs from to = absurd (cc)
 mover_pushed dims (Conveying c) steady sent got s d e g k ds rs from to = flow_pushed dims c sent got s d e g ds rs from to

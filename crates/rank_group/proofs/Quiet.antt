@@ -13,7 +13,7 @@ use Rattle.convey.specs.Conveyors.{AgreesWith}
 use Rattle.convey.specs.Due.{IsOver}
 use Rattle.convey.specs.Rest.{IsAtRest, IsRestingSweep, RestLaw}
 use Rattle.round_program.specs.Rules.{Rules}
-use Rattle.rank_node.specs.Movers.{MoverState, dims_of, rank_of, epoch_in, manner_in, has_completed, lying, IsMoving, IsConveying}
+use Rattle.rank_node.specs.Movers.{MoverState, mover_dims, mover_rank, epoch_in, manner_in, has_completed, lying, IsMoving, IsConveying}
 use Rattle.rank_node.specs.Movers.MoverState.{Conveying, Stacking}
 use Rattle.rank_node.specs.Movers.Manner.{ByConveyor}
 use Rattle.rank_node.specs.Runs.{Running}
@@ -22,7 +22,7 @@ use Rattle.rank_node.specs.Moves.{Waits}
 use Rattle.rank_node.specs.Stuck.{IsStuck}
 use Rattle.rank_node.proofs.Onward.{complete_is}
 use Rattle.rank_group.specs.Ranks.{crowded_in, idle_in}
-use Rattle.rank_group.specs.Worlds.{nowhere}
+use Rattle.rank_group.specs.RanksOverBank.{no_conveyor}
 use Rattle.rank_group.specs.Rest.{Conveys, MovesNothing, IsQuietSweep, NodesRestLaw}
 use Rattle.rank_group.proofs.Still as still
 use Rattle.rank_group.proofs.Resting.{ByItsConveyor, by_conveyor, complete_rests}
@@ -38,7 +38,7 @@ record WasStuck (dims : List ℕ) (slots r : ℕ) (m m' : MoverState) (sent got 
   stuck : IsStuck c c' (starting_at dims r sent) (ending_at dims r got) (starting_at dims r sent) (ending_at dims r got) (crowded_in dims slots r sent got) (idle_in dims r sent got)
 
 was_stuck : {S : Type 0} (R : Rules S) (dims : List ℕ) (slots r : ℕ) (steady : Bool) (h : ℕ → S) (run : Running S) (m m' : MoverState) (sent got : Logs)
-    → dims_of m ≡ dims → rank_of m ≡ r → manner_in m ≡ ByConveyor steady → IsNode R h (record { run = run; mover = m }) (starting_at dims r sent) (ending_at dims r got)
+    → mover_dims m ≡ dims → mover_rank m ≡ r → manner_in m ≡ ByConveyor steady → IsNode R h (record { run = run; mover = m }) (starting_at dims r sent) (ending_at dims r got)
     → Waits R run m m' (starting_at dims r sent) (ending_at dims r got) (starting_at dims r sent) (ending_at dims r got) (crowded_in dims slots r sent got) (idle_in dims r sent got)
     → WasStuck dims slots r m m' sent got
 was_stuck R dims slots r steady h run (Conveying c) (Conveying c') sent got d q k is w = record { c = c; is = refl; c' = c'; is' = refl; same_dims = d; same_rank = q; stuck = w h is (λ l. refl) (λ l. refl) }
@@ -117,7 +117,7 @@ module _ {S : Type 0} (R : Rules S) (rest : RestLaw) (dims : List ℕ) (cap slot
   all_two : (r : ℕ) → (a : State) × (b : State) × (r < ranks dims → Two r a b)
   all_two r = elim (cases_lt r (ranks dims)) [
     | inl low ↦ let t = two r low in (t.0, t.1, λ _. t.2)
-    | inr past ↦ (nowhere, nowhere, λ low. absurd (omega (arith, low, past)))
+    | inr past ↦ (no_conveyor, no_conveyor, λ low. absurd (omega (arith, low, past)))
   ]
 
   sweep : IsRestingSweep dims cap slots e (λ r. (all_two r).0) (λ r. (all_two r).1) sent got

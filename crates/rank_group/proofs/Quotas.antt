@@ -17,13 +17,13 @@ use Rattle.rank_node.specs.Sending.{to_send, is_voting, epoch_of, votes_to}
 use Rattle.rank_node.specs.Movers.{Manner, epoch_in}
 use Rattle.rank_node.specs.Movers.Manner.{ByExstack}
 use Rattle.rank_node.specs.Nodes.{IsNode}
-use Rattle.rank_node.specs.Next.{extended}
+use Rattle.rank_node.specs.Next.{with_next}
 use Rattle.rank_node.proofs.Onward.{epoch_is}
 use Rattle.rank_group.specs.Closes.{ClosesLaws}
-use Rattle.rank_group.specs.Told.{turns_within}
+use Rattle.rank_group.specs.Transcript.{turns_within}
 use Rattle.rank_group.specs.Ranks.{RankState, AllRanks}
-use Rattle.rank_group.specs.Worlds.{progress_in, history_in}
-use Rattle.rank_group.specs.Halves.{emission_count, quota_from, quota_of, most_rounds}
+use Rattle.rank_group.specs.RanksOverBank.{progress_in, history_in}
+use Rattle.rank_group.specs.RoundProgress.{emission_count, quota_from, quota_of, most_rounds}
 use Rattle.rank_group.proofs.Worlds.{canonical}
 
 -- in an epoch of work
@@ -101,7 +101,7 @@ module _ {S : Type 0} (R : Rules S) (laws : Laws R) (law : ClosesLaws) (dims : L
         let same : length (R.emissions x.node.run.prog) ≡ length (R.emissions (h r m)) = ap length (i.within.emissions is) in
         omega (arith, q, same) where
           history_on : history_in (h r) (Some x) x.node.run.round ≡ h r x.node.run.round
-          history_on = ap (λ b. cond b (extended (h r) (x.node.run.round + 1) x.node.run.prog) (h r) x.node.run.round) on
+          history_on = ap (λ b. cond b (with_next (h r) (x.node.run.round + 1) x.node.run.prog) (h r) x.node.run.round) on
     by (Votes v q) is =
         let m : ℕ = x.node.run.round in
         let e : epoch_in x.node.mover ≡ 2 * m + 1 = epoch_is x.node.mover _ _ i ∙ ap (λ s. epoch_of m (is_voting s)) is in

@@ -7,13 +7,13 @@ use Rattle.item_buffer.specs.Contents.{Shipped}
 use Rattle.route_tensor.specs.Link.{links}
 use Rattle.route_tensor.specs.Ends.{sender_at, reader_at}
 use Rattle.port_bank.specs.Logs.{Logs, starting_at, ending_at}
-use Rattle.port_bank.specs.Flow.{Begins}
+use Rattle.port_bank.specs.Flow.{IsPrefix}
 use Rattle.port_bank.specs.Port.{Others}
 use Rattle.port_bank.specs.Plain.{Bank, sent_of, got_of, others_of, crowded_of, idle_of}
 use Rattle.round_program.specs.Rules.{Rules}
 use Rattle.rank_node.specs.declared.turn.Turn.{Turn}
 use Rattle.rank_node.specs.declared.turn.Turn.TheVariants.{Going, Ended}
-use Rattle.rank_node.specs.Movers.{MoverState, Manner, IsShape, dims_of, rank_of, epoch_in, manner_in, has_completed, HasCap, lying, SameUnread}
+use Rattle.rank_node.specs.Movers.{MoverState, Manner, IsLogShape, mover_dims, mover_rank, epoch_in, manner_in, has_completed, HasCap, lying, SameUnread}
 use Rattle.rank_node.specs.Movers.MoverState.{Conveying, Stacking}
 use Rattle.rank_node.specs.Runs.{Running}
 use Rattle.rank_node.specs.Nodes.{NodeState, IsNode}
@@ -29,15 +29,15 @@ pub record PortTurn {S : Type 0} (R : Rules S) (cap : ℕ) (turn : Turn) (n n' :
   pub dims : b'.dims ≡ b.dims
   pub slots : b'.slots ≡ b.slots
   pub rest : others_of r' b' ≡ others_of r b
-  pub node_dims : dims_of n'.mover ≡ dims_of n.mover
-  pub node_rank : rank_of n'.mover ≡ rank_of n.mover
+  pub node_dims : mover_dims n'.mover ≡ mover_dims n.mover
+  pub node_rank : mover_rank n'.mover ≡ mover_rank n.mover
   pub node_manner : manner_in n'.mover ≡ manner_in n.mover
   pub node_cap : HasCap cap n'.mover
   pub node_epoch : epoch_in n'.mover ≡ epoch_in n.mover
-  pub sent_grows : (l : ℕ) → Begins (starting_at b.dims r (sent_of b) l) (starting_at b'.dims r' (sent_of b') l)
-  pub got_grows : (l : ℕ) → Begins (ending_at b.dims r (got_of b) l) (ending_at b'.dims r' (got_of b') l)
-  pub one_sent : (l : ℕ) → l < links (dims_of n.mover) → sender_at (dims_of n.mover) l ≡ rank_of n.mover → length (starting_at b'.dims r' (sent_of b') l) ≤ length (starting_at b.dims r (sent_of b) l) + 1
-  pub shape : (l : ℕ) → l < links (dims_of n.mover) → sender_at (dims_of n.mover) l ≡ rank_of n.mover → IsShape (manner_in n.mover) cap (starting_at b.dims r (sent_of b) l) → IsShape (manner_in n.mover) cap (starting_at b'.dims r' (sent_of b') l)
+  pub sent_grows : (l : ℕ) → IsPrefix (starting_at b.dims r (sent_of b) l) (starting_at b'.dims r' (sent_of b') l)
+  pub got_grows : (l : ℕ) → IsPrefix (ending_at b.dims r (got_of b) l) (ending_at b'.dims r' (got_of b') l)
+  pub one_sent : (l : ℕ) → l < links (mover_dims n.mover) → sender_at (mover_dims n.mover) l ≡ mover_rank n.mover → length (starting_at b'.dims r' (sent_of b') l) ≤ length (starting_at b.dims r (sent_of b) l) + 1
+  pub shape : (l : ℕ) → l < links (mover_dims n.mover) → sender_at (mover_dims n.mover) l ≡ mover_rank n.mover → IsLogShape (manner_in n.mover) cap (starting_at b.dims r (sent_of b) l) → IsLogShape (manner_in n.mover) cap (starting_at b'.dims r' (sent_of b') l)
   pub leaves : Leaves R cap n.run n'.run n.mover n'.mover (ending_at b.dims r (got_of b)) (ending_at b'.dims r' (got_of b'))
   pub kept : (h : ℕ → S) → IsNode R h n (starting_at b.dims r (sent_of b)) (ending_at b.dims r (got_of b)) → IsNode R h n' (starting_at b'.dims r' (sent_of b')) (ending_at b'.dims r' (got_of b'))
   pub ended : turn ≡ Ended → has_completed n'.mover ≡ true
@@ -50,7 +50,7 @@ pub record PortTurn {S : Type 0} (R : Rules S) (cap : ℕ) (turn : Turn) (n n' :
 
 -- an inbox holds at most what it held and what came
 lies_by : {S : Type 0} (R : Rules S) (cap : ℕ) (run run' : Running S) (m m' : MoverState) (got got' : Logs) → Leaves R cap run run' m m' got got'
-    → (l : ℕ) (more : List Shipped) → l < links (dims_of m) → reader_at (dims_of m) l ≡ rank_of m → got' l ≡ got l ++ more → lying m' l ≤ lying m l + length (flat_map (λ p. p.entries) more)
+    → (l : ℕ) (more : List Shipped) → l < links (mover_dims m) → reader_at (mover_dims m) l ≡ mover_rank m → got' l ≡ got l ++ more → lying m' l ≤ lying m l + length (flat_map (λ p. p.entries) more)
 lies_by R cap run run' (Conveying c) (Conveying c') got got' x = x.lies
 lies_by R cap run run' (Conveying c) (Stacking k y) got got' x = absurd x
 lies_by R cap run run' (Stacking k y) (Conveying c) got got' x = absurd x
@@ -71,7 +71,7 @@ same_lying (Conveying c) (Stacking k y) l same = absurd same
 same_lying (Stacking k y) (Conveying c) l same = absurd same
 same_lying (Stacking k y) (Stacking k' y') l same = refl
 
-pub after_turn : {S : Type 0} (R : Rules S) (cap r : ℕ) (turn : Turn) (n n' : NodeState S) (b b' : Bank) (q q' : ℕ) → q ≡ r → q' ≡ q → dims_of n.mover ≡ b.dims → rank_of n.mover ≡ r → PortTurn R cap turn n n' b q b' q'
+pub after_turn : {S : Type 0} (R : Rules S) (cap r : ℕ) (turn : Turn) (n n' : NodeState S) (b b' : Bank) (q q' : ℕ) → q ≡ r → q' ≡ q → mover_dims n.mover ≡ b.dims → mover_rank n.mover ≡ r → PortTurn R cap turn n n' b q b' q'
     → AfterTurn R b.dims cap b.slots r turn n n' (sent_of b) (got_of b) (sent_of b') (got_of b')
 after_turn R cap r turn n n' b b' q q' own same nd nr told =
     let b'' : Bank = record { dims = b.dims; slots = b.slots; channels = b'.channels } in
@@ -88,9 +88,9 @@ after_turn R cap r turn n n' b b' q q' own same nd nr told =
       node_epoch = t.node_epoch;
       sent_grows = t.sent_grows;
       got_grows = t.got_grows;
-      one_sent = λ l below own. t.one_sent l (subst (λ (d : List ℕ). l < links d) (sym nd) below) (subst (λ (d : List ℕ). sender_at d l ≡ rank_of n.mover) (sym nd) (own ∙ sym nr));
-      shape = λ l below own. t.shape l (subst (λ (d : List ℕ). l < links d) (sym nd) below) (subst (λ (d : List ℕ). sender_at d l ≡ rank_of n.mover) (sym nd) (own ∙ sym nr));
-      lies = λ l more below to. lies_by R cap n.run n'.run n.mover n'.mover _ _ t.leaves l more (subst (λ (d : List ℕ). l < links d) (sym nd) below) (subst (λ (d : List ℕ). reader_at d l ≡ rank_of n.mover) (sym nd) (to ∙ sym nr));
+      one_sent = λ l below own. t.one_sent l (subst (λ (d : List ℕ). l < links d) (sym nd) below) (subst (λ (d : List ℕ). sender_at d l ≡ mover_rank n.mover) (sym nd) (own ∙ sym nr));
+      shape = λ l below own. t.shape l (subst (λ (d : List ℕ). l < links d) (sym nd) below) (subst (λ (d : List ℕ). sender_at d l ≡ mover_rank n.mover) (sym nd) (own ∙ sym nr));
+      lies = λ l more below to. lies_by R cap n.run n'.run n.mover n'.mover _ _ t.leaves l more (subst (λ (d : List ℕ). l < links d) (sym nd) below) (subst (λ (d : List ℕ). reader_at d l ≡ mover_rank n.mover) (sym nd) (to ∙ sym nr));
       kept = t.kept;
       ended = t.ended;
       going = t.going;
@@ -119,7 +119,7 @@ module _ {S : Type 0} (R : Rules S) (dims : List ℕ) (cap slots r : ℕ) where
       }
 
   -- a turn is one over the rank's own logs
-  own_turn : (turn : Turn) (n n' : NodeState S) (sent got sent' got' : Logs) → dims_of n.mover ≡ dims → rank_of n.mover ≡ r → AfterTurn R dims cap slots r turn n n' sent got sent' got' → OneTurn R cap n n' (starting_at dims r sent) (ending_at dims r got) (starting_at dims r sent') (ending_at dims r got')
+  own_turn : (turn : Turn) (n n' : NodeState S) (sent got sent' got' : Logs) → mover_dims n.mover ≡ dims → mover_rank n.mover ≡ r → AfterTurn R dims cap slots r turn n n' sent got sent' got' → OneTurn R cap n n' (starting_at dims r sent) (ending_at dims r got) (starting_at dims r sent') (ending_at dims r got')
   own_turn turn n n' sent got sent' got' nd nr t =
       record {
         dims = t.node_dims;

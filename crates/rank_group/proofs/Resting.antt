@@ -18,14 +18,14 @@ use Rattle.convey.specs.Rest.{IsAtRest, IsRestingSweep, RestLaw}
 use Rattle.round_program.specs.Rules.{Rules}
 use Rattle.round_program.specs.Laws.{Laws}
 use Rattle.round_program.specs.Canonical.{HasRounds, InRound}
-use Rattle.rank_node.specs.Movers.{MoverState, Manner, dims_of, rank_of, epoch_in, manner_in, has_completed, IsConveying, IsMoving}
+use Rattle.rank_node.specs.Movers.{MoverState, Manner, mover_dims, mover_rank, epoch_in, manner_in, has_completed, IsConveying, IsMoving}
 use Rattle.rank_node.specs.Movers.MoverState.{Conveying, Stacking}
 use Rattle.rank_node.specs.Movers.Manner.{ByConveyor}
 use Rattle.rank_group.specs.Ranks.{RankState, progress}
 use Rattle.rank_node.proofs.Onward.{done_of_completed, complete_is}
 use Rattle.rank_group.proofs.Still as still
 use Rattle.rank_group.proofs.Worlds.{Core, core, still_within, over_at_last}
-use Rattle.rank_group.specs.Worlds.{nowhere, World, Rests, RestsBy, Plan}
+use Rattle.rank_group.specs.RanksOverBank.{no_conveyor, World, Rests, RestsBy, DrivePlan}
 
 -- a rank that its turn left in its epoch is at rest
 pub at_rest : (dims : List ℕ) (slots r : ℕ) (c' : State) (sent got : Logs) → 0 < slots → (x : Rests dims slots r c' sent got) → IsAtRest dims r x.left.stuck.still.before x.left.stuck.still.after sent got
@@ -76,7 +76,7 @@ pub record ByItsConveyor (dims : List ℕ) (r : ℕ) (m : MoverState) (sent got 
   pub same_rank : c.rank ≡ r
   pub moving : IsConveying c (starting_at dims r sent) (ending_at dims r got)
 
-pub by_conveyor : (dims : List ℕ) (r : ℕ) (steady : Bool) (m : MoverState) (sent got : Logs) → manner_in m ≡ ByConveyor steady → dims_of m ≡ dims → rank_of m ≡ r → IsMoving m (starting_at dims r sent) (ending_at dims r got)
+pub by_conveyor : (dims : List ℕ) (r : ℕ) (steady : Bool) (m : MoverState) (sent got : Logs) → manner_in m ≡ ByConveyor steady → mover_dims m ≡ dims → mover_rank m ≡ r → IsMoving m (starting_at dims r sent) (ending_at dims r got)
     → ByItsConveyor dims r m sent got
 by_conveyor dims r steady (Conveying c) sent got k same_dims same_rank is = record { c = c; is = refl; same_dims = same_dims; same_rank = same_rank; moving = is }
 by_conveyor dims r steady (Stacking cap x) sent got k same_dims same_rank is = absurd (cc)
@@ -158,7 +158,7 @@ module _ {S : Type 0} (R : Rules S) (laws : Laws R) (law : ClosesLaws) (rest : R
   all_two : (r : ℕ) → (old : State) × (new : State) × (r < ranks dims → Two r old new)
   all_two r = elim (cases_lt r (ranks dims)) [
     | inl low ↦ let t = two r low in (t.0, t.1, λ _. t.2)
-    | inr past ↦ (nowhere, nowhere, λ low. absurd (omega (arith, low, past)))
+    | inr past ↦ (no_conveyor, no_conveyor, λ low. absurd (omega (arith, low, past)))
   ]
 
   sweep : IsRestingSweep dims cap slots e (λ r. (all_two r).0) (λ r. (all_two r).1) sent got
@@ -194,7 +194,7 @@ module _ {S : Type 0} (R : Rules S) (laws : Laws R) (law : ClosesLaws) (rest : R
 
 -- the epochs of a run are few
 pub epoch_few : {S : Type 0} (R : Rules S) → Laws R → ClosesLaws → (dims : List ℕ) (cap slots : ℕ) (manner : Manner) (starts : List S) (h : ℕ → ℕ → S) (rs : List (RankState S)) (sent got : Logs) → World R dims cap slots manner starts h rs sent got
-    → (n : ℕ) → Plan R dims slots starts n → (r : ℕ) (x : RankState S) → slice_get rs r ≡ Some x → epoch_in x.node.mover < 2 ^ 63
+    → (n : ℕ) → DrivePlan R dims slots starts n → (r : ℕ) (x : RankState S) → slice_get rs r ≡ Some x → epoch_in x.node.mover < 2 ^ 63
 epoch_few R laws law dims cap slots manner starts h rs sent got w n p r x at =
     elim (cases_Bool x.over) [
       | inl t ↦ let e = (over_at_last R laws law dims cap slots manner starts h rs sent got w.ranked p.shape p.most n p.start p.rounds r x at t).0 in omega (arith, e, p.few)

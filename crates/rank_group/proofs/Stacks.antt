@@ -10,7 +10,7 @@ use Rattle.route_tensor.proofs.Coordinates.{ranks_some}
 use Rattle.port_bank.specs.Logs.{Logs, starting_at, ending_at}
 use Rattle.exstack.specs.declared.stage.Stage.{Stage}
 use Rattle.exstack.specs.declared.stage.Stage.TheVariants.{Start, Proceeding, Filling, Exchanging, Full, AllDone}
-use Rattle.exstack.specs.State.{Stack, number, link_to}
+use Rattle.exstack.specs.State.{Stack, number, stack_link_to}
 use Rattle.exstack.specs.Parts.{is_all_done}
 use Rattle.exstack.specs.Cycles.{proceed_parcel}
 use Rattle.exstack.specs.Agreement.{AgreesIn}
@@ -20,15 +20,15 @@ use Rattle.exstack.proofs.OneHop.{ranks_one}
 use Rattle.round_program.specs.Rules.{Rules}
 use Rattle.round_program.specs.Laws.{Laws}
 use Rattle.rank_node.specs.Runs.{Running}
-use Rattle.rank_node.specs.Movers.{MoverState, dims_of, rank_of, epoch_in, has_completed, part_in, IsMoving}
+use Rattle.rank_node.specs.Movers.{MoverState, mover_dims, mover_rank, epoch_in, has_completed, part_in, IsMoving}
 use Rattle.rank_node.specs.Movers.MoverState.{Conveying, Stacking}
 use Rattle.rank_node.specs.Movers.Manner.{ByExstack}
 use Rattle.rank_node.specs.Cycles.{InCycle, MarksLast, IsInCycle, WentOn, cycles_gone_on}
 use Rattle.rank_node.proofs.Onward.{done_of_completed}
 use Rattle.rank_group.specs.Closes.{ClosesLaws}
 use Rattle.rank_group.specs.Ranks.{RankState}
-use Rattle.rank_group.specs.Halves.{quota_of, most_rounds, HasCycled, IsBetween}
-use Rattle.rank_group.specs.Worlds.{World, Plan, mover_in}
+use Rattle.rank_group.specs.RoundProgress.{quota_of, most_rounds, HasCycled, IsBetween}
+use Rattle.rank_group.specs.RanksOverBank.{World, DrivePlan, mover_in}
 use Rattle.rank_group.proofs.Worlds.{core, stack_of, is_stacking, still_within, over_at_last}
 use Rattle.exstack.proofs.Lockstep.{begins, to_is, from_is, sent_own, got_own}
 use Rattle.rank_group.proofs.Halves.{AllStacks}
@@ -73,7 +73,7 @@ epoch_of_stack : (m : MoverState) (cap : ℕ) → m ≡ Stacking cap (stack_of m
 epoch_of_stack m cap e = ap epoch_in e
 
 module _ {S : Type 0} (R : Rules S) (laws : Laws R) (law : ClosesLaws) (dims : List ℕ) (cap slots : ℕ) (starts : List S) (h : ℕ → ℕ → S) (rs : List (RankState S)) (sent got : Logs) (w : World R dims cap slots ByExstack starts h rs sent got)
-    (n : ℕ) (plan : Plan R dims slots starts n) where
+    (n : ℕ) (plan : DrivePlan R dims slots starts n) where
   abbrev p : ℕ
   p = ranks dims
 
@@ -100,7 +100,7 @@ module _ {S : Type 0} (R : Rules S) (laws : Laws R) (law : ClosesLaws) (dims : L
   one =
       let low : 0 < p = ranks_some dims w.ranked.grid.positive in
       let x = rank_at 0 low in
-      let same : dims_of (Stacking cap (stack_of x.0.node.mover)) ≡ dims = ap dims_of (sym (stack_is 0 x.0 x.1)) ∙ (w.ranked.each 0 x.0 x.1).same_dims in
+      let same : mover_dims (Stacking cap (stack_of x.0.node.mover)) ≡ dims = ap mover_dims (sym (stack_is 0 x.0 x.1)) ∙ (w.ranked.each 0 x.0 x.1).same_dims in
       ap (λ (ds : List ℕ). ranks ds ∷ []) (sym same) ∙ (ap (λ k. k ∷ []) (ranks_one (stack_of x.0.node.mover).ranks) ∙ same)
 
   moving : (r : ℕ) (x : RankState S) → slice_get rs r ≡ Some x → IsMoving x.node.mover (starting_at dims r sent) (ending_at dims r got)
@@ -127,8 +127,8 @@ module _ {S : Type 0} (R : Rules S) (laws : Laws R) (law : ClosesLaws) (dims : L
         links_keep = λ l low. w.ranked.links_keep l (subst (λ (ds : List ℕ). l < links ds) one low);
         few = w.ranked.grid.small;
         same_ranks = λ r low. pick r low (λ o x. x.ranks ≡ p) (λ x at.
-            sym (ranks_one (stack_of x.node.mover).ranks) ∙ ap ranks (ap dims_of (sym (stack_is r x at)) ∙ (w.ranked.each r x at).same_dims));
-        same_rank = λ r low. pick r low (λ o x. x.rank ≡ r) (λ x at. ap rank_of (sym (stack_is r x at)) ∙ (w.ranked.each r x at).same_rank);
+            sym (ranks_one (stack_of x.node.mover).ranks) ∙ ap ranks (ap mover_dims (sym (stack_is r x at)) ∙ (w.ranked.each r x at).same_dims));
+        same_rank = λ r low. pick r low (λ o x. x.rank ≡ r) (λ x at. ap mover_rank (sym (stack_is r x at)) ∙ (w.ranked.each r x at).same_rank);
         standing = λ r low. pick r low (λ o x. IsStack cap x) (λ x at. stands r x at);
         agree = λ r low. pick r low (λ o x. AgreesIn (w.cycle r) x (starting_at (p ∷ []) r sent) (ending_at (p ∷ []) r got)) (λ x at.
             subst (λ (ds : List ℕ). AgreesIn (w.cycle r) (stack_of x.node.mover) (starting_at ds r sent) (ending_at ds r got)) (sym one) (known r x at).0);
@@ -148,7 +148,7 @@ module _ {S : Type 0} (R : Rules S) (laws : Laws R) (law : ClosesLaws) (dims : L
       let l : ℕ = number p s.sender r in
       let came : proceed_parcel e m (got l) ≡ Some s.parcel = ap (proceed_parcel e m) (sym (ap (ending_at (p ∷ []) r got) (from_is p cap slots w.cycle stack_at sent got step s.sender r la low) ∙ got_own p cap slots w.cycle stack_at sent got step s.sender r la low)) ∙ s.came in
       let went' : proceed_parcel e m (sent l) ≡ Some s.parcel = (law.cycles e m s.parcel (sent l) (got l) (begins p cap slots w.cycle stack_at sent got step s.sender r la low)).1 came in
-      let out : proceed_parcel e m (starting_at (p ∷ []) s.sender sent (link_to (stack_at s.sender) r)) ≡ Some s.parcel =
+      let out : proceed_parcel e m (starting_at (p ∷ []) s.sender sent (stack_link_to (stack_at s.sender) r)) ≡ Some s.parcel =
       ap (proceed_parcel e m) (ap (starting_at (p ∷ []) s.sender sent) (to_is p cap slots w.cycle stack_at sent got step s.sender r la low) ∙ sent_own p cap slots w.cycle stack_at sent got step s.sender r la low) ∙ went' in
       let few = marks s.sender la e r m s.parcel (omega (arith, low, step.same_ranks s.sender la)) out s.going in
       let part = total_part p (λ a. quota a e) s.sender la in

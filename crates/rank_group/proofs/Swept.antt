@@ -9,14 +9,14 @@ use Rattle.port_bank.specs.Logs.{Logs, starting_at, ending_at}
 use Rattle.port_bank.proofs.Owners.{sent_elsewhere, got_elsewhere}
 use Rattle.round_program.specs.Rules.{Rules}
 use Rattle.round_program.specs.Laws.{Laws}
-use Rattle.rank_node.specs.Movers.{MoverState, Manner, IsShape, dims_of, rank_of, lying}
+use Rattle.rank_node.specs.Movers.{MoverState, Manner, IsLogShape, mover_dims, mover_rank, lying}
 use Rattle.rank_node.specs.Movers.MoverState.{Conveying, Stacking}
 use Rattle.rank_node.specs.Nodes.{IsNode}
 use Rattle.rank_node.specs.Next.{HasStopped}
 use Rattle.rank_group.specs.Closes.{ClosesLaws}
 use Rattle.rank_group.specs.Ranks.{RankState, HasRank, AllRanks, AfterRank, IsLeftBy, progress, crowded_in, idle_in}
-use Rattle.rank_group.specs.Halves.{quota_of, KeepsCycle, next_cycle}
-use Rattle.rank_group.specs.Worlds.{mover_in, inbox, World, moves, Lawful, RestsBy, Plan}
+use Rattle.rank_group.specs.RoundProgress.{quota_of, KeepsCycle, next_cycle}
+use Rattle.rank_group.specs.RanksOverBank.{mover_in, inbox, World, moves, Lawful, RestsBy, DrivePlan}
 use Rattle.rank_group.proofs.Cycled.{keeps_on}
 use Rattle.rank_group.proofs.Growing.{Grows, sent_same, got_same, inbox_same, inboxes_on}
 use Rattle.rank_group.proofs.Quotas.{sends_few}
@@ -32,7 +32,7 @@ other_rank R dims cap manner r h n sent got sent' got' es eg is =
       same_cap = is.same_cap;
       runs = λ o. subst (λ f. IsNode R h n.node f (ending_at dims r got')) (sym es) (subst (IsNode R h n.node (starting_at dims r sent)) (sym eg) (is.runs o));
       stopped = λ o. subst (λ f. HasStopped R h n.node f (ending_at dims r got')) (sym es) (subst (HasStopped R h n.node (starting_at dims r sent)) (sym eg) (is.stopped o));
-      shape = λ l below own. subst (λ (f : Logs). IsShape manner cap (f l)) (sym es) (is.shape l below own);
+      shape = λ l below own. subst (λ (f : Logs). IsLogShape manner cap (f l)) (sym es) (is.shape l below own);
     }
 
 module _ {S : Type 0} (R : Rules S) (dims : List ℕ) (cap slots : ℕ) (manner : Manner) (starts : List S) (h : ℕ → ℕ → S) (r : ℕ) (n n' : RankState S) (rs rs' : List (RankState S)) (sent got sent' got' : Logs)
@@ -93,7 +93,7 @@ module _ {S : Type 0} (R : Rules S) (dims : List ℕ) (cap slots : ℕ) (manner 
   pub cycle_other : (k : ℕ) → k ≢ r → cycle_on k ≡ w.cycle k
   cycle_other k apart = ap (λ b. cond b (next_cycle (w.cycle r) n n') (w.cycle k)) (ne_eqb k r apart)
 
-  keeps_cycle : Laws R → ClosesLaws → (rounds : ℕ) → Plan R dims slots starts rounds → (k : ℕ) (x : RankState S) → slice_get rs' k ≡ Some x
+  keeps_cycle : Laws R → ClosesLaws → (rounds : ℕ) → DrivePlan R dims slots starts rounds → (k : ℕ) (x : RankState S) → slice_get rs' k ≡ Some x
       → KeepsCycle R (quota_of R (ranks dims) starts k) (cycle_on k) x (starting_at dims k sent') (ending_at dims k got')
   keeps_cycle laws closes rounds plan k x now = elim (cases_eq k r) [
     | inl here ↦
@@ -110,7 +110,7 @@ module _ {S : Type 0} (R : Rules S) (dims : List ℕ) (cap slots : ℕ) (manner 
         (subst (λ f. KeepsCycle R (quota_of R (ranks dims) starts k) (w.cycle k) x (starting_at dims k sent) f) (sym (got_elsewhere dims r k got got' apart t.got_elsewhere)) (w.keeps k x (sym (others k apart) ∙ now))))
   ]
 
-  pub world_on : Laws R → ClosesLaws → (rounds : ℕ) → Plan R dims slots starts rounds → (g : ℕ → ℕ → S) × (v : World R dims cap slots manner starts g rs' sent' got') × (v.cycle ≡ cycle_on)
+  pub world_on : Laws R → ClosesLaws → (rounds : ℕ) → DrivePlan R dims slots starts rounds → (g : ℕ → ℕ → S) × (v : World R dims cap slots manner starts g rs' sent' got') × (v.cycle ≡ cycle_on)
   world_on laws closes rounds plan = (
     history,
     record {
@@ -126,7 +126,7 @@ module _ {S : Type 0} (R : Rules S) (dims : List ℕ) (cap slots : ℕ) (manner 
   )
 
   -- the rank that was turned, where it stayed in its epoch and nothing moved
-  rests_by : (m m' : MoverState) → dims_of m ≡ dims → rank_of m ≡ r → ((l : ℕ) → l < links dims → reader_at dims l ≡ r → lying m l ≤ lying m' l)
+  rests_by : (m m' : MoverState) → mover_dims m ≡ dims → mover_rank m ≡ r → ((l : ℕ) → l < links dims → reader_at dims l ≡ r → lying m l ≤ lying m' l)
       → IsLeftBy m m' (starting_at dims r sent') (ending_at dims r got') (starting_at dims r sent') (ending_at dims r got') (crowded_in dims slots r sent' got') (idle_in dims r sent' got') → RestsBy dims slots r m' sent' got'
   rests_by (Conveying c) (Conveying c') same_dims same_rank kept left = record { c = c; same_dims = same_dims; same_rank = same_rank; same_epoch = sym left.stays; kept = kept; left = left }
   rests_by (Conveying c) (Stacking k x) same_dims same_rank kept left = absurd left

@@ -6,8 +6,8 @@ use Rattle.route_tensor.specs.Grid.{ranks}
 use Rattle.route_tensor.specs.Link.{links}
 use Rattle.route_tensor.specs.Ends.{sender_at, reader_at}
 use Rattle.port_bank.specs.Logs.{Logs, lasts, segment, starting_at, ending_at, EndsLast}
-use Rattle.port_bank.specs.Flow.{hop_link, belongs, items_of}
-use Rattle.port_bank.specs.Round.{Round, logs_of, pushed, pulled, CloseLaw}
+use Rattle.port_bank.specs.Flow.{hop_link, belongs, passing_items}
+use Rattle.port_bank.specs.Round.{Round, logs_of, pushed_items, pulled_items, CloseLaw}
 use Rattle.port_bank.proofs.Routes.{numbered}
 use Rattle.port_bank.proofs.Marks.{none_after, all_got}
 use Rattle.rank_group.specs.Closes.{ClosesLaws}
@@ -16,13 +16,13 @@ use Rattle.round_program.specs.Rules.{Rules}
 use Rattle.round_program.specs.Laws.{Laws}
 use Rattle.round_program.specs.Canonical.{emitted_of, emitted_by, absorbed_round, states_at, HasRounds, InRound}
 use Rattle.round_program.specs.Epochs.{IsCanonical}
-use Rattle.rank_node.specs.Movers.{Manner, IsShape, epoch_in, part_in}
+use Rattle.rank_node.specs.Movers.{Manner, IsLogShape, epoch_in, part_in}
 use Rattle.rank_node.specs.Next.{HasStopped}
 use Rattle.rank_group.specs.Ranks.{RankState, HasRank, AllRanks}
-use Rattle.rank_node.specs.Runs.{lists_of}
-use Rattle.rank_group.specs.Told.{Made, TellsRun, vote_sent}
+use Rattle.rank_node.specs.Runs.{part_lists}
+use Rattle.rank_group.specs.Transcript.{Made, TellsRun, vote_sent}
 use Rattle.rank_group.proofs.Worlds.{canonical, over_at_last}
-use Rattle.rank_group.specs.Worlds.{progress_in, history_in, mover_in, part_at}
+use Rattle.rank_group.specs.RanksOverBank.{progress_in, history_in, mover_in, part_at}
 use Rattle.rank_group.proofs.Movers.{Completed, completed}
 
 module _ {S : Type 0} (R : Rules S) (laws : Laws R) (law : ClosesLaws) (round : Round) (cap slots : ℕ) (manner : Manner) (starts : List S) (h : ℕ → ℕ → S) (rs : List (RankState S))
@@ -43,7 +43,7 @@ module _ {S : Type 0} (R : Rules S) (laws : Laws R) (law : ClosesLaws) (round : 
     at : slice_get rs r ≡ Some x
     last : epoch_in x.node.mover + 1 ≡ 2 * n
     whole : Completed dims r x.node.mover sent got
-    shaped : (l : ℕ) → l < links dims → sender_at dims l ≡ r → IsShape manner cap (starting_at dims r sent l)
+    shaped : (l : ℕ) → l < links dims → sender_at dims l ≡ r → IsLogShape manner cap (starting_at dims r sent l)
 
   stopped : (r : ℕ) → r < ranks dims → Stopped r
   stopped r low =
@@ -63,7 +63,7 @@ module _ {S : Type 0} (R : Rules S) (laws : Laws R) (law : ClosesLaws) (round : 
   record Out (l : ℕ) : Type 0 where
     ended : lasts (sent l) ≡ 2 * n
     by_last : EndsLast (sent l)
-    shaped : IsShape manner cap (sent l)
+    shaped : IsLogShape manner cap (sent l)
 
   out : (l : ℕ) → l < links dims → Out l
   out l below =
@@ -73,7 +73,7 @@ module _ {S : Type 0} (R : Rules S) (laws : Laws R) (law : ClosesLaws) (round : 
       record {
         ended = t.whole.out_lasts l below refl ∙ t.last;
         by_last = t.whole.out_by_last l below refl;
-        shaped = subst (IsShape manner cap) (starting-own dims s sent l refl) (t.shaped l below refl);
+        shaped = subst (IsLogShape manner cap) (starting-own dims s sent l refl) (t.shaped l below refl);
       }
 
   -- and at its reader
@@ -88,12 +88,12 @@ module _ {S : Type 0} (R : Rules S) (laws : Laws R) (law : ClosesLaws) (round : 
   collected l below = let o = out l below in all_got (got l) (sent l) (w.links_keep l below).begins o.by_last (got_all l below ∙ sym o.ended)
 
   -- what a rank pushed in an epoch is what it sent on hop 1
-  pushed_part : (e s d : ℕ) → e < 2 * n → s < ranks dims → d < ranks dims → pushed round e s d ≡ (part_at dims rs sent got s).pushed e d
+  pushed_part : (e s d : ℕ) → e < 2 * n → s < ranks dims → d < ranks dims → pushed_items round e s d ≡ (part_at dims rs sent got s).pushed e d
   pushed_part e s d low from to =
       let t = stopped s from in
       sym (ap (λ o. (part_in (mover_in o) (starting_at dims s sent) (ending_at dims s got)).pushed e d) t.at ∙ t.whole.pushed e d to (omega (arith, low, t.last)))
 
-  run : IsCanonical R (ranks dims) starts (λ r. progress_in (slice_get rs r)) (λ r. history_in (h r) (slice_get rs r)) (λ r. lists_of (part_at dims rs sent got r))
+  run : IsCanonical R (ranks dims) starts (λ r. progress_in (slice_get rs r)) (λ r. history_in (h r) (slice_get rs r)) (λ r. part_lists (part_at dims rs sent got r))
   run = canonical R laws law dims cap slots manner starts h rs sent got w shape most start
 
   all_rounds : (r : ℕ) → r < ranks dims → progress_in (slice_get rs r) ≡ 2 * n
@@ -101,19 +101,19 @@ module _ {S : Type 0} (R : Rules S) (laws : Laws R) (law : ClosesLaws) (round : 
       let t = stopped r low in
       ap progress_in t.at ∙ (ap (λ b. cond b (epoch_in t.x.node.mover + 1) (epoch_in t.x.node.mover)) (over r t.x t.at) ∙ t.last)
 
-  work : (m s d : ℕ) → m < n → s < ranks dims → d < ranks dims → pushed round (2 * m) s d ≡ emitted_by R (states_at R starts m) d s
+  work : (m s d : ℕ) → m < n → s < ranks dims → d < ranks dims → pushed_items round (2 * m) s d ≡ emitted_by R (states_at R starts m) d s
   work m s d low from to =
       let full = all_rounds s from in
       let state = run.states s m from (omega (arith, full, low)) in
       pushed_part (2 * m) s d (omega (arith, low)) from to ∙ (run.pushed s s d m from from to (omega (arith, full, low)) ∙ ap (λ o. emitted_of R o d) (sym state))
 
-  votes : (m s d : ℕ) → m < n → s < ranks dims → d < ranks dims → pushed round (2 * m + 1) s d ≡ vote_sent R (slice_get (absorbed_round R (states_at R starts m)) s)
+  votes : (m s d : ℕ) → m < n → s < ranks dims → d < ranks dims → pushed_items round (2 * m + 1) s d ≡ vote_sent R (slice_get (absorbed_round R (states_at R starts m)) s)
   votes m s d low from to =
       let full = all_rounds s from in
       let state = run.absorbed s s m from from (omega (arith, full, low)) in
       pushed_part (2 * m + 1) s d (omega (arith, low)) from to ∙ (run.votes s s d m from from to (omega (arith, full, low)) ∙ ap (vote_sent R) (sym state))
 
-  all_came : (e s d : ℕ) → s < ranks dims → d < ranks dims → pulled round e d s ≡ pushed round e s d
+  all_came : (e s d : ℕ) → s < ranks dims → d < ranks dims → pulled_items round e d s ≡ pushed_items round e s d
   all_came e s d from to =
       let first : ℕ = hop_link dims s d 1 in
       let last : ℕ = hop_link dims s d (length dims) in
@@ -126,7 +126,7 @@ module _ {S : Type 0} (R : Rules S) (laws : Laws R) (law : ClosesLaws) (round : 
             let b = out last in_last in
             let sent_none : segment e (sent first) ≡ [] = none_after e (sent first) a.by_last (omega (arith, past, a.ended)) in
             let got_none : segment e (got last) ≡ [] = ap (segment e) (collected last in_last) ∙ none_after e (sent last) b.by_last (omega (arith, past, b.ended)) in
-            ap (items_of (belongs dims s d (length dims))) got_none ∙ sym (ap (items_of (belongs dims s d 1)) sent_none)
+            ap (passing_items (belongs dims s d (length dims))) got_none ∙ sym (ap (passing_items (belongs dims s d 1)) sent_none)
       ]
 
   pub tells_run : (made : Made) → record { dims = round.dims; cap = round.cap; slots = round.slots; by_slots = round.by_slots } ≡ made → round.cap ≡ cap → TellsRun R starts n made manner round
@@ -139,5 +139,5 @@ module _ {S : Type 0} (R : Rules S) (laws : Laws R) (law : ClosesLaws) (round : 
         work = work;
         votes = votes;
         all_came = all_came;
-        shape = λ l below. subst (λ k. IsShape manner k (sent l)) (sym same) (out l below).shaped;
+        shape = λ l below. subst (λ k. IsLogShape manner k (sent l)) (sym same) (out l below).shaped;
       }

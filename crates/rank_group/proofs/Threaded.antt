@@ -8,9 +8,9 @@ use Rattle.route_tensor.specs.Grid.{ranks}
 use Rattle.route_tensor.proofs.Coordinates.{ranks_some}
 use Rattle.port_bank.specs.Logs.{Logs, starting_at, ending_at}
 use Rattle.port_bank.specs.Round.{Round, IsRound, logs_of}
-use Rattle.link_slots.specs.Closed.{slot_round, AllThere}
+use Rattle.link_slots.specs.ClosedBank.{slot_round, AllThere}
 use Rattle.link_slots.specs.Gathering.{Gathering}
-use Rattle.link_slots.specs.Seen.{Identity, Manning, posted_on, collected_from}
+use Rattle.link_slots.specs.SeatView.{Identity, Manning, posted_on, collected_from}
 use Rattle.round_program.specs.Rules.{Rules}
 use Rattle.round_program.specs.Laws.{Laws}
 use Rattle.round_program.specs.Canonical.{InRound, HasRounds}

@@ -7,14 +7,14 @@ use Rattle.port_bank.specs.Logs.{Logs, starting_at, ending_at}
 use Rattle.route_tensor.specs.Link.{links}
 use Rattle.port_bank.specs.Machine.{Part, completed_of, done_of, EpochsClose}
 use Rattle.port_bank.specs.Machine.{Ranks}
-use Rattle.list_laws.specs.Lists.{Begins}
+use Rattle.list_laws.specs.Lists.{IsPrefix}
 use Rattle.route_tensor.proofs.Coordinates.{ranks_some}
 use Rattle.hop_core.specs.State.{State}
 use Rattle.convey.specs.Buffers.{buffers_of}
 use Rattle.convey.specs.Law as conveyors
 use Rattle.exstack.specs.State.{Stack}
 use Rattle.exstack.specs.State.{new_stack}
-use Rattle.exstack.specs.Agreement.{AgreesWith}
+use Rattle.exstack.specs.Agreement.{StackAgrees}
 use Rattle.exstack.specs.Law as exstacks
 use Rattle.exstack.specs.Parts as exstack_parts
 use Rattle.exstack.proofs.OneHop.{ranks_one}
@@ -23,25 +23,25 @@ use Rattle.round_program.specs.Rules.{Rules}
 use Rattle.round_program.specs.Laws.{Laws, SameRound}
 use Rattle.round_program.proofs.Orders.{pulls_same}
 use Rattle.round_program.specs.Canonical.{HasRounds, InRound, states_at, votes_at, shape_of}
-use Rattle.round_program.specs.Epochs.{PairLists, heard, worked, Own, Closes, IsCanonical}
+use Rattle.round_program.specs.Epochs.{PairLists, heard, after_work, Own, Closes, IsCanonical}
 use Rattle.round_program.proofs.Epochs.{every_run}
 use Rattle.round_program.proofs.Members.{in_round_at, shape_is}
 use Rattle.round_program.proofs.Steps.{own_work_done, own_vote_done}
 use Rattle.rank_node.specs.declared.sends.Sends.{Sends}
 use Rattle.rank_node.specs.declared.sends.Sends.TheVariants.{Emissions, Nothing, Votes}
 use Rattle.rank_node.specs.Sending.{is_voting, epoch_of}
-use Rattle.rank_node.specs.Runs.{lists_of, from_round, HasTaken}
-use Rattle.rank_node.specs.Movers.{MoverState, Manner, dims_of, rank_of, epoch_in, manner_in, part_in, HasCap, IsConveying, IsStacking, IsMoving}
+use Rattle.rank_node.specs.Runs.{part_lists, from_round, HasTaken}
+use Rattle.rank_node.specs.Movers.{MoverState, Manner, mover_dims, mover_rank, epoch_in, manner_in, part_in, HasCap, IsConveying, IsStacking, IsMoving}
 use Rattle.rank_node.specs.Movers.MoverState.{Conveying, Stacking}
 use Rattle.rank_node.specs.Movers.Manner.{ByConveyor, ByExstack}
 use Rattle.rank_node.specs.Nodes.{IsNode}
-use Rattle.rank_node.specs.Next.{extended, HasStopped}
+use Rattle.rank_node.specs.Next.{with_next, HasStopped}
 use Rattle.rank_group.specs.Ranks.{RankState, HasRank, AllRanks, progress}
 use Rattle.rank_node.proofs.Between.{voted, own_ended, extended_before, extended_at}
 use Rattle.rank_node.proofs.Onward.{done_of_completed, epoch_is}
 use Rattle.rank_group.proofs.FirstRound.{round_first, own_first}
 use Rattle.rank_group.proofs.Movers.{part_epoch, part_complete}
-use Rattle.rank_group.specs.Worlds.{nowhere, mover_in, progress_in, history_in, part_at}
+use Rattle.rank_group.specs.RanksOverBank.{no_conveyor, mover_in, progress_in, history_in, part_at}
 
 -- a rank is done with no more epochs than its rounds have
 done_few : (v : Bool) (round : ℕ) (part : Part) → part.epoch ≡ epoch_of round v → round ≤ 2 ^ 63 → done_of part ≤ 2 ^ 64 + 2
@@ -54,25 +54,25 @@ done_few v round part e few = by v part.done e where
 
 -- what a rank knows of itself, within an epoch
 pub own_now : {S : Type 0} (R : Rules S) → Laws R → (p rank : ℕ) (h : ℕ → S) (round : ℕ) (sends : Sends) (next : ℕ) (prog : S) (sum : ℕ) (spoiled : Bool) (part : Part)
-    → HasTaken R p rank h round sends next prog sum spoiled part → Own (from_round (R.round (h 0)) R) p part.epoch (done_of part) h (lists_of part)
+    → HasTaken R p rank h round sends next prog sum spoiled part → Own (from_round (R.round (h 0)) R) p part.epoch (done_of part) h (part_lists part)
 own_now {S} R laws p rank h round sends next prog sum spoiled part is = by part.done refl where
   R' : Rules S
   R' = from_round (R.round (h 0)) R
 
-  at : (s : Sends) → part.done ≡ true → HasTaken R p rank h round s next prog sum spoiled part → Own R' p part.epoch (part.epoch + 1) h (lists_of part)
+  at : (s : Sends) → part.done ≡ true → HasTaken R p rank h round s next prog sum spoiled part → Own R' p part.epoch (part.epoch + 1) h (part_lists part)
   at Emissions d t = let e : part.epoch ≡ 2 * round = t.passed.epoch in
-      subst (λ k. Own R' p k (k + 1) h (lists_of part)) (sym e) (own_work_done R' p round h (lists_of part) t.passed.goes (subst (λ k. Own R' p k k h (lists_of part)) e t.passed.own))
+      subst (λ k. Own R' p k (k + 1) h (part_lists part)) (sym e) (own_work_done R' p round h (part_lists part) t.passed.goes (subst (λ k. Own R' p k k h (part_lists part)) e t.passed.own))
   at Nothing d t = let e : part.epoch ≡ 2 * round = t.passed.epoch in
-      subst (λ k. Own R' p k (k + 1) h (lists_of part)) (sym e) (own_work_done R' p round h (lists_of part) t.passed.goes (subst (λ k. Own R' p k k h (lists_of part)) e t.passed.own))
+      subst (λ k. Own R' p k (k + 1) h (part_lists part)) (sym e) (own_work_done R' p round h (part_lists part) t.passed.goes (subst (λ k. Own R' p k k h (part_lists part)) e t.passed.own))
   at (Votes v q) d t = let e : part.epoch ≡ 2 * round + 1 = t.passed.epoch in
       let two : 2 * round + 2 ≡ part.epoch + 1 = omega (arith, e) in
-      subst (λ k. Own R' p part.epoch k h (lists_of part)) two
-      (subst (λ k. Own R' p k (2 * round + 2) h (lists_of part)) (sym e)
-      (own_vote_done R' p round h (lists_of part) (voted R laws p rank h round next prog sum spoiled part d v q t) (subst (λ k. Own R' p k k h (lists_of part)) e t.passed.own)))
+      subst (λ k. Own R' p part.epoch k h (part_lists part)) two
+      (subst (λ k. Own R' p k (2 * round + 2) h (part_lists part)) (sym e)
+      (own_vote_done R' p round h (part_lists part) (voted R laws p rank h round next prog sum spoiled part d v q t) (subst (λ k. Own R' p k k h (part_lists part)) e t.passed.own)))
 
-  by : (b : Bool) → part.done ≡ b → Own R' p part.epoch (done_of part) h (lists_of part)
-  by true d = subst (λ k. Own R' p part.epoch k h (lists_of part)) (sym (ap (λ b. cond b (part.epoch + 1) part.epoch) d)) (at sends d is)
-  by false d = subst (λ k. Own R' p part.epoch k h (lists_of part)) (sym (ap (λ b. cond b (part.epoch + 1) part.epoch) d)) is.passed.own
+  by : (b : Bool) → part.done ≡ b → Own R' p part.epoch (done_of part) h (part_lists part)
+  by true d = subst (λ k. Own R' p part.epoch k h (part_lists part)) (sym (ap (λ b. cond b (part.epoch + 1) part.epoch) d)) (at sends d is)
+  by false d = subst (λ k. Own R' p part.epoch k h (part_lists part)) (sym (ap (λ b. cond b (part.epoch + 1) part.epoch) d)) is.passed.own
 
 -- the node of a rank as it was before its run ended
 pub record Core {S : Type 0} (R : Rules S) (dims : List ℕ) (r : ℕ) (h : ℕ → S) (n : RankState S) (sent got : Logs) : Type 0 where
@@ -101,37 +101,37 @@ module _ {S : Type 0} (R : Rules S) (laws : Laws R) (dims : List ℕ) (cap : ℕ
   epoch_here = part_epoch m (starting_at dims r sent) (ending_at dims r got)
 
   stopped : HasStopped R h n.node (starting_at dims r sent) (ending_at dims r got) → (s : Sends) → n.node.run.sends ≡ s → is_voting s ≡ true
-      → Own (at_first (extended h (n.node.run.round + 1) n.node.run.prog)) (ranks dims) (epoch_in m + 1) (done_of part) (extended h (n.node.run.round + 1) n.node.run.prog) (lists_of part)
+      → Own (at_first (with_next h (n.node.run.round + 1) n.node.run.prog)) (ranks dims) (epoch_in m + 1) (done_of part) (with_next h (n.node.run.round + 1) n.node.run.prog) (part_lists part)
   stopped t Emissions e v = absurd (true≢false (sym v))
   stopped t Nothing e v = absurd (true≢false (sym v))
   stopped t (Votes v q) e vote =
       let done : part.done ≡ true = done_of_completed m _ _ t.node.moving t.complete in
-      let p : ℕ = ranks (dims_of m) in
-      let own : HasTaken R p (rank_of m) h n.node.run.round n.node.run.sends n.node.run.next t.worked n.node.run.sum n.node.run.spoiled part = record { passed = t.node.passed; within = t.node.within } in
-      let own1 : HasTaken R p (rank_of m) h n.node.run.round (Votes v q) n.node.run.next t.worked n.node.run.sum false part =
-      subst (λ b. HasTaken R p (rank_of m) h n.node.run.round (Votes v q) n.node.run.next t.worked n.node.run.sum b part) t.unspoiled
-      (subst (λ x. HasTaken R p (rank_of m) h n.node.run.round x n.node.run.next t.worked n.node.run.sum n.node.run.spoiled part) e own) in
-      let o = own_ended R laws p (rank_of m) h n.node.run.round n.node.run.next t.worked n.node.run.sum part v q done t.clean own1 in
+      let p : ℕ = ranks (mover_dims m) in
+      let own : HasTaken R p (mover_rank m) h n.node.run.round n.node.run.sends n.node.run.next t.worked n.node.run.sum n.node.run.spoiled part = record { passed = t.node.passed; within = t.node.within } in
+      let own1 : HasTaken R p (mover_rank m) h n.node.run.round (Votes v q) n.node.run.next t.worked n.node.run.sum false part =
+      subst (λ b. HasTaken R p (mover_rank m) h n.node.run.round (Votes v q) n.node.run.next t.worked n.node.run.sum b part) t.unspoiled
+      (subst (λ x. HasTaken R p (mover_rank m) h n.node.run.round x n.node.run.next t.worked n.node.run.sum n.node.run.spoiled part) e own) in
+      let o = own_ended R laws p (mover_rank m) h n.node.run.round n.node.run.next t.worked n.node.run.sum part v q done t.clean own1 in
       let here : part.epoch ≡ 2 * n.node.run.round + 1 = own1.passed.epoch in
       let two : 2 * n.node.run.round + 2 ≡ epoch_in m + 1 = omega (arith, here, epoch_here) in
       let d : done_of part ≡ epoch_in m + 1 = ap (λ b. cond b (part.epoch + 1) part.epoch) done ∙ ap (λ e. e + 1) epoch_here in
-      subst (λ k. Own (at_first (extended h (n.node.run.round + 1) n.node.run.prog)) (ranks dims) (epoch_in m + 1) k (extended h (n.node.run.round + 1) n.node.run.prog) (lists_of part)) (sym d)
-      (subst (λ k. Own (at_first (extended h (n.node.run.round + 1) n.node.run.prog)) (ranks dims) k k (extended h (n.node.run.round + 1) n.node.run.prog) (lists_of part)) two
-      (subst (λ x. Own (at_first (extended h (n.node.run.round + 1) x)) (ranks dims) (2 * n.node.run.round + 2) (2 * n.node.run.round + 2) (extended h (n.node.run.round + 1) x) (lists_of part)) (sym t.ended)
-      (subst (λ (ds : List ℕ). Own (at_first (extended h (n.node.run.round + 1) (R.ended t.worked n.node.run.sum))) (ranks ds) (2 * n.node.run.round + 2) (2 * n.node.run.round + 2) (extended h (n.node.run.round + 1) (R.ended t.worked n.node.run.sum)) (lists_of part)) is.same_dims o)))
+      subst (λ k. Own (at_first (with_next h (n.node.run.round + 1) n.node.run.prog)) (ranks dims) (epoch_in m + 1) k (with_next h (n.node.run.round + 1) n.node.run.prog) (part_lists part)) (sym d)
+      (subst (λ k. Own (at_first (with_next h (n.node.run.round + 1) n.node.run.prog)) (ranks dims) k k (with_next h (n.node.run.round + 1) n.node.run.prog) (part_lists part)) two
+      (subst (λ x. Own (at_first (with_next h (n.node.run.round + 1) x)) (ranks dims) (2 * n.node.run.round + 2) (2 * n.node.run.round + 2) (with_next h (n.node.run.round + 1) x) (part_lists part)) (sym t.ended)
+      (subst (λ (ds : List ℕ). Own (at_first (with_next h (n.node.run.round + 1) (R.ended t.worked n.node.run.sum))) (ranks ds) (2 * n.node.run.round + 2) (2 * n.node.run.round + 2) (with_next h (n.node.run.round + 1) (R.ended t.worked n.node.run.sum)) (part_lists part)) is.same_dims o)))
 
-  own_by : (b : Bool) → n.over ≡ b → Own (at_first (history_in h (Some n))) (ranks dims) (progress n) (done_of part) (history_in h (Some n)) (lists_of part)
+  own_by : (b : Bool) → n.over ≡ b → Own (at_first (history_in h (Some n))) (ranks dims) (progress n) (done_of part) (history_in h (Some n)) (part_lists part)
   own_by true over =
-      subst (λ b. Own (at_first (cond b (extended h (n.node.run.round + 1) n.node.run.prog) h)) (ranks dims) (cond b (epoch_in m + 1) (epoch_in m)) (done_of part) (cond b (extended h (n.node.run.round + 1) n.node.run.prog) h) (lists_of part)) (sym over)
+      subst (λ b. Own (at_first (cond b (with_next h (n.node.run.round + 1) n.node.run.prog) h)) (ranks dims) (cond b (epoch_in m + 1) (epoch_in m)) (done_of part) (cond b (with_next h (n.node.run.round + 1) n.node.run.prog) h) (part_lists part)) (sym over)
       (stopped (is.stopped over) n.node.run.sends refl (is.stopped over).voting)
   own_by false on =
       let i = is.runs on in
-      subst (λ b. Own (at_first (cond b (extended h (n.node.run.round + 1) n.node.run.prog) h)) (ranks dims) (cond b (epoch_in m + 1) (epoch_in m)) (done_of part) (cond b (extended h (n.node.run.round + 1) n.node.run.prog) h) (lists_of part)) (sym on)
-      (subst (λ k. Own (at_first h) (ranks dims) k (done_of part) h (lists_of part)) epoch_here
-      (subst (λ (ds : List ℕ). Own (at_first h) (ranks ds) part.epoch (done_of part) h (lists_of part)) is.same_dims
-      (own_now R laws (ranks (dims_of m)) (rank_of m) h n.node.run.round n.node.run.sends n.node.run.next n.node.run.prog n.node.run.sum n.node.run.spoiled part (record { passed = i.passed; within = i.within }))))
+      subst (λ b. Own (at_first (cond b (with_next h (n.node.run.round + 1) n.node.run.prog) h)) (ranks dims) (cond b (epoch_in m + 1) (epoch_in m)) (done_of part) (cond b (with_next h (n.node.run.round + 1) n.node.run.prog) h) (part_lists part)) (sym on)
+      (subst (λ k. Own (at_first h) (ranks dims) k (done_of part) h (part_lists part)) epoch_here
+      (subst (λ (ds : List ℕ). Own (at_first h) (ranks ds) part.epoch (done_of part) h (part_lists part)) is.same_dims
+      (own_now R laws (ranks (mover_dims m)) (mover_rank m) h n.node.run.round n.node.run.sends n.node.run.next n.node.run.prog n.node.run.sum n.node.run.spoiled part (record { passed = i.passed; within = i.within }))))
 
-  pub own_in : Own (from_round (R.round (history_in h (Some n) 0)) R) (ranks dims) (progress n) (done_of (part_in n.node.mover (starting_at dims r sent) (ending_at dims r got))) (history_in h (Some n)) (lists_of (part_in n.node.mover (starting_at dims r sent) (ending_at dims r got)))
+  pub own_in : Own (from_round (R.round (history_in h (Some n) 0)) R) (ranks dims) (progress n) (done_of (part_in n.node.mover (starting_at dims r sent) (ending_at dims r got))) (history_in h (Some n)) (part_lists (part_in n.node.mover (starting_at dims r sent) (ending_at dims r got)))
   own_in = own_by n.over refl
 
   -- and is done with few epochs
@@ -144,7 +144,7 @@ module _ {S : Type 0} (R : Rules S) (laws : Laws R) (dims : List ℕ) (cap : ℕ
 alike_close : (p : ℕ) (f g : Ranks) → ((r : ℕ) → r < p → f r ≡ g r) → EpochsClose p f → EpochsClose p g
 alike_close p f g same c =
     record {
-      begins = λ r s e lr ls. subst (λ (x : Part). Begins (x.pulled e s) ((g s).pushed e r)) (same r lr) (subst (λ (y : Part). Begins ((f r).pulled e s) (y.pushed e r)) (same s ls) (c.begins r s e lr ls));
+      begins = λ r s e lr ls. subst (λ (x : Part). IsPrefix (x.pulled e s) ((g s).pushed e r)) (same r lr) (subst (λ (y : Part). IsPrefix ((f r).pulled e s) (y.pushed e r)) (same s ls) (c.begins r s e lr ls));
       all_done = λ r s lr ls. subst (λ (x : Part). completed_of x ≤ done_of (g s)) (same r lr) (subst (λ (y : Part). completed_of (f r) ≤ done_of y) (same s ls) (c.all_done r s lr ls));
       whole = λ r s e lr ls low. subst (λ (x : Part). x.pulled e s ≡ (g s).pushed e r) (same r lr) (subst (λ (y : Part). (f r).pulled e s ≡ y.pushed e r) (same s ls)
           (c.whole r s e lr ls (subst (λ (x : Part). e < completed_of x) (sym (same r lr)) low)));
@@ -153,7 +153,7 @@ alike_close p f g same c =
 -- the conveyor, or the exstack, of a rank that has one
 abbrev conveyor_of : MoverState → State
 conveyor_of (Conveying c) = c
-conveyor_of (Stacking cap x) = nowhere
+conveyor_of (Stacking cap x) = no_conveyor
 
 pub no_stack : Stack
 no_stack = new_stack 0 0
@@ -192,8 +192,8 @@ module _ {S : Type 0} (R : Rules S) (laws : Laws R) (law : ClosesLaws) (dims : L
       (record {
         grid = w.grid;
         links_keep = w.links_keep;
-        same_dims = λ r low. ap dims_of (sym (is r low)) ∙ by r low (λ m. dims_of m ≡ dims) (λ n k. k.same_dims);
-        same_rank = λ r low. ap rank_of (sym (is r low)) ∙ by r low (λ m. rank_of m ≡ r) (λ n k. k.same_rank);
+        same_dims = λ r low. ap mover_dims (sym (is r low)) ∙ by r low (λ m. mover_dims m ≡ dims) (λ n k. k.same_dims);
+        same_rank = λ r low. ap mover_rank (sym (is r low)) ∙ by r low (λ m. mover_rank m ≡ r) (λ n k. k.same_rank);
         sound = λ r low. (moving r low).sound;
         agree = λ r low. (moving r low).agrees;
       })) where
@@ -206,16 +206,16 @@ module _ {S : Type 0} (R : Rules S) (laws : Laws R) (law : ClosesLaws) (dims : L
   -- over exstacks
   stack_closes : manner ≡ ByExstack → EpochsClose (ranks dims) (part_at dims rs sent got)
   stack_closes e =
-      alike_close (ranks dims) (exstacks.state_of (ranks dims) (λ r. stack_of (mover_at r)) sent got) (part_at dims rs sent got)
-      (λ r low. ap (λ (ds : List ℕ). exstack_parts.part_of (stack_of (mover_at r)) (starting_at ds r sent) (ending_at ds r got)) one ∙ ap (λ m. part_in m (starting_at dims r sent) (ending_at dims r got)) (sym (is r low)))
+      alike_close (ranks dims) (exstacks.stacks_state (ranks dims) (λ r. stack_of (mover_at r)) sent got) (part_at dims rs sent got)
+      (λ r low. ap (λ (ds : List ℕ). exstack_parts.stack_part (stack_of (mover_at r)) (starting_at ds r sent) (ending_at ds r got)) one ∙ ap (λ m. part_in m (starting_at dims r sent) (ending_at dims r got)) (sym (is r low)))
       (law.exstacks (ranks dims) cap slots (λ r. stack_of (mover_at r)) sent got
       (record {
         few = w.grid.small;
         links_keep = λ l low. w.links_keep l (subst (λ (ds : List ℕ). l < links ds) one low);
-        same_ranks = λ r low. sym (ranks_one (stack_of (mover_at r)).ranks) ∙ ap ranks (ap dims_of (sym (is r low)) ∙ by r low (λ m. dims_of m ≡ dims) (λ n k. k.same_dims));
-        same_rank = λ r low. ap rank_of (sym (is r low)) ∙ by r low (λ m. rank_of m ≡ r) (λ n k. k.same_rank);
+        same_ranks = λ r low. sym (ranks_one (stack_of (mover_at r)).ranks) ∙ ap ranks (ap mover_dims (sym (is r low)) ∙ by r low (λ m. mover_dims m ≡ dims) (λ n k. k.same_dims));
+        same_rank = λ r low. ap mover_rank (sym (is r low)) ∙ by r low (λ m. mover_rank m ≡ r) (λ n k. k.same_rank);
         standing = λ r low. (moving r low).stack;
-        agree = λ r low. subst (λ (ds : List ℕ). AgreesWith (stack_of (mover_at r)) (starting_at ds r sent) (ending_at ds r got)) (sym one) (moving r low).agrees;
+        agree = λ r low. subst (λ (ds : List ℕ). StackAgrees (stack_of (mover_at r)) (starting_at ds r sent) (ending_at ds r got)) (sym one) (moving r low).agrees;
       })) where
         is : (r : ℕ) → r < ranks dims → mover_at r ≡ Stacking cap (stack_of (mover_at r))
         is r low = is_stacking (mover_at r) cap (by r low (λ m. manner_in m ≡ manner) (λ n k. k.same_manner) ∙ e) (by r low (HasCap cap) (λ n k. k.same_cap))
@@ -226,7 +226,7 @@ module _ {S : Type 0} (R : Rules S) (laws : Laws R) (law : ClosesLaws) (dims : L
         one : ranks dims ∷ [] ≡ dims
         one =
             let low : 0 < ranks dims = ranks_some dims w.grid.positive in
-            let same : dims_of (Stacking cap (stack_of (mover_at 0))) ≡ dims = ap dims_of (sym (is 0 low)) ∙ by 0 low (λ m. dims_of m ≡ dims) (λ n k. k.same_dims) in
+            let same : mover_dims (Stacking cap (stack_of (mover_at 0))) ≡ dims = ap mover_dims (sym (is 0 low)) ∙ by 0 low (λ m. mover_dims m ≡ dims) (λ n k. k.same_dims) in
             ap (λ (ds : List ℕ). ranks ds ∷ []) (sym same) ∙ (ap (λ n. n ∷ []) (ranks_one (stack_of (mover_at 0)).ranks) ∙ same)
 
   pub closes : EpochsClose (ranks dims) (part_at dims rs sent got)
@@ -239,7 +239,7 @@ module _ {S : Type 0} (R : Rules S) (laws : Laws R) (law : ClosesLaws) (dims : L
   completed r = progress_in (slice_get rs r)
 
   abbrev lists : ℕ → PairLists
-  lists r = lists_of (part_at dims rs sent got r)
+  lists r = part_lists (part_at dims rs sent got r)
 
   abbrev history : ℕ → ℕ → S
   history r = history_in (h r) (slice_get rs r)
@@ -247,7 +247,7 @@ module _ {S : Type 0} (R : Rules S) (laws : Laws R) (law : ClosesLaws) (dims : L
   own_at : (r : ℕ) → r < ranks dims → Own (from_round (R.round (history r 0)) R) (ranks dims) (completed r) (done_of (part_at dims rs sent got r)) (history r) (lists r)
   own_at r low =
       let n = rank_at r low in
-      subst (λ o. Own (from_round (R.round (history_in (h r) o 0)) R) (ranks dims) (progress_in o) (done_of (part_in (mover_in o) (starting_at dims r sent) (ending_at dims r got))) (history_in (h r) o) (lists_of (part_in (mover_in o) (starting_at dims r sent) (ending_at dims r got)))) (sym n.1)
+      subst (λ o. Own (from_round (R.round (history_in (h r) o 0)) R) (ranks dims) (progress_in o) (done_of (part_in (mover_in o) (starting_at dims r sent) (ending_at dims r got))) (history_in (h r) o) (part_lists (part_in (mover_in o) (starting_at dims r sent) (ending_at dims r got)))) (sym n.1)
       (own_in R laws dims cap manner r (h r) n.0 sent got (w.each r n.0 n.1))
 
   done_at : (r : ℕ) → r < ranks dims → done_of (part_at dims rs sent got r) ≤ 2 ^ 64 + 2
@@ -292,8 +292,8 @@ module _ {S : Type 0} (R : Rules S) (laws : Laws R) (law : ClosesLaws) (dims : L
     by : (o : Option (RankState S)) → history_in (h r) o 0 ≡ h r 0
     by None = refl
     by (Some n) = elim (cases_Bool n.over) [
-      | inl over ↦ ap (λ b. cond b (extended (h r) (n.node.run.round + 1) n.node.run.prog) (h r) 0) over ∙ extended_before (h r) (n.node.run.round + 1) n.node.run.prog 0 (λ q. omega (arith, q))
-      | inr on ↦ ap (λ b. cond b (extended (h r) (n.node.run.round + 1) n.node.run.prog) (h r) 0) on
+      | inl over ↦ ap (λ b. cond b (with_next (h r) (n.node.run.round + 1) n.node.run.prog) (h r) 0) over ∙ extended_before (h r) (n.node.run.round + 1) n.node.run.prog 0 (λ q. omega (arith, q))
+      | inr on ↦ ap (λ b. cond b (with_next (h r) (n.node.run.round + 1) n.node.run.prog) (h r) 0) on
     ]
 
   -- the programs begin in round 0
@@ -338,20 +338,20 @@ module _ {S : Type 0} (R : Rules S) (laws : Laws R) (law : ClosesLaws) (dims : L
               let e : epoch_in x.node.mover ≡ 2 * n = omega (arith, past, here, high) in
               let i = (w.each r x at).runs on in
               let full : completed r ≡ 2 * n = here ∙ e in
-              let d : dims_of x.node.mover ≡ dims = (w.each r x at).same_dims in
+              let d : mover_dims x.node.mover ≡ dims = (w.each r x at).same_dims in
               let last : n - 1 + 1 ≡ x.node.run.round = round_is (is_voting x.node.run.sends) x.node.run.round (epoch_is x.node.mover _ _ i) e some in
-              let hist : history r (n - 1) ≡ h r (n - 1) = ap (λ o. history_in (h r) o (n - 1)) at ∙ ap (λ b. cond b (extended (h r) (x.node.run.round + 1) x.node.run.prog) (h r) (n - 1)) on in
-              let own : PairLists = lists_of (part_in x.node.mover (starting_at dims r sent) (ending_at dims r got)) in
-              let same : lists r ≡ own = ap (λ o. lists_of (part_in (mover_in o) (starting_at dims r sent) (ending_at dims r got))) at in
+              let hist : history r (n - 1) ≡ h r (n - 1) = ap (λ o. history_in (h r) o (n - 1)) at ∙ ap (λ b. cond b (with_next (h r) (x.node.run.round + 1) x.node.run.prog) (h r) (n - 1)) on in
+              let own : PairLists = part_lists (part_in x.node.mover (starting_at dims r sent) (ending_at dims r got)) in
+              let same : lists r ≡ own = ap (λ o. part_lists (part_in (mover_in o) (starting_at dims r sent) (ending_at dims r got))) at in
               let few : x.node.run.round ≤ 2 ^ 63 = i.passed.few in
-              let goes : R.goes_on (R.shape (h r (n - 1))) (n - 1) (heard (ranks (dims_of x.node.mover)) own (n - 1)) ≡ true =
-              ap (λ k. R.goes_on (R.shape (h r (n - 1))) k (heard (ranks (dims_of x.node.mover)) own (n - 1))) (sym (round_first (R.round (h r 0)) (n - 1) (first_of r low) (omega (arith, last, few)))) ∙ i.passed.goes (n - 1) last in
+              let goes : R.goes_on (R.shape (h r (n - 1))) (n - 1) (heard (ranks (mover_dims x.node.mover)) own (n - 1)) ≡ true =
+              ap (λ k. R.goes_on (R.shape (h r (n - 1))) k (heard (ranks (mover_dims x.node.mover)) own (n - 1))) (sym (round_first (R.round (h r 0)) (n - 1) (first_of r low) (omega (arith, last, few)))) ∙ i.passed.goes (n - 1) last in
               let sums : heard (ranks dims) (lists r) (n - 1) ≡ votes_at R starts (n - 1) = run.sums r (n - 1) low (omega (arith, full, some)) in
-              let sums' : heard (ranks (dims_of x.node.mover)) own (n - 1) ≡ votes_at R starts (n - 1) =
+              let sums' : heard (ranks (mover_dims x.node.mover)) own (n - 1) ≡ votes_at R starts (n - 1) =
               ap (λ ds. heard (ranks ds) own (n - 1)) d ∙ (ap (λ l. heard (ranks dims) l (n - 1)) (sym same) ∙ sums) in
               let shapes : R.shape (h r (n - 1)) ≡ shape_of R starts = ap R.shape (sym hist) ∙ shape_at (n - 1) r low (omega (arith, full, some)) in
               absurd (both_ways (R.goes_on (shape_of R starts) (n - 1) (votes_at R starts (n - 1))) rounds.stops
-              (ap (λ k. R.goes_on (shape_of R starts) (n - 1) k) (sym sums') ∙ (ap (λ a. R.goes_on a (n - 1) (heard (ranks (dims_of x.node.mover)) own (n - 1))) (sym shapes) ∙ goes)))
+              (ap (λ k. R.goes_on (shape_of R starts) (n - 1) k) (sym sums') ∙ (ap (λ a. R.goes_on a (n - 1) (heard (ranks (mover_dims x.node.mover)) own (n - 1))) (sym shapes) ∙ goes)))
         ] where
           round_is : (v : Bool) (m : ℕ) {e : ℕ} → e ≡ epoch_of m v → e ≡ 2 * n → 0 < n → n - 1 + 1 ≡ m
           round_is true m is e some = absurd (omega (arith, is, e))
@@ -364,16 +364,16 @@ module _ {S : Type 0} (R : Rules S) (laws : Laws R) (law : ClosesLaws) (dims : L
         let t = (w.each r x at).stopped over in
         let i = t.node in
         let few : x.node.run.round ≤ 2 ^ 63 = i.passed.few in
-        let d : dims_of x.node.mover ≡ dims = (w.each r x at).same_dims in
+        let d : mover_dims x.node.mover ≡ dims = (w.each r x at).same_dims in
         let m : ℕ = x.node.run.round in
         let e : epoch_in x.node.mover ≡ 2 * m + 1 = epoch_is x.node.mover _ _ i ∙ ap (epoch_of m) t.voting in
         let here : completed r ≡ epoch_in x.node.mover + 1 = ap progress_in at ∙ ap (λ b. cond b (epoch_in x.node.mover + 1) (epoch_in x.node.mover)) over in
         let full : completed r ≡ 2 * m + 2 = omega (arith, here, e) in
-        let own : PairLists = lists_of (part_in x.node.mover (starting_at dims r sent) (ending_at dims r got)) in
-        let same : lists r ≡ own = ap (λ o. lists_of (part_in (mover_in o) (starting_at dims r sent) (ending_at dims r got))) at in
-        let hist : (k : ℕ) → history r k ≡ extended (h r) (m + 1) x.node.run.prog k = λ k. ap (λ o. history_in (h r) o k) at ∙ ap (λ b. cond b (extended (h r) (m + 1) x.node.run.prog) (h r) k) over in
-        let worked' : t.worked ≡ worked R (ranks (dims_of x.node.mover)) (h r) own m = i.within.works t.unspoiled in
-        let alike : SameRound R (h r m) t.worked = subst (SameRound R (h r m)) (sym worked') (pulls_same R laws (h r m) (own.pulled (2 * m)) (ranks (dims_of x.node.mover)) i.passed.valid) in
+        let own : PairLists = part_lists (part_in x.node.mover (starting_at dims r sent) (ending_at dims r got)) in
+        let same : lists r ≡ own = ap (λ o. part_lists (part_in (mover_in o) (starting_at dims r sent) (ending_at dims r got))) at in
+        let hist : (k : ℕ) → history r k ≡ with_next (h r) (m + 1) x.node.run.prog k = λ k. ap (λ o. history_in (h r) o k) at ∙ ap (λ b. cond b (with_next (h r) (m + 1) x.node.run.prog) (h r) k) over in
+        let worked' : t.worked ≡ after_work R (ranks (mover_dims x.node.mover)) (h r) own m = i.within.works t.unspoiled in
+        let alike : SameRound R (h r m) t.worked = subst (SameRound R (h r m)) (sym worked') (pulls_same R laws (h r m) (own.pulled (2 * m)) (ranks (mover_dims x.node.mover)) i.passed.valid) in
         let at_m : history r m ≡ h r m = hist m ∙ extended_before (h r) (m + 1) x.node.run.prog m (λ q. omega (arith, q)) in
         let sums : x.node.run.sum ≡ heard (ranks dims) (lists r) m = i.within.hears t.voting ∙ (ap (λ ds. heard (ranks ds) own m) d ∙ ap (λ l. heard (ranks dims) l m) (sym same)) in
         let stops : R.goes_on (R.shape (history r m)) m (heard (ranks dims) (lists r) m) ≡ false =
@@ -381,4 +381,4 @@ module _ {S : Type 0} (R : Rules S) (laws : Laws R) (law : ClosesLaws) (dims : L
         ∙ (ap (λ k. R.goes_on (R.shape t.worked) k (heard (ranks dims) (lists r) m)) (sym (alike.round ∙ (i.passed.own_round ∙ round_first (R.round (h r 0)) m (first_of r low) (omega (arith, few))))) ∙ (ap (R.goes_on (R.shape t.worked) (R.round t.worked)) (sym sums) ∙ t.stops))) in
         let last : m + 1 ≡ n = run.stopped n r m rounds low (omega (arith, full)) stops in
         let state : slice_get (states_at R starts n) r ≡ Some (history r n) = run.states r n low (omega (arith, full, last)) in
-        (omega (arith, e, last), state ∙ ap Some (hist n ∙ (ap (extended (h r) (m + 1) x.node.run.prog) (sym last) ∙ extended_at (h r) (m + 1) x.node.run.prog)))
+        (omega (arith, e, last), state ∙ ap Some (hist n ∙ (ap (with_next (h r) (m + 1) x.node.run.prog) (sym last) ∙ extended_at (h r) (m + 1) x.node.run.prog)))

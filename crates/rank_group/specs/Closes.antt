@@ -10,7 +10,7 @@ use Rattle.exstack.specs.Lockstep.{RoomLaw, ArrivalLaw}
 -- other, and what a reader got in a cycle its sender sent in the same.
 pub record ClosesLaws : Type 0 where
   pub conveyors : conveyors.ClosesLaw
-  pub exstacks : exstacks.ClosesLaw
+  pub exstacks : exstacks.StackClosesLaw
   pub room : RoomLaw
   pub arrival : ArrivalLaw
   pub cycles : CyclesLaw

@@ -10,7 +10,7 @@ use Rattle.rank_group.specs.declared.drive.Finished.{Finished}
 use Rattle.rank_group.specs.declared.defaults.Settings.{Settings}
 use Rattle.rank_group.specs.declared.defaults.Slots.{Slots}
 use Rattle.rank_group.specs.declared.defaults.Slots.TheVariants.{One, Two, Four, Eight}
-use Rattle.rank_group.specs.Driven.{MayRun, HasFinished}
+use Rattle.rank_group.specs.DrivePromises.{MayRun, HasFinished}
 use Rattle.rank_group.specs.Turns.{SweptBy}
 
 -- The number of slots of a link.

@@ -1,7 +1,7 @@
 -- The ranks of a drive, as it begins and ends.
 use Rattle.std.specs.Prelude.{◌≡◌, ◌≤◌, ℕ, false, List, [], length, map, slice_get, Some}
 use Rattle.round_program.specs.Rules.{Rules}
-use Rattle.rank_node.specs.Movers.{Manner, dims_of, rank_of, epoch_in, manner_in, HasCap, NoneUnread}
+use Rattle.rank_node.specs.Movers.{Manner, mover_dims, mover_rank, epoch_in, manner_in, HasCap, NoneUnread}
 use Rattle.rank_node.specs.Nodes.{IsNode}
 use Rattle.rank_node.specs.Cycles.{IsInCycle}
 use Rattle.rank_group.specs.Ranks.{RankState}
@@ -12,11 +12,11 @@ progs_of rs = map (λ n. n.node.run.prog) rs
 
 -- A rank that hasn't turned: on its port nothing was sent or got, and nothing is unread. Over an
 -- exstack it is in cycle 0.
-pub record IsFresh {S : Type 0} (R : Rules S) (dims : List ℕ) (cap : ℕ) (manner : Manner) (r : ℕ)
+pub record IsFreshRank {S : Type 0} (R : Rules S) (dims : List ℕ) (cap : ℕ) (manner : Manner) (r : ℕ)
     (n : RankState S) : Type 0 where
   pub on : n.over ≡ false
-  pub same_dims : dims_of n.node.mover ≡ dims
-  pub same_rank : rank_of n.node.mover ≡ r
+  pub same_dims : mover_dims n.node.mover ≡ dims
+  pub same_rank : mover_rank n.node.mover ≡ r
   pub same_manner : manner_in n.node.mover ≡ manner
   pub same_cap : HasCap cap n.node.mover
   pub epoch : epoch_in n.node.mover ≡ 0
@@ -29,4 +29,4 @@ pub record IsFresh {S : Type 0} (R : Rules S) (dims : List ℕ) (cap : ℕ) (man
 pub record AreFresh {S : Type 0} (R : Rules S) (dims : List ℕ) (cap : ℕ) (manner : Manner) (progs : List S)
     (rs : List (RankState S)) : Type 0 where
   pub programs : progs_of rs ≡ progs
-  pub each : (r : ℕ) (n : RankState S) → slice_get rs r ≡ Some n → IsFresh R dims cap manner r n
+  pub each : (r : ℕ) (n : RankState S) → slice_get rs r ≡ Some n → IsFreshRank R dims cap manner r n

@@ -8,7 +8,7 @@ use Rattle.route_tensor.specs.Link.{links}
 use Rattle.route_tensor.specs.Ends.{sender_at, reader_at}
 use Rattle.port_bank.specs.Logs.{Logs, starting_at, ending_at, starting_elsewhere, ending_elsewhere}
 use Rattle.port_bank.specs.Link.{LinkLaw}
-use Rattle.port_bank.specs.Flow.{Begins}
+use Rattle.port_bank.specs.Flow.{IsPrefix}
 use Rattle.hop_core.specs.State.{State}
 use Rattle.convey.specs.Buffers.{is_complete}
 use Rattle.exstack.specs.State.{Stack}
@@ -16,7 +16,7 @@ use Rattle.exstack.specs.Parts.{is_all_done}
 use Rattle.round_program.specs.Rules.{Rules}
 use Rattle.rank_node.specs.declared.turn.Turn.{Turn}
 use Rattle.rank_node.specs.declared.turn.Turn.TheVariants.{Going, Ended}
-use Rattle.rank_node.specs.Movers.{MoverState, Manner, IsShape, dims_of, rank_of, epoch_in, manner_in, has_completed}
+use Rattle.rank_node.specs.Movers.{MoverState, Manner, IsLogShape, mover_dims, mover_rank, epoch_in, manner_in, has_completed}
 use Rattle.rank_node.specs.Movers.{HasCap, lying}
 use Rattle.rank_node.specs.Movers.MoverState.{Conveying, Stacking}
 use Rattle.rank_node.specs.Nodes.{NodeState, IsNode}
@@ -41,13 +41,13 @@ pub record IsOrder (p : ℕ) (order : List ℕ) : Type 0 where
 -- round m began.
 pub record IsRank {S : Type 0} (R : Rules S) (dims : List ℕ) (cap : ℕ) (manner : Manner) (r : ℕ) (h : ℕ → S)
     (n : RankState S) (sent got : Logs) : Type 0 where
-  pub same_dims : dims_of n.node.mover ≡ dims
-  pub same_rank : rank_of n.node.mover ≡ r
+  pub same_dims : mover_dims n.node.mover ≡ dims
+  pub same_rank : mover_rank n.node.mover ≡ r
   pub same_manner : manner_in n.node.mover ≡ manner
   pub same_cap : HasCap cap n.node.mover
   pub runs : n.over ≡ false → IsNode R h n.node sent got
   pub stopped : n.over ≡ true → HasStopped R h n.node sent got
-  pub shape : (l : ℕ) → l < links dims → sender_at dims l ≡ r → IsShape manner cap (sent l)
+  pub shape : (l : ℕ) → l < links dims → sender_at dims l ≡ r → IsLogShape manner cap (sent l)
 
 -- The same over the logs of all ranks.
 abbrev pub HasRank : {S : Type 0} → Rules S → List ℕ → ℕ → Manner → ℕ → (ℕ → S) → RankState S → Logs → Logs → Type 0
@@ -83,18 +83,18 @@ pub record AfterTurn {S : Type 0} (R : Rules S) (dims : List ℕ) (cap slots r :
     (sent got sent' got' : Logs) : Type 0 where
   pub sent_elsewhere : starting_elsewhere dims r sent' ≡ starting_elsewhere dims r sent
   pub got_elsewhere : ending_elsewhere dims r got' ≡ ending_elsewhere dims r got
-  pub node_dims : dims_of n'.mover ≡ dims_of n.mover
-  pub node_rank : rank_of n'.mover ≡ rank_of n.mover
+  pub node_dims : mover_dims n'.mover ≡ mover_dims n.mover
+  pub node_rank : mover_rank n'.mover ≡ mover_rank n.mover
   pub node_manner : manner_in n'.mover ≡ manner_in n.mover
   pub node_cap : HasCap cap n'.mover
   pub node_epoch : epoch_in n'.mover ≡ epoch_in n.mover
-  pub sent_grows : (l : ℕ) → Begins (starting_at dims r sent l) (starting_at dims r sent' l)
-  pub got_grows : (l : ℕ) → Begins (ending_at dims r got l) (ending_at dims r got' l)
+  pub sent_grows : (l : ℕ) → IsPrefix (starting_at dims r sent l) (starting_at dims r sent' l)
+  pub got_grows : (l : ℕ) → IsPrefix (ending_at dims r got l) (ending_at dims r got' l)
   pub one_sent : (l : ℕ) → l < links dims → sender_at dims l ≡ r
       → length (starting_at dims r sent' l) ≤ length (starting_at dims r sent l) + 1
   pub shape : (l : ℕ) → l < links dims → sender_at dims l ≡ r
-      → IsShape (manner_in n.mover) cap (starting_at dims r sent l)
-      → IsShape (manner_in n.mover) cap (starting_at dims r sent' l)
+      → IsLogShape (manner_in n.mover) cap (starting_at dims r sent l)
+      → IsLogShape (manner_in n.mover) cap (starting_at dims r sent' l)
   pub lies : (l : ℕ) (more : List Shipped) → l < links dims → reader_at dims l ≡ r
       → ending_at dims r got' l ≡ ending_at dims r got l ++ more
       → lying n'.mover l ≤ lying n.mover l + length (flat_map (λ p. p.entries) more)
@@ -162,8 +162,8 @@ pub record StaysIn {S : Type 0} (R : Rules S) (dims : List ℕ) (slots r : ℕ) 
 pub record EndsEpoch {S : Type 0} (R : Rules S) (dims : List ℕ) (r : ℕ) (n n' : RankState S)
     (sent got sent' got' : Logs) : Type 0 where
   pub at_end : NodeState S
-  pub same_dims : dims_of at_end.mover ≡ dims_of n.node.mover
-  pub same_rank : rank_of at_end.mover ≡ rank_of n.node.mover
+  pub same_dims : mover_dims at_end.mover ≡ mover_dims n.node.mover
+  pub same_rank : mover_rank at_end.mover ≡ mover_rank n.node.mover
   pub same_manner : manner_in at_end.mover ≡ manner_in n.node.mover
   pub epoch : epoch_in at_end.mover ≡ epoch_in n.node.mover
   pub cycle : (quota : ℕ → ℕ) (k : ℕ)
@@ -188,8 +188,8 @@ pub record AfterRank {S : Type 0} (R : Rules S) (dims : List ℕ) (cap slots r :
     (sent got sent' got' : Logs) : Type 0 where
   pub sent_elsewhere : starting_elsewhere dims r sent' ≡ starting_elsewhere dims r sent
   pub got_elsewhere : ending_elsewhere dims r got' ≡ ending_elsewhere dims r got
-  pub sent_grows : (l : ℕ) → Begins (starting_at dims r sent l) (starting_at dims r sent' l)
-  pub got_grows : (l : ℕ) → Begins (ending_at dims r got l) (ending_at dims r got' l)
+  pub sent_grows : (l : ℕ) → IsPrefix (starting_at dims r sent l) (starting_at dims r sent' l)
+  pub got_grows : (l : ℕ) → IsPrefix (ending_at dims r got l) (ending_at dims r got' l)
   pub one_sent : (l : ℕ) → l < links dims → sender_at dims l ≡ r
       → length (starting_at dims r sent' l) ≤ length (starting_at dims r sent l) + 1
   pub lies : (l : ℕ) (more : List Shipped) → l < links dims → reader_at dims l ≡ r

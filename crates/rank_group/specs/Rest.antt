@@ -6,7 +6,7 @@ use Rattle.route_tensor.specs.Link.{links}
 use Rattle.port_bank.specs.Logs.{Logs, starting_at, ending_at}
 use Rattle.port_bank.specs.Link.{LinkLaw}
 use Rattle.round_program.specs.Rules.{Rules}
-use Rattle.rank_node.specs.Movers.{dims_of, rank_of, epoch_in, manner_in, has_completed, lying}
+use Rattle.rank_node.specs.Movers.{mover_dims, mover_rank, epoch_in, manner_in, has_completed, lying}
 use Rattle.rank_node.specs.Movers.Manner.{ByConveyor}
 use Rattle.rank_node.specs.Nodes.{NodeState, IsNode}
 use Rattle.rank_node.specs.Moves.{Waits}
@@ -16,8 +16,8 @@ use Rattle.rank_group.specs.Ranks.{crowded_in, idle_in}
 -- as round m began.
 pub record Conveys {S : Type 0} (R : Rules S) (dims : List ℕ) (steady : Bool) (r : ℕ) (h : ℕ → S)
     (n : NodeState S) (sent got : Logs) : Type 0 where
-  pub same_dims : dims_of n.mover ≡ dims
-  pub same_rank : rank_of n.mover ≡ r
+  pub same_dims : mover_dims n.mover ≡ dims
+  pub same_rank : mover_rank n.mover ≡ r
   pub manner : manner_in n.mover ≡ ByConveyor steady
   pub node : IsNode R h n (starting_at dims r sent) (ending_at dims r got)
 

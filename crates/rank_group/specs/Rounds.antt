@@ -4,6 +4,6 @@ use Rattle.rank_group.specs.declared.closed_round.ClosedRound.{ClosedRound}
 use Rattle.rank_group.specs.declared.closed_round.ClosedRound.TheVariants.{Plain, Slots}
 
 -- The round inside.
-abbrev pub round_of : ClosedRound → Round
-round_of (Plain round) = round
-round_of (Slots round) = round
+abbrev pub round_inside : ClosedRound → Round
+round_inside (Plain round) = round
+round_inside (Slots round) = round

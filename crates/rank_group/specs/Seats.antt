@@ -1,9 +1,9 @@
 -- Ranks that sit at a slot bank.
 use Rattle.std.specs.Prelude.{◌≡◌, ℕ, ◌<◌, ◌≤◌, Bool, true, false, List, slice_get, Some}
-use Rattle.link_slots.specs.Seen.{Identity, Manning, posted_on, collected_from}
+use Rattle.link_slots.specs.SeatView.{Identity, Manning, posted_on, collected_from}
 use Rattle.round_program.specs.Rules.{Rules}
 use Rattle.rank_node.specs.Movers.{Manner}
-use Rattle.rank_group.specs.Noted.{HasSame}
+use Rattle.rank_group.specs.TurnNotes.{HasSame}
 use Rattle.rank_group.specs.Ranks.{RankState, IsRank, progress}
 
 -- A rank and its seat: how many turns it made, and whether memory was wanting at the end of its

@@ -2,9 +2,9 @@
 ghost use Rattle.std.specs.Prelude.{◌≡◌, ◌++◌, ◌∷◌, [], List, length, slice_get, OnOk, OnErr};
 ghost use Rattle.std.specs.Option.{option_copied};
 ghost use Rattle.route_tensor.specs.Grid.{ranks};
-ghost use Rattle.list_laws.specs.Counts.{counted};
+ghost use Rattle.list_laws.specs.Counts.{saturated_count};
 ghost use Rattle.port_bank.specs.Round.{IsRound, epochs_of};
-ghost use Rattle.rank_group.specs.Rounds.{round_of};
+ghost use Rattle.rank_group.specs.Rounds.{round_inside};
 
 use bale_items::NoMemory;
 use link_slots::SlotRound;
@@ -24,8 +24,8 @@ pub enum ClosedRound {
 impl ClosedRound {
     /// The number of ranks.
     pub fn ranks(&self) -> u32
-        ensures value { result ≡ ranks (round_of self.now).dims }
-        ensures round { IsRound (round_of self.now) }
+        ensures value { result ≡ ranks (round_inside self.now).dims }
+        ensures round { IsRound (round_inside self.now) }
     {
         match self {
             ClosedRound::Plain(round) => round.ranks(),
@@ -35,8 +35,8 @@ impl ClosedRound {
 
     /// How many epochs every link has ended. The count stands still at the last number.
     pub fn epochs(&self) -> u64
-        ensures value { result ≡ counted (epochs_of (round_of self.now)) }
-        ensures round { IsRound (round_of self.now) }
+        ensures value { result ≡ saturated_count (epochs_of (round_inside self.now)) }
+        ensures round { IsRound (round_inside self.now) }
     {
         match self {
             ClosedRound::Plain(round) => round.epochs(),

@@ -4,7 +4,7 @@ ghost use Rattle.std.specs.List.{range_with_len};
 ghost use Rattle.port_bank.specs.Port.{IsSlots};
 ghost use Rattle.rank_node.specs.Movers.{manner_of};
 ghost use Rattle.rank_group.specs.Ranks.{IsOrder};
-ghost use Rattle.rank_group.specs.Driven.{MayRun, HasFinished};
+ghost use Rattle.rank_group.specs.DrivePromises.{MayRun, HasFinished};
 ghost use Rattle.rank_group.specs.Defaults.{count_of, usual, HasDriven};
 ghost use Rattle.bale_items.specs.Ledgers.{IsBlankOf};
 ghost use Rattle.rank_node.specs.Fits.{FitsGrid};

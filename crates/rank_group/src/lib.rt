@@ -18,9 +18,9 @@
 //! On threads workers poll the ranks, as rank_crews has them: its `Gate`, `Seated` and
 //! `run_together` are passed on here.
 //!
-//! `specs/Told` says what the closed round of a run tells, and how many turns a run takes at most.
-//! `specs/Rounds` says what contracts see of a closed round, `specs/Ranks` begins with what an
-//! order of the ranks is, `specs/Turns` says what sweeps in one order are. The others are the
+//! `specs/Transcript` says what the closed round of a run tells, and how many turns a run takes at
+//! most. `specs/Rounds` says what contracts see of a closed round, `specs/Ranks` begins with what
+//! an order of the ranks is, `specs/Turns` says what sweeps in one order are. The others are the
 //! code's own.
 #![tactic(auto)]
 

@@ -34,7 +34,9 @@ pub fn one_by_one<T: Drop>(alloc: Global, list: Vec<T>) -> Result<OneByOne<T>, N
     ensures { IfOk result (λ o. o ≡ list.items) }
 {
     let mut list = list;
-    let mut left = Vec::with_capacity(alloc, list.len())?;
+    let Ok(mut left) = Vec::with_capacity(alloc, list.len()) else {
+        return Err(NoMemory);
+    };
     while let Some(x) = list.pop() {
         left.push_reserved(x);
     }

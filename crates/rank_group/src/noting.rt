@@ -1,7 +1,7 @@
 //! A port that notes whether a parcel moved.
 ghost use Rattle.std.specs.Prelude.{◌≡◌, ◌+◌, ◌==◌, true, false, length, refl};
-ghost use Rattle.link_slots.specs.Seen.{posted_on, collected_from};
-ghost use Rattle.rank_group.specs.Noted.{HasSame, NoLess};
+ghost use Rattle.link_slots.specs.SeatView.{posted_on, collected_from};
+ghost use Rattle.rank_group.specs.TurnNotes.{HasSame, NoLess};
 
 use bale_items::NoMemory;
 use item_buffer::Parcel;
@@ -67,8 +67,8 @@ impl<'a, const CAP: usize> NotingPort<'a, CAP> {
 impl<'a, const CAP: usize> Port<CAP> for NotingPort<'a, CAP> {
     ghost use Rattle.std.specs.Prelude.{◌+◌, ◌==◌, length, refl};
     ghost use Rattle.link_slots.specs.Logs.{out_of};
-    ghost use Rattle.link_slots.specs.Does.{DidPost, DidCollect};
-    ghost use Rattle.link_slots.specs.Seen.{posted_on, collected_from, freed, known, listened, noted_at, named};
+    ghost use Rattle.link_slots.specs.PortCalls.{DidPost, DidCollect};
+    ghost use Rattle.link_slots.specs.SeatView.{posted_on, collected_from, freed_on, known_on, listens_on, noted_at, table_name};
     ghost use Rattle.port_bank.specs.Calls.{calls_of};
 
     type Memory = Fixed;
@@ -83,27 +83,27 @@ impl<'a, const CAP: usize> Port<CAP> for NotingPort<'a, CAP> {
 
     ghost got = { λ p. collected_from p.port.seat };
 
-    ghost freed = { λ p l. freed p.port.seat l };
+    ghost freed = { λ p l. freed_on p.port.seat l };
 
-    ghost crowded = { λ p l. length (posted_on p.port.seat l) == freed p.port.seat l + p.port.seat.shape.slots };
+    ghost crowded = { λ p l. length (posted_on p.port.seat l) == freed_on p.port.seat l + p.port.seat.shape.slots };
 
-    ghost known = { λ p l. known p.port.seat l };
+    ghost known = { λ p l. known_on p.port.seat l };
 
-    ghost idle = { λ p l. length (collected_from p.port.seat l) == known p.port.seat l };
+    ghost idle = { λ p l. length (collected_from p.port.seat l) == known_on p.port.seat l };
 
     ghost calls = { λ p. calls_of p.port.calls.value };
 
     ghost looks_out = { λ p l. (out_of p.port.seat.lists l).looks };
 
-    ghost looks_in = { λ p l. listened p.port.seat l };
+    ghost looks_in = { λ p l. listens_on p.port.seat l };
 
-    ghost listens = { λ p l. listened p.port.seat l };
+    ghost listens = { λ p l. listens_on p.port.seat l };
 
     ghost noted = { λ p l. noted_at p.port.seat l };
 
     // What it had at the latest `watch` no call changes.
     ghost others = { λ p. record {
-      bank = named p.port.seat.id;
+      bank = table_name p.port.seat.id;
       sent = posted_on p.first.value.seat;
       got = collected_from p.first.value.seat;
     } };

@@ -28,7 +28,9 @@ pub(crate) fn ranks_of<const CAP: usize, const HOPS: usize, Q: Program>(
     ensures fresh { IfOk result (λ all. AreFresh Q.rules grid.now CAP (manner_of via steady) progs all.items) }
 {
     let mut progs = progs;
-    let mut all = Vec::with_capacity(alloc, progs.len())?;
+    let Ok(mut all) = Vec::with_capacity(alloc, progs.len()) else {
+        return Err(NoMemory);
+    };
     while let Some(prog) = progs.take_first() {
         let node = Node::new(alloc, grid, via, prog, steady)?;
         all.push_reserved(Rank { node, over: false });
@@ -44,7 +46,10 @@ pub(crate) fn take_progs<const CAP: usize, const HOPS: usize, Q: Program>(
     ensures progs { IfOk result (λ ps. ps ≡ progs_of all.items) }
 {
     let mut progs = Progs::new(alloc);
-    for rank in one_by_one(alloc, all)? {
+    let Ok(all) = one_by_one(alloc, all) else {
+        return Err(NoMemory);
+    };
+    for rank in all {
         let Rank { node, over: _ } = rank;
         progs.add(node.into_prog())?;
     }

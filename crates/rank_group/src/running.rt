@@ -5,8 +5,8 @@ ghost use Rattle.route_tensor.specs.Grid.{ranks};
 ghost use Rattle.route_tensor.specs.Link.{links};
 ghost use Rattle.port_bank.specs.Plain.{IsBank, sent_of, got_of};
 ghost use Rattle.rank_node.specs.Movers.{Manner};
-ghost use Rattle.rank_group.specs.Told.{turns_within};
-ghost use Rattle.rank_group.specs.Worlds.{Plan, World, KeepsBank, all_progress};
+ghost use Rattle.rank_group.specs.Transcript.{turns_within};
+ghost use Rattle.rank_group.specs.RanksOverBank.{DrivePlan, World, KeepsBank, all_progress};
 ghost use Rattle.rank_group.specs.Drives.{progs_of};
 ghost use Rattle.rank_group.specs.Ranks.{RankState, IsOrder};
 ghost use Rattle.rank_group.specs.Turns.{SweepsOf};
@@ -29,7 +29,7 @@ pub(crate) fn run_all<const CAP: usize, const HOPS: usize, Q: Program, L: Ledger
     requires order { IsOrder (ranks bank.dims) order.now }
     requires lawful { IsBank CAP bank }
     requires world { (manner : Manner) × (n : ℕ) × (h : ℕ → ℕ → Q)
-        × (plan : Plan Q.rules bank.dims bank.slots (progs_of all.old.items) n) × (n ≤ plan.most)
+        × (plan : DrivePlan Q.rules bank.dims bank.slots (progs_of all.old.items) n) × (n ≤ plan.most)
         × World Q.rules bank.dims CAP bank.slots manner (progs_of all.old.items) h all.old.items (sent_of bank)
         (got_of bank) }
     ensures bank { IfOk result (KeepsBank CAP bank.entry) }
@@ -39,7 +39,7 @@ pub(crate) fn run_all<const CAP: usize, const HOPS: usize, Q: Program, L: Ledger
         (record { ranks = all.new.items; sent = sent_of b; got = got_of b; turns = steps.new })) }
     ensures over { OnOk result ((r : ℕ) (x : RankState Q) → slice_get all.new.items r ≡ Some x → x.over ≡ true) }
     ensures world { (manner : Manner) (starts : _) (n : ℕ) (h : ℕ → ℕ → Q)
-        → Plan Q.rules bank.entry.dims bank.entry.slots starts n
+        → DrivePlan Q.rules bank.entry.dims bank.entry.slots starts n
         → World Q.rules bank.entry.dims CAP bank.entry.slots manner starts h all.old.items (sent_of bank.entry)
         (got_of bank.entry)
         → IfOk result (λ b. (g : ℕ → ℕ → Q)
@@ -51,7 +51,7 @@ pub(crate) fn run_all<const CAP: usize, const HOPS: usize, Q: Program, L: Ledger
     ensures posted { IfOk result (λ b. (l : ℕ) → l < links bank.entry.dims
         → length (sent_of b l) + steps.old ≤ length (sent_of bank.entry l) + steps.new) }
     ensures steps { (manner : Manner) (starts : _) (n : ℕ) (h : ℕ → ℕ → Q)
-        → Plan Q.rules bank.entry.dims bank.entry.slots starts n
+        → DrivePlan Q.rules bank.entry.dims bank.entry.slots starts n
         → World Q.rules bank.entry.dims CAP bank.entry.slots manner starts h all.old.items (sent_of bank.entry)
         (got_of bank.entry)
         → steps.new ≤ steps.old + turns_within Q.rules manner bank.entry.dims starts n }

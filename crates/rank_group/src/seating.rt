@@ -35,9 +35,14 @@ pub(crate) fn seat_all<'a, const CAP: usize, const HOPS: usize, Q: Program>(
         → AreFresh Q.rules bank.now.shape.dims CAP manner starts all.items
         → IfOk result (λ xs. AreSeated Q.rules CAP manner bank.now xs.items) }
 {
-    let mut seated = Vec::with_capacity(alloc, all.len())?;
+    let Ok(mut seated) = Vec::with_capacity(alloc, all.len()) else {
+        return Err(NoMemory);
+    };
     let mut number = 0;
-    for rank in one_by_one(alloc, all)? {
+    let Ok(all) = one_by_one(alloc, all) else {
+        return Err(NoMemory);
+    };
+    for rank in all {
         let seat = bank.seat(gather, number);
         let port = NotingPort::new(bank.port(seat));
         seated.push_reserved(AtPort {
@@ -72,8 +77,13 @@ pub(crate) fn gather_all<'a, const CAP: usize, const HOPS: usize, Q: Program>(
     ensures there { OnOk result (EachAt (λ r y. slice_index_or gather.new.lists r None
         ≡ Some y.seat.lists) ended.entry.items) }
 {
-    let mut ranks = Vec::with_capacity(alloc, ended.len())?;
-    for seated in one_by_one(alloc, ended)? {
+    let Ok(mut ranks) = Vec::with_capacity(alloc, ended.len()) else {
+        return Err(NoMemory);
+    };
+    let Ok(ended) = one_by_one(alloc, ended) else {
+        return Err(NoMemory);
+    };
+    for seated in ended {
         let AtPort {
             _before: _,
             rank,

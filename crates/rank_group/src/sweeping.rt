@@ -14,9 +14,9 @@ ghost use Rattle.route_tensor.specs.Link.{links};
 ghost use Rattle.port_bank.specs.Plain.{IsBank, sent_of, got_of};
 ghost use Rattle.port_bank.specs.Logs.{starting_at, ending_at};
 ghost use Rattle.rank_group.specs.Closes.{ClosesLaws};
-ghost use Rattle.rank_node.specs.Movers.{Manner, dims_of, rank_of, epoch_in};
+ghost use Rattle.rank_node.specs.Movers.{Manner, mover_dims, mover_rank, epoch_in};
 ghost use Rattle.rank_node.specs.Nodes.{IsNode};
-ghost use Rattle.rank_group.specs.Worlds.{Plan, World, SweptTo, KeepsBank, all_progress};
+ghost use Rattle.rank_group.specs.RanksOverBank.{DrivePlan, World, SweptTo, KeepsBank, all_progress};
 ghost use Rattle.rank_group.specs.Ranks.{RankState, HasRank, AfterTurn, AfterRank, IsOrder};
 ghost use Rattle.rank_group.specs.Turns.{TurnsOf, turn_count};
 
@@ -83,8 +83,8 @@ fn turn_node<const CAP: usize, const HOPS: usize, Q: Program, L: Ledger>(
     steps: &mut Steps<L>,
 ) -> Result<(PlainBank<CAP>, Turn), NoMemory>
     requires number { number < ranks bank.dims }
-    requires same_dims { dims_of node.old.mover ≡ bank.dims }
-    requires same_rank { rank_of node.old.mover ≡ number }
+    requires same_dims { mover_dims node.old.mover ≡ bank.dims }
+    requires same_rank { mover_rank node.old.mover ≡ number }
     requires node { (h : ℕ → Q) × IsNode Q.rules h node.old (starting_at bank.dims number (sent_of bank))
         (ending_at bank.dims number (got_of bank)) }
     ensures bank { IfOk result (λ b. KeepsBank CAP bank.entry b.0) }
@@ -107,7 +107,7 @@ fn turn_one<const CAP: usize, const HOPS: usize, Q: Program, L: Ledger>(
     requires number { number < ranks bank.dims }
     requires law { ClosesLaws }
     requires world { (manner : Manner) × (starts : List Q) × (n : ℕ) × (h : ℕ → ℕ → Q)
-        × Plan Q.rules bank.dims bank.slots starts n
+        × DrivePlan Q.rules bank.dims bank.slots starts n
         × World Q.rules bank.dims CAP bank.slots manner starts h all.old.items (sent_of bank) (got_of bank) }
     ensures size { length all.new.items ≡ length all.old.items }
     ensures others { (k : ℕ) → k ≢ number → slice_get all.new.items k ≡ slice_get all.old.items k }
@@ -135,7 +135,7 @@ pub(crate) fn sweep<const CAP: usize, const HOPS: usize, Q: Program, L: Ledger>(
     requires order { IsOrder (ranks bank.dims) order.now }
     requires lawful { IsBank CAP bank }
     requires world { (manner : Manner) × (starts : List Q) × (n : ℕ) × (h : ℕ → ℕ → Q)
-        × Plan Q.rules bank.dims bank.slots starts n
+        × DrivePlan Q.rules bank.dims bank.slots starts n
         × World Q.rules bank.dims CAP bank.slots manner starts h all.old.items (sent_of bank) (got_of bank) }
     ensures bank { IfOk result (KeepsBank CAP bank.entry) }
     ensures most_steps { steps.new ≤ steps.old + length order.now }
@@ -151,7 +151,7 @@ pub(crate) fn sweep<const CAP: usize, const HOPS: usize, Q: Program, L: Ledger>(
         (record { ranks = all.old.items; sent = sent_of bank.entry; got = got_of bank.entry; turns = steps.old })
         (record { ranks = all.new.items; sent = sent_of b; got = got_of b; turns = steps.new })) }
     ensures swept { (manner : Manner) (starts : List Q) (n : ℕ) (h : ℕ → ℕ → Q)
-        → Plan Q.rules bank.entry.dims bank.entry.slots starts n
+        → DrivePlan Q.rules bank.entry.dims bank.entry.slots starts n
         → (w : World Q.rules bank.entry.dims CAP bank.entry.slots manner starts h all.old.items (sent_of bank.entry)
         (got_of bank.entry))
         → IfOk result (λ b. SweptTo Q.rules bank.entry.dims CAP bank.entry.slots manner starts order.now

@@ -2,7 +2,7 @@
 ghost use Rattle.std.specs.Prelude.{◌<◌, true, IfOk, OnOk};
 ghost use Rattle.port_bank.specs.Port.{IsSlots};
 ghost use Rattle.rank_node.specs.Movers.{manner_of};
-ghost use Rattle.rank_group.specs.Driven.{MayRun, HasFinished, ToldOfTurns};
+ghost use Rattle.rank_group.specs.DrivePromises.{MayRun, HasFinished, ToldOfTurns};
 ghost use Rattle.rank_node.specs.Fits.{FitsGrid};
 
 use crate::closed_round::{ClosedRound, Rounds};

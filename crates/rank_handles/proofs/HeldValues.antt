@@ -11,7 +11,7 @@ use denote.Steps.{nothing}
 use denote.Struct.Struct.{within}
 use denote.Struct.Owning.{shape}
 use Rattle.rank_handles.specs.declared.part.Part.{Part}
-use Rattle.rank_handles.specs.Holds.{holds}
+use Rattle.rank_handles.specs.Ownership.{holds}
 use Rattle.rank_handles.specs.contracts.held.Held as held
 
 abbrev pub lone_ptr : Ptr → Val

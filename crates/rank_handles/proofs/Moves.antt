@@ -1,24 +1,25 @@
 -- From what a conveyor's call tells to what a rank's call tells.
 use Rattle.std.proofs.Common.{◌≡◌, ◌≢◌, ◌<◌, ℕ, Bool, true, false, refl, sym, ap, ◌∙◌, subst, nat_lt, Option, Some, None, Result, Err, IfOk, IfSome, not}
-use Rattle.std.specs.Prelude.{if◌then◌else◌}
+use Rattle.std.specs.Prelude.{if◌then◌else◌, is_some}
 use Rattle.std.proofs.lemmas.Bool.{lt-ltb}
 use Rattle.bale_items.specs.declared.item.Item.{Item}
 use Rattle.route_tensor.specs.Grid.{ranks}
 use Rattle.port_bank.specs.Machine.{Step, IsOwnStep}
-use Rattle.port_bank.specs.Machine.Step.{Push, Pull, Reset, Idle}
+use Rattle.port_bank.specs.Machine.Step.{Push, Pull, Unpull, Reset, Idle}
 use Rattle.convey.specs.Buffers.{is_complete}
 use Rattle.convey.specs.Progress.{advance_step}
-use Rattle.link_slots.specs.Seen.{Identity, Manning, posted_on, collected_from}
+use Rattle.link_slots.specs.SeatView.{Identity, Manning, posted_on, collected_from}
 use Rattle.hop_core.specs.declared.phase.Phase.{Phase}
 use Rattle.hop_core.specs.declared.phase.Phase.TheVariants.{Dormant, Working, Endgame, Cleanup, Complete}
-use Rattle.hop_core.specs.State.{State, phase_of, pulled_from, all_closed, all_read}
+use Rattle.hop_core.specs.State.{State, phase_of, pulled_from, after_unpull, all_closed, all_read}
 use Rattle.convey.specs.Conveyors.{AgreesWith, IsStepOf, KeepsAgreement, standing_toward}
 use Rattle.rank_handles.specs.declared.answer.Answer.{Answer}
 use Rattle.rank_handles.specs.declared.answer.Answer.TheVariants.{Good, Full, Nothing, NotBegun, DoneAlready, NoSuchRank, NoMoreEpochs}
 use Rattle.rank_handles.specs.Seated.{Seated, Moved, part}
 use Rattle.rank_handles.specs.Answers.{while_working, once_begun, when_complete, progress_answer, push_answer, pull_result, advance_answer, reset_answer, item_or_nothing, pull_once_begun}
-use Rattle.rank_handles.specs.Calls.{Pushes, Pulls, Advances, Resets}
-use Rattle.rank_handles.specs.Kept.{seat_in, IsAtBank, IsSeated}
+use Rattle.rank_handles.specs.Calls.{Pushes, Pulls, Unpulls, Advances, Resets}
+use Rattle.rank_handles.specs.declared.statistics.BaleStatistics.{BaleStatistics}
+use Rattle.rank_handles.specs.RankAtBank.{seat_in, IsAtBank, IsSeatedHandle}
 
 -- a rank at its seat
 abbrev pub at : Manning → State → Seated
@@ -51,9 +52,9 @@ moved_on bank bank' seat seat' old new step same was now rank dims is = record {
 }
 
 -- a call that leaves the rank where it was, as its counts see it
-pub seated_still : (bank : Identity) (seat : Option Manning) (old new : State) (count epoch : ℕ) (done : Bool) → IsSeated bank seat old count epoch done → KeepsAgreement old new
-    → new.rank ≡ old.rank → new.dims ≡ old.dims → new.phase ≡ old.phase → new.epoch ≡ old.epoch → new.done ≡ old.done → IsSeated bank seat new count epoch done
-seated_still bank seat old new count epoch done was kept rank dims phase same_epoch same_done = record {
+pub seated_still : (bank : Identity) (seat : Option Manning) (old new : State) (count epoch : ℕ) (done : Bool) (statistics : BaleStatistics) → IsSeatedHandle bank seat old count epoch done statistics → KeepsAgreement old new
+    → new.rank ≡ old.rank → new.dims ≡ old.dims → new.phase ≡ old.phase → new.epoch ≡ old.epoch → new.done ≡ old.done → IsSeatedHandle bank seat new count epoch done statistics
+seated_still bank seat old new count epoch done statistics was kept rank dims phase same_epoch same_done = record {
   there = was.there;
   at_bank = record {
     id = was.at_bank.id;
@@ -67,6 +68,7 @@ seated_still bank seat old new count epoch done was kept rank dims phase same_ep
   count_is = was.count_is ∙ ap ranks (sym dims);
   epoch_is = was.epoch_is ∙ sym same_epoch;
   done_is = was.done_is ∙ sym same_done;
+  counted = was.counted;
 }
 
 -- what a pull leaves as it was
@@ -145,6 +147,35 @@ pulls_begun s t r is begun links pulled nothing = record {
   pulled = subst (λ (q : Result (ℕ × Item) Answer). IfOk q (λ p. Moved (Pull p.0 p.1) s.state.phase s t)) is pulled;
   nothing = λ e. nothing (is ∙ e);
   misuse = λ e. absurd (begun (is ∙ e));
+}
+
+-- what an unpull leaves, by whether it put an item back
+pub unpulled_phase : (st : State) (l : Option ℕ) → (after_unpull st l).phase ≡ st.phase
+unpulled_phase st None = refl
+unpulled_phase st (Some l) = refl
+
+pub unpulled_rank : (st : State) (l : Option ℕ) → (after_unpull st l).rank ≡ st.rank
+unpulled_rank st None = refl
+unpulled_rank st (Some l) = refl
+
+pub unpulled_dims : (st : State) (l : Option ℕ) → (after_unpull st l).dims ≡ st.dims
+unpulled_dims st None = refl
+unpulled_dims st (Some l) = refl
+
+was_pulled : (b : Bool) → (if b then Good else Nothing) ≡ Good → b ≡ true
+was_pulled true e = refl
+was_pulled false e = absurd cc
+
+none_pulled : (b : Bool) → (if b then Good else Nothing) ≡ Nothing → b ≡ false
+none_pulled true e = absurd cc
+none_pulled false e = refl
+
+pub unpulls_by : (s t : Seated) (b : Bool) → b ≡ is_some s.state.pulled → t.seat ≡ s.seat → (b ≡ true → Moved Unpull s.state.phase s t) → (b ≡ false → Moved Idle s.state.phase s t) → Unpulls s t
+unfolding Unpulls
+unpulls_by s t b is links back none = record {
+  links = links;
+  put_back = λ good. back (is ∙ was_pulled (is_some s.state.pulled) good);
+  nothing = λ not. none (is ∙ none_pulled (is_some s.state.pulled) not);
 }
 
 -- answers that are no misuse

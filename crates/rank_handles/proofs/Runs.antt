@@ -6,7 +6,7 @@ use Rattle.std.proofs.lemmas.Bool.{lt-ltb, le-ltb}
 use Rattle.std.proofs.lemmas.List.{drop-set-lt, drop-append-le, take-append-drop}
 use Rattle.route_tensor.specs.Grid.{ranks}
 use Rattle.port_bank.specs.Machine.Step.{Pull, Idle}
-use Rattle.link_slots.specs.Seen.{Identity, Manning, posted_on, collected_from}
+use Rattle.link_slots.specs.SeatView.{Identity, Manning, posted_on, collected_from}
 use Rattle.hop_core.specs.declared.phase.Phase.TheVariants.{Dormant, Working, Endgame, Cleanup, Complete}
 use Rattle.hop_core.specs.State.{State, lowest_unread, pull_from, pulled_from, pulls}
 use Rattle.convey.specs.Buffers.{buffers_of}
@@ -20,8 +20,9 @@ use Rattle.hop_core.specs.declared.phase.Phase.{Phase}
 use Rattle.rank_handles.specs.declared.item.BaleItem.{BaleItem}
 use Rattle.rank_handles.specs.Items.{item_of, bale_item}
 use Rattle.rank_handles.specs.Seated.{Seated}
-use Rattle.rank_handles.specs.Many.{steps_of, after_all, MayAll, Ran, then_idle, all_ranks}
-use Rattle.rank_handles.specs.Kept.{IsSeated, RunOf}
+use Rattle.rank_handles.specs.Many.{steps_of, after_all, MayAll, RanSteps, then_idle, all_ranks}
+use Rattle.rank_handles.specs.declared.statistics.BaleStatistics.{BaleStatistics}
+use Rattle.rank_handles.specs.RankAtBank.{IsSeatedHandle, RunOf}
 use Rattle.rank_handles.proofs.Moves.{at, seated_still, pulled_phase}
 
 -- one step more
@@ -40,7 +41,7 @@ unfolding MayAll
 may_front [] s p all = tt
 may_front (t ∷ steps) s p all = (all.0, may_front steps s (after t p) all.1)
 
-run_none : (a : State) → RunOf [] a a
+pub run_none : (a : State) → RunOf [] a a
 unfolding after_all MayAll
 run_none a = record { may = λ sent got h. tt; is = λ sent got h. refl; kept = λ sent got h. h; same = refl }
 
@@ -84,8 +85,8 @@ pub run_pull : (steps : List Step) (n most : ℕ) (s : ℕ) (x : Item) (a b : St
 run_pull steps n most s x a b run next = run_over steps (nat_lt n most) s x a b (pulled_from b (lowest_unread b)) run next.step next.kept (pulled_same b (lowest_unread b))
 
 -- as a rank's calls
-pub ran_of : (seat : Manning) (steps : List Step) (old new : State) → AgreesWith old (posted_on seat) (collected_from seat) → RunOf steps old new → Ran steps (at seat old) (at seat new)
-unfolding Ran
+pub ran_of : (seat : Manning) (steps : List Step) (old new : State) → AgreesWith old (posted_on seat) (collected_from seat) → RunOf steps old new → RanSteps steps (at seat old) (at seat new)
+unfolding RanSteps
 ran_of seat steps old new agrees run = record {
   may = run.may (posted_on seat) (collected_from seat) agrees;
   is = run.is (posted_on seat) (collected_from seat) agrees;
@@ -96,10 +97,10 @@ ran_of seat steps old new agrees run = record {
   dims = ap (λ (z : State). z.dims) run.same;
 }
 
-pub seated_of : (bank : Identity) (seat : Option Manning) (steps : List Step) (old new : State) (count epoch : ℕ) (done : Bool) → IsSeated bank seat old count epoch done → RunOf steps old new
-    → IsSeated bank seat new count epoch done
-seated_of bank seat steps old new count epoch done was run =
-    seated_still bank seat old new count epoch done was run.kept (ap (λ (z : State). z.rank) run.same) (ap (λ (z : State). z.dims) run.same) (ap (λ (z : State). z.phase) run.same)
+pub seated_of : (bank : Identity) (seat : Option Manning) (steps : List Step) (old new : State) (count epoch : ℕ) (done : Bool) (statistics : BaleStatistics) → IsSeatedHandle bank seat old count epoch done statistics → RunOf steps old new
+    → IsSeatedHandle bank seat new count epoch done statistics
+seated_of bank seat steps old new count epoch done statistics was run =
+    seated_still bank seat old new count epoch done statistics was run.kept (ap (λ (z : State). z.rank) run.same) (ap (λ (z : State). z.dims) run.same) (ap (λ (z : State). z.phase) run.same)
     (ap (λ (z : State). z.epoch) run.same) (ap (λ (z : State). z.done) run.same)
 
 -- the steps of one item more

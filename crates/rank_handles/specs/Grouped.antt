@@ -5,7 +5,7 @@ use Rattle.std.specs.Prelude.{slice_set, None, nat_lt, slice_index_or, Result, O
 use Rattle.item_buffer.specs.Capacity.{is_capacity}
 use Rattle.route_tensor.specs.Grid.{ranks}
 use Rattle.route_tensor.specs.Refusal.{refusal}
-use Rattle.link_slots.specs.Seen.{Identity, posted_on, collected_from}
+use Rattle.link_slots.specs.SeatView.{Identity, posted_on, collected_from}
 use Rattle.hop_core.specs.Lent.Lent.{Given}
 use Rattle.hop_core.specs.declared.phase.Phase.TheVariants.{Dormant}
 use Rattle.hop_core.specs.Link.{no_out, no_in}

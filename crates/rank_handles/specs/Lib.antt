@@ -3,12 +3,14 @@ pub mod Seated
 pub mod Answers
 pub mod Calls
 pub mod Many
+pub mod Views
 pub mod Grouped
 pub mod Cases
-pub mod Holds
+pub mod Ownership
 pub mod Lends
 pub mod LendsRank
 pub mod Items
+pub mod Statistics
 pub mod Handles
-pub mod Shown
-pub mod Kept
+pub mod HandleView
+pub mod RankAtBank

@@ -13,7 +13,7 @@ use Rattle.rank_handles.specs.declared.answer.Answer.{Answer}
 use Rattle.rank_handles.specs.declared.answer.Answer.TheVariants.{Good, Full, Nothing, More, Near, Complete, NoMemory}
 use Rattle.rank_handles.specs.declared.answer.Answer.TheVariants.{NotBegun, BegunAlready, DoneAlready, NoSuchRank}
 use Rattle.rank_handles.specs.declared.answer.Answer.TheVariants.{NotComplete, Gone, BadNumbers, InUse, RankTaken}
-use Rattle.rank_handles.specs.declared.answer.Answer.TheVariants.{NoMoreEpochs}
+use Rattle.rank_handles.specs.declared.answer.Answer.TheVariants.{NoMoreEpochs, NotLent}
 use Rattle.rank_handles.specs.Items.{item_of}
 use Rattle.rank_handles.specs.Codes.{code_of}
 use Rattle.rank_handles.specs.Answers.{while_working, once_begun, push_answer, pull_result}
@@ -55,8 +55,8 @@ pub record Run (steps : List Step) (old new : Seated) : Type 0 where
   pub rank : new.state.rank ≡ old.state.rank
   pub dims : new.state.dims ≡ old.state.dims
 
-unfoldable pub Ran : List Step → Seated → Seated → Type 0
-Ran steps old new = Run steps old new
+unfoldable pub RanSteps : List Step → Seated → Seated → Type 0
+RanSteps steps old new = Run steps old new
 
 -- Whether every destination is a rank.
 unfoldable pub all_ranks : ℕ → List ℕ → Bool
@@ -89,6 +89,7 @@ number_or BadNumbers n = Err BadNumbers
 number_or InUse n = Err InUse
 number_or RankTaken n = Err RankTaken
 number_or NoMoreEpochs n = Err NoMoreEpochs
+number_or NotLent n = Err NotLent
 
 -- How many a call moved: none where something was wrong.
 abbrev pub moved_by : Result ℕ Answer → ℕ
@@ -109,7 +110,7 @@ count_in (negsuc n) = 0
 pub record PushingMany (items : List BaleItem) (to : List ℕ) (n : ℕ) (old new : Seated) : Type 0 where
   pub links : new.seat ≡ old.seat
   pub misuse : push_many_answer old to ≢ Good → new ≡ old
-  pub pushed : push_many_answer old to ≡ Good → Ran (steps_of Push n items to ++ then_idle n (length items)) old new
+  pub pushed : push_many_answer old to ≡ Good → RanSteps (steps_of Push n items to ++ then_idle n (length items)) old new
   pub full : push_many_answer old to ≡ Good → n < length items → push_answer new (slice_index_or to n 0) ≡ Full
 
 unfoldable pub PushesMany : List BaleItem → List ℕ → ℕ → Seated → Seated → Type 0
@@ -120,7 +121,7 @@ PushesMany items to n old new = PushingMany items to n old new
 pub record PullingMany (most : ℕ) (items : List BaleItem) (from : List ℕ) (n : ℕ) (old new : Seated) : Type 0 where
   pub links : new.seat ≡ old.seat
   pub misuse : pull_many_answer old ≢ Good → new ≡ old
-  pub pulled : pull_many_answer old ≡ Good → Ran (steps_of Pull n items from ++ then_idle n most) old new
+  pub pulled : pull_many_answer old ≡ Good → RanSteps (steps_of Pull n items from ++ then_idle n most) old new
   pub none : pull_many_answer old ≡ Good → n < most → pull_result new ≡ Err Nothing
 
 unfoldable pub PullsMany : ℕ → List BaleItem → List ℕ → ℕ → Seated → Seated → Type 0

@@ -1,7 +1,7 @@
 -- What contracts see of a rank, and which step of the exchange machine a call on it makes.
 use Rattle.std.specs.Prelude.{◌≡◌}
 use Rattle.port_bank.specs.Machine.{Part, Step, IsOwnStep}
-use Rattle.link_slots.specs.Seen.{Manning, posted_on, collected_from}
+use Rattle.link_slots.specs.SeatView.{Manning, posted_on, collected_from}
 use Rattle.hop_core.specs.declared.phase.Phase.{Phase}
 use Rattle.hop_core.specs.State.{State}
 use Rattle.convey.specs.Buffers.{buffers_of}

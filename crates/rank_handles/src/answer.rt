@@ -39,6 +39,8 @@ pub enum Answer {
     RankTaken,
     /// Misuse: no number is left for another epoch.
     NoMoreEpochs,
+    /// Misuse: a view lends fewer items than are to be pulled.
+    NotLent,
 }
 
 impl Answer {
@@ -64,6 +66,7 @@ impl Answer {
             Answer::InUse => -9,
             Answer::RankTaken => -10,
             Answer::NoMoreEpochs => -11,
+            Answer::NotLent => -12,
         }
     }
 }

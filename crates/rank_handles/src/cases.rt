@@ -12,6 +12,8 @@ use crate::exchange::Exchange;
 use crate::group::Group;
 use crate::item::BaleItem;
 use crate::rank::Rank;
+use crate::statistics::BaleStatistics;
+use crate::view::BaleView;
 use bale_items::{Item, NoMemory};
 use hop_core::Phase;
 use item_buffer::is_capacity;
@@ -117,6 +119,10 @@ impl<const CAP: usize> Exchange for HopsCase<CAP> {
         by_hops!(self, rank, rank.phase())
     }
 
+    fn statistics(&self) -> BaleStatistics {
+        by_hops!(self, rank, rank.statistics())
+    }
+
     fn begin(&mut self) -> Answer {
         by_hops!(self, rank, rank.begin())
     }
@@ -135,6 +141,14 @@ impl<const CAP: usize> Exchange for HopsCase<CAP> {
 
     fn advance(&mut self, done: bool) -> Answer {
         by_hops!(self, rank, rank.advance(done))
+    }
+
+    fn view(&self) -> Result<BaleView<'_>, Answer> {
+        by_hops!(self, rank, rank.view())
+    }
+
+    fn pulled(&mut self, count: usize) -> Answer {
+        by_hops!(self, rank, rank.pulled(count))
     }
 
     fn reset(&mut self) -> Answer {
@@ -161,6 +175,10 @@ impl Exchange for AnyRank {
         by_capacity!(CapacityCase, &self.case, rank, rank.phase())
     }
 
+    fn statistics(&self) -> BaleStatistics {
+        by_capacity!(CapacityCase, &self.case, rank, rank.statistics())
+    }
+
     fn begin(&mut self) -> Answer {
         by_capacity!(CapacityCase, &mut self.case, rank, rank.begin())
     }
@@ -179,6 +197,14 @@ impl Exchange for AnyRank {
 
     fn advance(&mut self, done: bool) -> Answer {
         by_capacity!(CapacityCase, &mut self.case, rank, rank.advance(done))
+    }
+
+    fn view(&self) -> Result<BaleView<'_>, Answer> {
+        by_capacity!(CapacityCase, &self.case, rank, rank.view())
+    }
+
+    fn pulled(&mut self, count: usize) -> Answer {
+        by_capacity!(CapacityCase, &mut self.case, rank, rank.pulled(count))
     }
 
     fn reset(&mut self) -> Answer {

@@ -1,14 +1,19 @@
 //! One rank's side of an exchange, whatever its capacity and its hops.
-ghost use Rattle.std.specs.Prelude.{◌≡◌, ◌≤◌, Option, length, drop};
+ghost use Rattle.std.specs.Prelude.{◌≡◌, ◌≢◌, ◌≤◌, Option, IfOk, IfErr, length, drop};
 ghost use Rattle.std.specs.Option.{option_map};
 ghost use Rattle.rank_handles.specs.Seated.{Seated};
 ghost use Rattle.rank_handles.specs.Answers.{begin_answer, push_answer, pull_result, unpull_answer, advance_answer, reset_answer};
 ghost use Rattle.rank_handles.specs.Calls.{OnRank, Begins, Pushes, Pulls, Unpulls, Advances, Resets};
 ghost use Rattle.rank_handles.specs.Handles.{if_there, result_if_there, phase_in, ranks_in};
+ghost use Rattle.rank_handles.specs.Grouped.{answer_with};
+ghost use Rattle.rank_handles.specs.Statistics.{statistics_in};
+ghost use Rattle.rank_handles.specs.Views.{LentBy, pulled_answer, PullsLent};
 ghost use Rattle.rank_handles.specs.Many.{push_many_answer, pull_many_answer, number_or, moved_by, told_of, count_in, PushesMany, PullsMany};
 
 use crate::answer::Answer;
 use crate::item::BaleItem;
+use crate::statistics::BaleStatistics;
+use crate::view::BaleView;
 use bale_items::Item;
 use hop_core::Phase;
 
@@ -27,6 +32,10 @@ pub trait Exchange: Drop {
     /// How far the rank is in its epoch.
     fn phase(&self) -> Option<Phase>
         ensures { result ≡ option_map (λ s. s.state.phase) (seen self.now) };
+
+    /// What the rank sent and received since it was made; nothing where there is no rank.
+    fn statistics(&self) -> BaleStatistics
+        ensures { result ≡ statistics_in (seen self.now) };
 
     /// Begins an epoch.
     fn begin(&mut self) -> Answer
@@ -52,6 +61,20 @@ pub trait Exchange: Drop {
     fn advance(&mut self, done: bool) -> Answer
         ensures answer { result ≡ if_there (seen self.old) (λ s. advance_answer s done (phase_in (seen self.new))) }
         ensures advances { OnRank (Advances done) (seen self.old) (seen self.new) };
+
+    /// What the next pulls give, as far as it is in one inbox and of one sender, where it is.
+    ///
+    /// # Errors
+    /// As of a pull; the rank is as it was.
+    fn view(&self) -> Result<BaleView<'_>, Answer>
+        ensures answer { answer_with result ≡ answer_with (result_if_there (seen self.now) pull_result) }
+        ensures refused { IfErr result (λ a. a ≢ Answer.Good) }
+        ensures lent { IfOk result (λ v. LentBy v.entries.now v.from (seen self.now)) };
+
+    /// Pulls the first items that a view lends.
+    fn pulled(&mut self, count: usize) -> Answer
+        ensures answer { result ≡ if_there (seen self.old) (λ s. pulled_answer s count) }
+        ensures pulls { OnRank (PullsLent count) (seen self.old) (seen self.new) };
 
     /// Ends an epoch that is complete.
     fn reset(&mut self) -> Answer

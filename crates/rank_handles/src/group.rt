@@ -6,7 +6,7 @@ ghost use Rattle.item_buffer.specs.Capacity.{IsCap};
 ghost use Rattle.route_tensor.specs.Grid.{ranks};
 ghost use Rattle.port_bank.specs.Port.{IsSlots};
 ghost use Rattle.rank_handles.specs.Grouped.{Grouped, IsNewGroup, NewRank, IsNewRank, with_given, rank_answer};
-ghost use Rattle.rank_handles.specs.Kept.{HasSeatFor, GaveSeat};
+ghost use Rattle.rank_handles.specs.RankAtBank.{HasSeatFor, GaveSeat};
 ghost use Rattle.rank_handles.specs.Cases.{seen_by_hops};
 
 use crate::answer::Answer;
@@ -36,7 +36,7 @@ impl<const CAP: usize> Model for Group<CAP> {
 
     ghost Value = { Grouped };
 
-    ghost use Rattle.rank_handles.specs.Kept.{IsGroup};
+    ghost use Rattle.rank_handles.specs.RankAtBank.{IsGroup};
 
     ghost view = { λ g. record { bank = arc_value g.bank; cap = CAP; steady = g.steady; given = g.given.items } };
 

@@ -19,7 +19,7 @@ pub struct Held {
 }
 
 impl Model for Held {
-    ghost use Rattle.rank_handles.specs.Holds.{holds};
+    ghost use Rattle.rank_handles.specs.Ownership.{holds};
 
     ghost also_owns = { λ h. holds h.at h.value };
 }

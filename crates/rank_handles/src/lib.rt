@@ -10,6 +10,7 @@
 //! | `BaleGroup`, `BaleRank` | the handles: nothing, or a `Part`, which `take` takes out and `put` puts in; `get_mut` lends a rank where it stands |
 //! | `make_group`, `make_rank` | a group of these numbers; a rank of a group |
 //! | `Exchange` | the conveyor's own calls, each a step of the exchange machine, one or many at a time |
+//! | `BaleStatistics` | what a rank sent and received so far |
 //! | `push_number`, `pull_number` | calls of many items, as the number that C is told |
 //!
 //! From the bottom up: a `Rank` of one case and a `Group` of one capacity, with every call tested;
@@ -19,9 +20,9 @@
 //!
 //! The definitions, in the order in which to read them: `Codes` (the numbers that C knows),
 //! `Seated` (a rank, and a call that makes a step), `Answers` (when each answer comes), `Calls`
-//! (what a call leaves), `Grouped` (a group, and a rank that was just made), `Handles` and `Shown`
-//! (what a handle has), `Many` (calls of many items), `Items`. `Kept`, `Cases`, `Holds`, `Lends`
-//! and `LendsRank` are the code's own.
+//! (what a call leaves), `Grouped` (a group, and a rank that was just made), `Handles` and
+//! `HandleView` (what a handle has), `Many` (calls of many items), `Statistics`, `Items`.
+//! `RankAtBank`, `Cases`, `Ownership`, `Lends` and `LendsRank` are the code's own.
 #![tactic(auto)]
 
 mod answer;
@@ -37,6 +38,8 @@ mod many;
 mod numbers;
 mod part;
 mod rank;
+mod statistics;
+mod view;
 
 pub use answer::Answer;
 pub use cases::{AnyGroup, AnyRank};
@@ -47,3 +50,5 @@ pub use item::{BaleItem, bale_item_from, item_from};
 pub use making::{make_group, make_rank};
 pub use numbers::{pull_number, push_number};
 pub use part::Part;
+pub use statistics::BaleStatistics;
+pub use view::BaleView;

@@ -7,7 +7,7 @@ ghost use Rattle.port_bank.specs.Machine.Step.{Push, Pull, Idle};
 ghost use Rattle.hop_core.specs.State.{State, in_at, lowest_unread, pulls};
 ghost use Rattle.convey.specs.Conveyors.{standing_toward};
 ghost use Rattle.rank_handles.specs.Many.{steps_of, then_idle, all_ranks, SamePast};
-ghost use Rattle.rank_handles.specs.Kept.{RunOf};
+ghost use Rattle.rank_handles.specs.RankAtBank.{RunOf};
 
 use crate::item::{BaleItem, bale_item_from, item_from};
 use bale_items::Tag;
@@ -145,7 +145,7 @@ fn copy_batch<const CAP: usize, const HOPS: usize>(
 /// tag, so that a batch looks it up once.
 #[tactic(auto, using(crate::proofs::Senders::near_sender))]
 #[inline]
-fn sender_in<const CAP: usize, const HOPS: usize>(
+pub(crate) fn sender_in<const CAP: usize, const HOPS: usize>(
     conveyor: &Conveyor<CAP, HOPS>,
     number: u32,
     near: u32,
@@ -167,7 +167,10 @@ fn sender_in<const CAP: usize, const HOPS: usize>(
 }
 
 /// Pulls so many items, for nothing but to have them pulled.
-fn pull_over<const CAP: usize, const HOPS: usize>(conveyor: &mut Conveyor<CAP, HOPS>, count: usize)
+pub(crate) fn pull_over<const CAP: usize, const HOPS: usize>(
+    conveyor: &mut Conveyor<CAP, HOPS>,
+    count: usize,
+)
     requires begun { conveyor.old.phase ≢ Phase.Dormant }
     ensures { conveyor.new ≡ pulls count conveyor.old }
 {

@@ -3,19 +3,22 @@ ghost use Rattle.std.specs.Prelude.{◌≡◌, ◌≢◌, ◌<◌, true, false, 
 ghost use Rattle.std.specs.Arc.{arc_value};
 ghost use Rattle.item_buffer.specs.Capacity.{IsCap};
 ghost use Rattle.route_tensor.specs.Grid.{ranks};
-ghost use Rattle.link_slots.specs.Seen.{posted_on, collected_from};
+ghost use Rattle.link_slots.specs.SeatView.{posted_on, collected_from};
 ghost use Rattle.port_bank.specs.Machine.{IsOwnStep};
 ghost use Rattle.convey.specs.Buffers.{buffers_of, is_complete};
 ghost use Rattle.convey.specs.Parts.{part_of};
 ghost use Rattle.convey.specs.Progress.{progress_of, advance_step};
 ghost use Rattle.rank_handles.specs.Answers.{item_or_nothing};
-ghost use Rattle.rank_handles.specs.Kept.{IsAtBank, HasSeatFor, GaveSeat};
+ghost use Rattle.rank_handles.specs.RankAtBank.{IsAtBank, HasSeatFor, GaveSeat};
 ghost use Rattle.rank_handles.specs.Grouped.{NewRank};
+ghost use Rattle.rank_handles.specs.Statistics.{statistics_on};
 
 use crate::answer::Answer;
 use crate::exchange::Exchange;
 use crate::item::BaleItem;
 use crate::many::{are_ranks, pull_while_some, push_while_room};
+use crate::statistics::{BaleStatistics, CountingPort};
+use crate::view::{BaleView, lent_count, lent_view, pull_lent};
 use bale_items::{Item, NoMemory};
 use convey::{Conveyor, Phase, Progress, Pushed};
 use link_slots::{GatherSeat, SlotBank, SlotSeat};
@@ -35,6 +38,7 @@ pub(crate) struct Rank<const CAP: usize, const HOPS: usize> {
     ranks: u32,
     epoch: u64,
     done: bool,
+    statistics: BaleStatistics,
 }
 
 impl<const CAP: usize, const HOPS: usize> Model for Rank<CAP, HOPS> {
@@ -43,11 +47,11 @@ impl<const CAP: usize, const HOPS: usize> Model for Rank<CAP, HOPS> {
 
     ghost Value = { Seated };
 
-    ghost use Rattle.rank_handles.specs.Kept.{seat_in, IsSeated};
+    ghost use Rattle.rank_handles.specs.RankAtBank.{seat_in, IsSeatedHandle};
 
     ghost view = { λ r. record { seat = seat_in r.seat; state = r.conveyor } };
 
-    ghost invariant = { λ r. IsSeated (arc_value r.bank) r.seat r.conveyor r.ranks r.epoch r.done };
+    ghost invariant = { λ r. IsSeatedHandle (arc_value r.bank) r.seat r.conveyor r.ranks r.epoch r.done r.statistics };
 }
 
 impl<const CAP: usize, const HOPS: usize> Rank<CAP, HOPS> {
@@ -78,6 +82,7 @@ impl<const CAP: usize, const HOPS: usize> Rank<CAP, HOPS> {
             ranks: grid.ranks(),
             epoch: 0,
             done: false,
+            statistics: BaleStatistics::none(),
         })
     }
 }
@@ -91,6 +96,10 @@ impl<const CAP: usize, const HOPS: usize> Exchange for Rank<CAP, HOPS> {
 
     fn phase(&self) -> Option<Phase> {
         Some(self.conveyor.phase())
+    }
+
+    fn statistics(&self) -> BaleStatistics {
+        self.statistics
     }
 
     #[tactic(auto, unfolding(crate::specs::Seated::Moved, crate::specs::Calls::Begins))]
@@ -151,7 +160,13 @@ impl<const CAP: usize, const HOPS: usize> Exchange for Rank<CAP, HOPS> {
         let Some(seat) = self.seat.take() else {
             unreachable!()
         };
-        let (progress, seat) = advance_at(&self.bank, seat, &mut self.conveyor, done);
+        let (progress, seat) = advance_at(
+            &self.bank,
+            seat,
+            &mut self.conveyor,
+            &mut self.statistics,
+            done,
+        );
         self.seat = Some(seat);
         self.done = done;
         match progress {
@@ -159,6 +174,29 @@ impl<const CAP: usize, const HOPS: usize> Exchange for Rank<CAP, HOPS> {
             Progress::Near => Answer::Near,
             Progress::Complete => Answer::Complete,
         }
+    }
+
+    #[tactic(auto, unfolding(crate::specs::Views::LentBy))]
+    fn view(&self) -> Result<BaleView<'_>, Answer> {
+        if self.conveyor.phase() == Phase::Dormant {
+            return Err(Answer::NotBegun);
+        }
+        match lent_view(&self.conveyor) {
+            Some(view) => Ok(view),
+            None => Err(Answer::Nothing),
+        }
+    }
+
+    #[tactic(auto, unfolding(crate::specs::Views::PullsLent))]
+    fn pulled(&mut self, count: usize) -> Answer {
+        if self.conveyor.phase() == Phase::Dormant {
+            return Answer::NotBegun;
+        }
+        if count > lent_count(&self.conveyor) {
+            return Answer::NotLent;
+        }
+        pull_lent(&mut self.conveyor, count);
+        Answer::Good
     }
 
     #[tactic(auto, unfolding(crate::specs::Calls::Resets))]
@@ -215,11 +253,14 @@ fn advance_at<const CAP: usize, const HOPS: usize>(
     bank: &SlotBank<CAP>,
     seat: SlotSeat<CAP>,
     conveyor: &mut Conveyor<CAP, HOPS>,
+    statistics: &mut BaleStatistics,
     done: bool,
 ) -> (Progress, SlotSeat<CAP>)
     requires begun { conveyor.old.phase ≢ Phase.Dormant }
     requires at_bank { IsAtBank bank.now seat conveyor.old }
     requires done_stays { conveyor.old.done ≡ true → done ≡ true }
+    requires counted { statistics.old ≡ statistics_on seat }
+    ensures counted { statistics.new ≡ statistics_on result.1 }
     ensures at_bank { IsAtBank bank.now result.1 conveyor.new }
     ensures answer { result.0 ≡ progress_of conveyor.new.phase }
     ensures dims { conveyor.new.dims ≡ conveyor.old.dims }
@@ -231,9 +272,11 @@ fn advance_at<const CAP: usize, const HOPS: usize>(
         (part_of (buffers_of conveyor.old) (posted_on seat.entry) (collected_from seat.entry))
         (part_of (buffers_of conveyor.new) (posted_on result.1) (collected_from result.1)) }
 {
-    let mut port = bank.port(seat);
-    let Ok(progress) = conveyor.advance(&mut port, done) else {
+    let mut counting = CountingPort::new(bank.port(seat), *statistics);
+    let Ok(progress) = conveyor.advance(&mut counting, done) else {
         unreachable!()
     };
+    let (port, counted) = counting.into_parts();
+    *statistics = counted;
     (progress, port.into_seat())
 }

@@ -9,23 +9,23 @@ use Rattle.exstack.specs.declared.stage.Poll.{Poll}
 use Rattle.exstack.specs.declared.stage.Poll.TheVariants as poll
 use Rattle.exstack.specs.declared.stage.Proceed.{Proceed}
 use Rattle.exstack.specs.declared.stage.Proceed.TheVariants as proceed
-use Rattle.exstack.specs.Links.{Out, In, no_out, no_in, begun_out, begun_in}
+use Rattle.exstack.specs.Links.{StackOut, StackIn, no_stack_out, no_stack_in, begun_out, begun_in}
 use Rattle.exstack.specs.State.{Stack, missing_link, missing_out, missing_in, all_ended, proceed_answer, exchange_answer, stage_of_proceed, stage_of_exchange, is_proceeding, is_exchanging, may_proceed, may_exchange, in_proceed}
 use Rattle.exstack.specs.Standing.{IsStack}
 use Rattle.rank_node.specs.Cycles.{Awaits, IsOnward, has_proceeded, has_exchanged}
 
 -- a parcel is due where the round waits for a link
 module _ (cap : ℕ) (x : Stack) (s : IsStack cap x) where
-  by_places : (o i : Option ℕ) → position (λ (k : Out). k.due) x.outs ≡ o → position (λ (k : In). k.due) x.ins ≡ i
+  by_places : (o i : Option ℕ) → position (λ (k : StackOut). k.due) x.outs ≡ o → position (λ (k : StackIn). k.due) x.ins ≡ i
       → (missing_link x ≡ None → (is_proceeding x.stage || is_exchanging x.stage) ≡ false) → Awaits x
-  by_places (Some b) i eo ei none = λ within. let p = position-Some (λ (k : Out). k.due) x.outs b no_out eo in inl (record { other = b; low = omega (arith, p.0, s.all_outs); due = p.1 })
-  by_places None (Some a) eo ei none = λ within. let p = position-Some (λ (k : In). k.due) x.ins a no_in ei in inr (record { other = a; low = omega (arith, p.0, s.all_ins); due = p.1 })
+  by_places (Some b) i eo ei none = λ within. let p = position-Some (λ (k : StackOut). k.due) x.outs b no_stack_out eo in inl (record { other = b; low = omega (arith, p.0, s.all_outs); due = p.1 })
+  by_places None (Some a) eo ei none = λ within. let p = position-Some (λ (k : StackIn). k.due) x.ins a no_stack_in ei in inr (record { other = a; low = omega (arith, p.0, s.all_ins); due = p.1 })
   by_places None None eo ei none = λ within.
       let missing : missing_link x ≡ None = ap (λ o. missing_out x.ranks x.rank o x.ins) eo ∙ ap (missing_in x.ranks x.rank) ei in
       absurd (false≢true (sym (none missing) ∙ within))
 
   awaits_where : (missing_link x ≡ None → (is_proceeding x.stage || is_exchanging x.stage) ≡ false) → Awaits x
-  awaits_where none = by_places (position (λ (k : Out). k.due) x.outs) (position (λ (k : In). k.due) x.ins) refl refl none
+  awaits_where none = by_places (position (λ (k : StackOut). k.due) x.outs) (position (λ (k : StackIn). k.due) x.ins) refl refl none
 
   pub proceed_awaits : (p : Proceed) → p ≡ proceed_answer (missing_link x) (all_ended x) → x.stage ≡ stage_of_proceed p → Awaits x
   proceed_awaits p answer stage =

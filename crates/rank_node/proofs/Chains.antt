@@ -7,7 +7,7 @@ use Rattle.bale_items.specs.declared.item.Item.{Item}
 use Rattle.round_program.specs.Rules.{Rules}
 use Rattle.round_program.specs.Laws.{Laws, SameRound, fits}
 use Rattle.round_program.specs.Batches.{taken_in, all_taken_in}
-use Rattle.rank_node.specs.Batches.{summed, TakesEach}
+use Rattle.rank_node.specs.Batches.{sum_after, TakesEach}
 
 -- what a node makes of one item that it pulled
 pub record TakesOne {S : Type 0} (R : Rules S) (voting : Bool) (prog prog' : S) (from : ℕ) (x : Item) (sum sum' : ℕ) (spoiled spoiled' : Bool) : Type 0 where
@@ -23,7 +23,7 @@ Chain R voting prog prog' [] sum sum' spoiled spoiled' = (prog' ≡ prog) × (su
 Chain {S} R voting prog prog' (e ∷ es) sum sum' spoiled spoiled' =
     (mid : S) × (sum1 : ℕ) × (now : Bool) × TakesOne R voting prog mid e.0 e.1 sum sum1 spoiled now × Chain R voting mid prog' es sum1 sum' now spoiled'
 
-votes_chain : {S : Type 0} (R : Rules S) (prog : S) (es : List (ℕ × Item)) (sum : ℕ) (spoiled : Bool) → Chain R true prog prog es sum (summed sum es) spoiled spoiled
+votes_chain : {S : Type 0} (R : Rules S) (prog : S) (es : List (ℕ × Item)) (sum : ℕ) (spoiled : Bool) → Chain R true prog prog es sum (sum_after sum es) spoiled spoiled
 votes_chain R prog [] sum spoiled = (refl, refl, refl)
 votes_chain R prog (e ∷ es) sum spoiled = (
   prog,
@@ -63,7 +63,7 @@ each_chain R laws true prog prog' es sum sum' spoiled spoiled' some t =
     let same = t.votes refl in
     subst (λ s. Chain R true prog s es sum sum' spoiled spoiled') (sym same.1)
     (subst (λ n. Chain R true prog prog es sum n spoiled spoiled') (sym t.summed_up)
-    (subst (λ b. Chain R true prog prog es sum (summed sum es) spoiled b) (sym same.0) (votes_chain R prog es sum spoiled)))
+    (subst (λ b. Chain R true prog prog es sum (sum_after sum es) spoiled b) (sym same.0) (votes_chain R prog es sum spoiled)))
 each_chain R laws false prog prog' [] sum sum' spoiled spoiled' some t = absurd (omega (arith, some))
 each_chain R laws false prog prog' (e ∷ es) sum sum' spoiled true some t = (
   prog',

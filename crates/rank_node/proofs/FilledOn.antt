@@ -6,7 +6,7 @@ use Rattle.bale_items.specs.declared.item.Item.{Item}
 use Rattle.list_laws.proofs.Lists.{within, all_from_gets}
 use Rattle.route_tensor.specs.Grid.{ranks}
 use Rattle.exstack.specs.declared.stage.Stage.TheVariants.{Filling}
-use Rattle.exstack.specs.State.{Stack, dims_of}
+use Rattle.exstack.specs.State.{Stack, stack_dims}
 use Rattle.exstack.proofs.OneHop.{ranks_one}
 use Rattle.round_program.specs.Emissions.{HandsOver}
 use Rattle.round_program.proofs.Emissions.{past_end, first_left, rest_left, nothing_left}
@@ -16,13 +16,13 @@ use Rattle.rank_node.proofs.Chains.{none_more, one_more}
 use Rattle.rank_node.proofs.Filled.{Offers, offers_start, offers_more, fills_refused, fills_all}
 
 -- of what is left to push every item may be pushed
-pub may_fill : (es : List (ℕ × Item)) (x : Stack) (from : ℕ) → All (λ (e : ℕ × Item). e.0 < ranks (dims_of x)) es → x.stage ≡ Filling → (x.done ≡ true → from ≡ length es)
+pub may_fill : (es : List (ℕ × Item)) (x : Stack) (from : ℕ) → All (λ (e : ℕ × Item). e.0 < ranks (stack_dims x)) es → x.stage ≡ Filling → (x.done ≡ true → from ≡ length es)
     → All (λ (e : ℕ × Item). MayFill x e.0) (drop from es)
 may_fill es x from receivers filling all_pushed =
     elim (cases_Bool x.done) [
       | inl yes' ↦ subst (All (λ (e : ℕ × Item). MayFill x e.0)) (sym (past_end es from (omega (arith, all_pushed yes')))) (all_from_gets (λ (e : ℕ × Item). MayFill x e.0) [] (λ i e is. absurd (let b = within [] i e is in omega (arith, b))))
       | inr no' ↦
-          let left : All (λ (e : ℕ × Item). e.0 < ranks (dims_of x)) (drop from es) = All-drop (λ (e : ℕ × Item). e.0 < ranks (dims_of x)) from es receivers in
+          let left : All (λ (e : ℕ × Item). e.0 < ranks (stack_dims x)) (drop from es) = All-drop (λ (e : ℕ × Item). e.0 < ranks (stack_dims x)) from es receivers in
           λ k d low. let here = left k d low in record { low = omega (arith, here, ranks_one x.ranks); filling = filling; not_done = no' }
     ]
 
@@ -39,7 +39,7 @@ each most es (e ∷ rest) old x x' from next (suc n) left is h =
     let more : Offers es old h.0 from (next + 1) (length es) = offers_more es old x h.0 from next (length es) e.0 e.1 is (within es next e at) at (h.1.pushed refl) h.1.kept (h.1.step refl) in
     subst (λ k. Fills most es old x' from k) (sym (one_more next n)) (each most es rest old h.0 x' from (next + 1) n (rest_left es next e rest left) more h.2)
 
-pub fills_each : (most : ℕ) (es : List (ℕ × Item)) (x x' : Stack) (from next : ℕ) → from ≤ next → from ≤ length es → All (λ (e : ℕ × Item). e.0 < ranks (dims_of x)) es → x.stage ≡ Filling → (x.done ≡ true → from ≡ length es)
+pub fills_each : (most : ℕ) (es : List (ℕ × Item)) (x x' : Stack) (from next : ℕ) → from ≤ next → from ≤ length es → All (λ (e : ℕ × Item). e.0 < ranks (stack_dims x)) es → x.stage ≡ Filling → (x.done ≡ true → from ≡ length es)
     → HandsOver (FillsOne most) (drop from es) (next - from) x x' → Fills most es x x' from next
 fills_each most es x x' from next forward low receivers filling all_pushed h =
     let count : from + (next - from) ≡ next = omega (arith, forward) in

@@ -12,13 +12,13 @@ use Rattle.hop_core.specs.State.{State}
 use Rattle.convey.specs.Buffers.{buffers_of}
 use Rattle.convey.specs.Conveyors.{AgreesWith, KeepsAgreement, IsStepOf}
 use Rattle.convey.specs.Law.{IsSound}
-use Rattle.exstack.specs.Links.{no_out as stack_out}
+use Rattle.exstack.specs.Links.{no_stack_out as stack_out}
 use Rattle.exstack.specs.State.{Stack}
-use Rattle.exstack.specs.State.{dims_of as stack_dims}
-use Rattle.exstack.specs.State.{new_stack, out_at}
+use Rattle.exstack.specs.State.{stack_dims}
+use Rattle.exstack.specs.State.{new_stack, stack_out_at}
 use Rattle.exstack.specs.Cycles.{items}
 use Rattle.exstack.specs.Agreement.{AgreesIn}
-use Rattle.exstack.specs.Parts.{pushed_to}
+use Rattle.exstack.specs.Parts.{stack_pushed_to}
 use Rattle.exstack.specs.Standing.{IsStack}
 use Rattle.round_program.specs.Rules.{Rules}
 use Rattle.round_program.specs.Epochs.{Own}
@@ -26,10 +26,10 @@ use Rattle.round_program.specs.Orders.{fitting}
 use Rattle.round_program.proofs.Orders.{upto_ext, upto_none}
 use Rattle.round_program.proofs.Steps.{own_start}
 use Rattle.rank_node.specs.declared.sends.Sends.TheVariants.{Emissions}
-use Rattle.rank_node.specs.Movers.{MoverState, Manner, dims_of, rank_of, epoch_in, part_in, IsNew}
+use Rattle.rank_node.specs.Movers.{MoverState, Manner, mover_dims, mover_rank, epoch_in, part_in, IsNew}
 use Rattle.rank_node.specs.Movers.MoverState.{Conveying, Stacking}
 use Rattle.rank_node.specs.Movers.Manner.{ByConveyor, ByExstack}
-use Rattle.rank_node.specs.Runs.{lists_of, from_round, HasTaken}
+use Rattle.rank_node.specs.Runs.{part_lists, from_round, HasTaken}
 use Rattle.rank_node.specs.Nodes.{IsNode}
 use Rattle.rank_node.proofs.Begun.{no_logs, Empty, new_part, new_links, same_or}
 use Rattle.rank_node.proofs.Onward.{paced_start}
@@ -46,7 +46,7 @@ fresh_taken R p rank prog part first not_done none valid own all =
         all_ranks = all;
         own_round = refl;
         few = omega arith;
-        own = subst (λ e. Own (from_round (R.round prog) R) p e e (λ m. prog) (lists_of part)) (sym first) (own_start (from_round (R.round prog) R) p (λ m. prog) (lists_of part));
+        own = subst (λ e. Own (from_round (R.round prog) R) p e e (λ m. prog) (part_lists part)) (sym first) (own_start (from_round (R.round prog) R) p (λ m. prog) (part_lists part));
         goes = λ m next. absurd (omega arith);
         emitted_front = λ m d b c. absurd (omega (arith, c, first));
         one_vote = λ m d b c. absurd (omega (arith, c, first));
@@ -72,8 +72,8 @@ pub fresh_node : {S : Type 0} (R : Rules S) (prog : S) (dims : List ℕ) (rank :
     → R.valid prog → R.rank prog ≡ rank → R.ranks prog ≡ ranks dims
     → IsNode R (λ k. prog) (record { run = record { prog = prog; round = 0; sends = Emissions; next = 0; sum = 0; spoiled = false }; mover = m }) no_logs no_logs
 fresh_node R prog dims rank manner m new valid own all =
-    let t : HasTaken R (ranks (dims_of m)) (rank_of m) (λ k. prog) 0 Emissions 0 prog 0 false (part_in m no_logs no_logs) =
-    fresh_taken R (ranks (dims_of m)) (rank_of m) prog (part_in m no_logs no_logs) (part_epoch m ∙ new.first) new.not_done new.none valid (own ∙ sym new.same_rank) (all ∙ ap ranks (sym new.same_dims)) in
+    let t : HasTaken R (ranks (mover_dims m)) (mover_rank m) (λ k. prog) 0 Emissions 0 prog 0 false (part_in m no_logs no_logs) =
+    fresh_taken R (ranks (mover_dims m)) (mover_rank m) prog (part_in m no_logs no_logs) (part_epoch m ∙ new.first) new.not_done new.none valid (own ∙ sym new.same_rank) (all ∙ ap ranks (sym new.same_dims)) in
     record { moving = new.moving; paced = paced_start R (record { prog = prog; round = 0; sends = Emissions; next = 0; sum = 0; spoiled = false }) m new.starts; passed = t.passed; within = t.within } where
       part_epoch : (m : MoverState) → (part_in m no_logs no_logs).epoch ≡ epoch_in m
       part_epoch (Conveying c) = refl
@@ -123,8 +123,8 @@ new_stacking dims rank cap x made same agrees standing =
       by true e = e
       by false e = refl
 
-      waiting : (d : ℕ) → (out_at x d).waiting ≡ []
+      waiting : (d : ℕ) → (stack_out_at x d).waiting ≡ []
       waiting d = ap (λ os. (get_or os d stack_out).waiting) (ap (λ (t : Stack). t.outs) made) ∙ ap (λ o. o.waiting) (same_or (ranks dims) d stack_out)
 
-      pushed_none : (e d : ℕ) → pushed_to x no_logs e d ≡ []
+      pushed_none : (e d : ℕ) → stack_pushed_to x no_logs e d ≡ []
       pushed_none e d = by (e == x.epoch) (ap items (waiting d))

@@ -13,7 +13,7 @@ use Rattle.route_tensor.specs.Ends.{hop_at, sender_at, reader_at}
 use Rattle.port_bank.specs.Logs.{Logs}
 use Rattle.port_bank.specs.Flow.{hop_link}
 use Rattle.port_bank.specs.Shapes.{IsConveyorShape}
-use Rattle.list_laws.specs.Lists.{Begins, Ends}
+use Rattle.list_laws.specs.Lists.{IsPrefix, Ends}
 use Rattle.hop_core.specs.declared.phase.Phase.{Phase}
 use Rattle.hop_core.specs.declared.phase.Phase.TheVariants.{Dormant, Working, Endgame, Cleanup, Complete}
 use Rattle.hop_core.specs.Link.{Out, is_due, is_empty}
@@ -181,8 +181,8 @@ module _ {S : Type 0} (R : Rules S) (h : ℕ → S) (run : Running S) (c0 c1 c2 
 pub record Grown (c c' : State) (cap : ℕ) (sent sent' got got' : Logs) : Type 0 where
   pub steady : c'.steady ≡ c.steady
   pub epoch : c'.epoch ≡ c.epoch
-  pub sent_grows : (l : ℕ) → Begins (sent l) (sent' l)
-  pub got_grows : (l : ℕ) → Begins (got l) (got' l)
+  pub sent_grows : (l : ℕ) → IsPrefix (sent l) (sent' l)
+  pub got_grows : (l : ℕ) → IsPrefix (got l) (got' l)
   pub one_sent : (l : ℕ) → l < links c.dims → sender_at c.dims l ≡ c.rank → length (sent' l) ≤ length (sent l) + 1
   pub one_got : (l : ℕ) → l < links c.dims → reader_at c.dims l ≡ c.rank → length (got' l) ≤ length (got l) + 1
   pub shape : (l : ℕ) → IsConveyorShape c.steady cap (sent l) → IsConveyorShape c.steady cap (sent' l)

@@ -12,7 +12,7 @@ use Rattle.convey.specs.Conveyors.{standing_toward}
 use Rattle.convey.specs.Parts.{part_of}
 use Rattle.round_program.specs.Emissions.{HandsOver}
 use Rattle.round_program.proofs.Emissions.{past_end, first_left, rest_left, nothing_left}
-use Rattle.rank_node.specs.Pushes.{MayPush, Pushes}
+use Rattle.rank_node.specs.Pushes.{MayPush, AfterConveyorPush}
 use Rattle.rank_node.proofs.Chains.{none_more, one_more}
 use Rattle.rank_node.specs.Pulls.{Handed}
 use Rattle.rank_node.proofs.Offered.{Offers, push_on, idle_on, pushed_none, push_more, none_left}
@@ -37,7 +37,7 @@ receiver : Option (ℕ × Item) → ℕ
 receiver None = 0
 receiver (Some e) = e.0
 
-ended : (most : ℕ) (es rest : List (ℕ × Item)) (old c c' : State) (from next n : ℕ) → drop next es ≡ rest → Offers es old c from next (length es) → HandsOver (Pushes most) rest n c c' → Ended most es old c' from (next + n)
+ended : (most : ℕ) (es rest : List (ℕ × Item)) (old c c' : State) (from next n : ℕ) → drop next es ≡ rest → Offers es old c from next (length es) → HandsOver (AfterConveyorPush most) rest n c c' → Ended most es old c' from (next + n)
 unfolding receiver
 ended most es [] old c c' from next n left is h =
     let count : next ≡ next + n = sym (none_more next) ∙ ap (λ k. next + k) (sym h.0) in
@@ -60,7 +60,7 @@ ended most es (e ∷ rest) old c c' from next (suc n) left is h =
     subst (λ k. Ended most es old c' from k) (sym (one_more next n)) (ended most es rest old h.0 c' from (next + 1) n (rest_left es next e rest left) more h.2)
 
 pub handed : (most : ℕ) (es : List (ℕ × Item)) (c c' : State) (from next : ℕ) → from ≤ next → from ≤ length es → All (λ (e : ℕ × Item). e.0 < ranks c.dims) es → (c.done ≡ false → c.phase ≡ Working) → (c.done ≡ true → from ≡ length es)
-    → HandsOver (Pushes most) (drop from es) (next - from) c c' → Handed most es c c' from next
+    → HandsOver (AfterConveyorPush most) (drop from es) (next - from) c c' → Handed most es c c' from next
 handed most es c c' from next forward low receivers working all_pushed h =
     let start : Offers es c c from from (length es) = record {
       all = refl;

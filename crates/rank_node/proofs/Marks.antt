@@ -3,13 +3,13 @@ use Rattle.std.proofs.Common.{◌≡◌, ℕ, zero, suc, ◌+◌, ◌*◌, ◌<�
 use Rattle.std.proofs.lemmas.Bool.{cases_eq, cases_lt}
 use Rattle.std.proofs.lemmas.List.{length-append}
 use Rattle.item_buffer.specs.Contents.{Shipped}
-use Rattle.list_laws.specs.Lists.{Begins}
+use Rattle.list_laws.specs.Lists.{IsPrefix}
 use Rattle.list_laws.proofs.Lists.{within, get_last, get_before}
 use Rattle.port_bank.specs.Logs.{lasts, segment, lasts_in}
 use Rattle.port_bank.proofs.Segments.{lasts-append, lasts_first, segment_begins}
 use Rattle.port_bank.proofs.Posts.{segment_now, segment_then}
-use Rattle.exstack.specs.Links.{Out, gone, parcel_of}
-use Rattle.exstack.specs.Steps.{was_moved, WasPosted}
+use Rattle.exstack.specs.Links.{StackOut, gone, parcel_of}
+use Rattle.exstack.specs.Steps.{was_moved, WasPostedInRound}
 use Rattle.exstack.specs.Cycles.{proceed_parcel}
 use Rattle.exstack.specs.Agreement.{LinkAgrees}
 
@@ -35,7 +35,7 @@ open_going zero (q ∷ qs) i p h at = first_going q p (segment 0 qs) q.last i (l
 open_going (suc e) (q ∷ qs) i p h at = later_going e p qs q.last i (lasts qs) (h ∙ lasts_first q qs q.last refl) (λ z a. open_going e qs i p z a) (λ z a. open_going (suc e) qs i p z a) at
 
 -- a proceed parcel stays
-pub parcel_stays : (e m : ℕ) (log log' : List Shipped) (p : Shipped) → Begins log log' → proceed_parcel e m log ≡ Some p → proceed_parcel e m log' ≡ Some p
+pub parcel_stays : (e m : ℕ) (log log' : List Shipped) (p : Shipped) → IsPrefix log log' → proceed_parcel e m log ≡ Some p → proceed_parcel e m log' ≡ Some p
 parcel_stays e m log log' p b is =
     let s = segment_begins e log log' b in
     ap (λ xs. slice_get xs (2 * m)) s.is ∙ (get_before (segment e log) s.rest (2 * m) (within (segment e log) (2 * m) p is) ∙ is)
@@ -62,10 +62,10 @@ parcel_before e m log p q is =
     ]
 
 -- where a parcel that isn't marked last was posted
-posted_place : (e rounds : ℕ) (o' : Out) (log log' : List Shipped) (p : Shipped) → LinkAgrees e rounds o'.closed o'.due log' → o' ≡ gone false → log' ≡ log ++ p ∷ [] → p.last ≡ false → (lasts log ≡ e) × (length (segment e log) + 1 ≡ rounds)
+posted_place : (e rounds : ℕ) (o' : StackOut) (log log' : List Shipped) (p : Shipped) → LinkAgrees e rounds o'.closed o'.due log' → o' ≡ gone false → log' ≡ log ++ p ∷ [] → p.last ≡ false → (lasts log ≡ e) × (length (segment e log) + 1 ≡ rounds)
 posted_place e rounds o' log log' p a link is going =
-    let closed : o'.closed ≡ false = ap (λ (o : Out). o.closed) link in
-    let due : o'.due ≡ false = ap (λ (o : Out). o.due) link in
+    let closed : o'.closed ≡ false = ap (λ (o : StackOut). o.closed) link in
+    let due : o'.due ≡ false = ap (λ (o : StackOut). o.due) link in
     let all : lasts log' ≡ e = a.ended ∙ ap (lasts_in e) closed in
     let one : lasts (p ∷ []) ≡ 0 = lasts_first p [] false going in
     let before : lasts log ≡ e = omega (arith, all, ap lasts is, lasts-append log (p ∷ []), one) in
@@ -74,7 +74,7 @@ posted_place e rounds o' log log' p a link is going =
     (before, omega (arith, count, seg, ap {B = ℕ} (λ d. cond d 1 0) due))
 
 -- so a link's proceed parcels are marked last in time, as its parcel of a round is posted
-pub marks_posted : (quota : ℕ → ℕ) (e rounds : ℕ) (last : Bool) (o o' : Out) (log log' : List Shipped) → WasPosted last e o o' log log' → LinkAgrees e rounds o'.closed o'.due log'
+pub marks_posted : (quota : ℕ → ℕ) (e rounds : ℕ) (last : Bool) (o o' : StackOut) (log log' : List Shipped) → WasPostedInRound last e o o' log log' → LinkAgrees e rounds o'.closed o'.due log'
     → (last ≡ false → (m : ℕ) → 2 * m + 1 ≡ rounds → m < quota e)
     → ((d m : ℕ) (q : Shipped) → proceed_parcel d m log ≡ Some q → q.last ≡ false → m < quota d) → (d m : ℕ) (q : Shipped) → proceed_parcel d m log' ≡ Some q → q.last ≡ false → m < quota d
 marks_posted quota e rounds last o o' log log' w a in_time was = by (was_moved o.due o'.due) refl where

@@ -13,10 +13,10 @@ use Rattle.convey.specs.Parts.{part_of}
 use Rattle.convey.specs.Progress.{advance_step}
 use Rattle.round_program.specs.Rules.{Rules}
 use Rattle.round_program.specs.Orders.{after_pulls}
-use Rattle.round_program.specs.Epochs.{heard, worked}
+use Rattle.round_program.specs.Epochs.{heard, after_work}
 use Rattle.rank_node.specs.declared.sends.Sends.{Sends}
 use Rattle.rank_node.specs.Sending.{to_send, is_voting, epoch_of, spoiled_vote}
-use Rattle.rank_node.specs.Runs.{Running, lists_of, HasTaken}
+use Rattle.rank_node.specs.Runs.{Running, part_lists, HasTaken}
 use Rattle.rank_node.specs.Pulls.{PushedOn}
 use Rattle.rank_node.specs.Movers.{AllRead}
 use Rattle.rank_node.specs.Movers.MoverState.{Conveying}
@@ -34,7 +34,7 @@ pub pushed_taken : {S : Type 0} (R : Rules S) (p rank : ℕ) (h : ℕ → S) (ro
     → PushedOn (to_send R prog sends) p next next' part part' → next ≤ next' → next' ≤ length (to_send R prog sends)
     → HasTaken R p rank h round sends next prog sum spoiled part → HasTaken R p rank h round sends next' prog sum spoiled part'
 pushed_taken R p rank h round sends next next' prog sum spoiled part part' on forward low is =
-    let work : worked R p h (lists_of part) round ≡ worked R p h (lists_of part') round = ap (λ f. after_pulls R (h round) (f (2 * round)) p) (sym on.pulled) in
+    let work : after_work R p h (part_lists part) round ≡ after_work R p h (part_lists part') round = ap (λ f. after_pulls R (h round) (f (2 * round)) p) (sym on.pulled) in
     record {
       passed = passed_same R p rank h round (is_voting sends) part part' (record { epoch = on.epoch; pushed = on.elsewhere; pulled = λ e d a. ap (λ f. f e d) on.pulled }) is.passed;
       within = record {

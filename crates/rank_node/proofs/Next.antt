@@ -6,16 +6,16 @@ use Rattle.bale_items.specs.declared.item.Entry.{Entry}
 use Rattle.port_bank.specs.Logs.{Logs}
 use Rattle.exstack.specs.declared.stage.Stage.{Stage}
 use Rattle.exstack.specs.declared.stage.Stage.TheVariants.{Start, Filling}
-use Rattle.exstack.specs.Links.{no_in}
-use Rattle.exstack.specs.State.{Stack, out_at, in_at, link_to, link_from, may_read}
-use Rattle.exstack.specs.Cycles.{exchange_parcel, entries_in}
+use Rattle.exstack.specs.Links.{no_stack_in}
+use Rattle.exstack.specs.State.{Stack, stack_out_at, stack_in_at, stack_link_to, stack_link_from, may_read}
+use Rattle.exstack.specs.Cycles.{exchange_parcel, entries_if_any}
 use Rattle.list_laws.specs.Lists.{Ends}
 use Rattle.exstack.specs.Agreement.{LinkAgrees, AgreesIn, back_first, rounds_in}
 use Rattle.exstack.specs.Standing.{IsStack}
 use Rattle.round_program.specs.Rules.{Rules}
 use Rattle.rank_node.specs.Sending.{to_send}
 use Rattle.rank_node.specs.Runs.{Running}
-use Rattle.rank_node.specs.Movers.{MoverState, IsStacking, IsMoving, GoesOn, epoch_in}
+use Rattle.rank_node.specs.Movers.{MoverState, IsStacking, IsMoving, GoesToNextEpoch, epoch_in}
 use Rattle.rank_node.specs.Movers.MoverState.{Conveying, Stacking}
 use Rattle.rank_node.specs.Cycles.{exchanges_in, cycles_gone_on, MarksLast, InCycle, IsInCycle}
 use Rattle.rank_node.proofs.Paced.{marks_like}
@@ -26,20 +26,20 @@ module _ (cap : ℕ) (x : Stack) (s : IsStack cap x) (start : x.stage ≡ Start)
   none_popped None e = refl
   none_popped (Some a) e = absurd (false≢true (sym (ap may_read start) ∙ (s.can_unpop a e).reading))
 
-  unread_none : (a : ℕ) → a < x.ranks → back_first x.popped a (in_at x a) ≡ []
-  unread_none a low = ap (λ o. back_first o a (in_at x a)) (none_popped x.popped refl) ∙ (s.each_in a no_in (omega (arith, low, s.all_ins))).read (ap may_read start)
+  unread_none : (a : ℕ) → a < x.ranks → back_first x.popped a (stack_in_at x a) ≡ []
+  unread_none a low = ap (λ o. back_first o a (stack_in_at x a)) (none_popped x.popped refl) ∙ (s.each_in a no_stack_in (omega (arith, low, s.all_ins))).read (ap may_read start)
 
   agrees_at_start : (n : ℕ) (sent got : Logs) → AgreesIn n x sent got → AgreesIn 0 x sent got
   agrees_at_start n sent got a =
       let rounds : rounds_in n x.stage ≡ rounds_in 0 x.stage = ap (rounds_in n) start ∙ sym (ap (rounds_in 0) start) in
       record {
-        outs = λ b low. subst (λ r. LinkAgrees x.epoch r (out_at x b).closed (out_at x b).due (sent (link_to x b))) rounds (a.outs b low);
-        ins = λ b low. subst (λ r. LinkAgrees x.epoch r (in_at x b).ended (in_at x b).due (got (link_from x b))) rounds (a.ins b low);
+        outs = λ b low. subst (λ r. LinkAgrees x.epoch r (stack_out_at x b).closed (stack_out_at x b).due (sent (stack_link_to x b))) rounds (a.outs b low);
+        ins = λ b low. subst (λ r. LinkAgrees x.epoch r (stack_in_at x b).ended (stack_in_at x b).due (got (stack_link_from x b))) rounds (a.ins b low);
         shapes = a.shapes;
         law = a.law;
         came = a.came;
         in_cycle = λ b low.
-            let whole : List Entry = entries_in (exchange_parcel x.epoch 0 (got (link_from x b))) in
+            let whole : List Entry = entries_if_any (exchange_parcel x.epoch 0 (got (stack_link_from x b))) in
             subst (Ends whole) (sym (unread_none b low)) (record { front = whole; is = sym (append-nil whole) });
         own = a.own;
       }
@@ -64,7 +64,7 @@ cycle_at_start R quota run cap x sent got is start few marks =
     }
 
 -- and of one that goes on to the next epoch
-pub next_cycle : {S : Type 0} (R : Rules S) (quota : ℕ → ℕ) (n : ℕ) (run run' : Running S) (m m' : MoverState) (sent0 got0 sent got : Logs) → IsMoving m sent0 got0 → GoesOn m m'
+pub next_cycle : {S : Type 0} (R : Rules S) (quota : ℕ → ℕ) (n : ℕ) (run run' : Running S) (m m' : MoverState) (sent0 got0 sent got : Logs) → IsMoving m sent0 got0 → GoesToNextEpoch m m'
     → IsInCycle R quota n run m sent got → length (to_send R run'.prog run'.sends) ≤ quota (epoch_in m') → IsInCycle R quota 0 run' m' sent got
 next_cycle R quota n run run' (Conveying c) (Conveying c') sent0 got0 sent got is b i few = tt
 next_cycle R quota n run run' (Conveying c) (Stacking cap x) sent0 got0 sent got is b i few = absurd (b.unread)

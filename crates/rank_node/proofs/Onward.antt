@@ -18,10 +18,10 @@ use Rattle.rank_node.specs.declared.sends.Sends.{Sends}
 use Rattle.rank_node.specs.declared.sends.Sends.TheVariants.{Emissions, Nothing, Votes}
 use Rattle.rank_node.specs.Sending.{is_voting, epoch_of, spoiled_vote}
 use Rattle.rank_node.specs.Runs.{Running, HasTaken}
-use Rattle.rank_node.specs.Movers.{MoverState, seen, HasCap, dims_of, rank_of, epoch_in, part_in, has_completed, IsConveying, IsMoving, IsStarting, GoesOn}
+use Rattle.rank_node.specs.Movers.{MoverState, mover_state, HasCap, mover_dims, mover_rank, epoch_in, part_in, has_completed, IsConveying, IsMoving, IsStarting, GoesToNextEpoch}
 use Rattle.rank_node.specs.Movers.MoverState.{Conveying, Stacking}
 use Rattle.rank_node.specs.Nodes.{NodeState, IsPaced, IsNode}
-use Rattle.rank_node.specs.Next.{extended}
+use Rattle.rank_node.specs.Next.{with_next}
 use Rattle.rank_node.proofs.Between.{to_votes, to_work}
 use Rattle.rank_node.proofs.Stacked.{done_of_all_done, not_proceeding}
 
@@ -67,8 +67,8 @@ pub epoch_is : {S : Type 0} {R : Rules S} {h : ℕ → S} {run : Running S} (m :
 epoch_is (Conveying c) sent got is = is.passed.epoch
 epoch_is (Stacking cap x) sent got is = is.passed.epoch
 
-module _ {S : Type 0} (R : Rules S) (laws : Laws R) (h : ℕ → S) (n : NodeState S) (m' : MoverState) (sent got : Logs) (b : GoesOn n.mover m') (over : has_completed n.mover ≡ true) (is : IsNode R h n sent got) where
-  abbrev own : HasTaken R (ranks (dims_of n.mover)) (rank_of n.mover) h n.run.round n.run.sends n.run.next n.run.prog n.run.sum n.run.spoiled (part_in n.mover sent got)
+module _ {S : Type 0} (R : Rules S) (laws : Laws R) (h : ℕ → S) (n : NodeState S) (m' : MoverState) (sent got : Logs) (b : GoesToNextEpoch n.mover m') (over : has_completed n.mover ≡ true) (is : IsNode R h n sent got) where
+  abbrev own : HasTaken R (ranks (mover_dims n.mover)) (mover_rank n.mover) h n.run.round n.run.sends n.run.next n.run.prog n.run.sum n.run.spoiled (part_in n.mover sent got)
   own = record { passed = is.passed; within = is.within }
 
   done : (part_in n.mover sent got).done ≡ true
@@ -76,34 +76,34 @@ module _ {S : Type 0} (R : Rules S) (laws : Laws R) (h : ℕ → S) (n : NodeSta
 
   -- over the mover in its next epoch
   node_of : (h' : ℕ → S) (round : ℕ) (sends : Sends) (next : ℕ) (prog : S) (sum : ℕ) (spoiled : Bool)
-      → HasTaken R (ranks (dims_of n.mover)) (rank_of n.mover) h' round sends next prog sum spoiled (after Reset (part_in n.mover sent got))
+      → HasTaken R (ranks (mover_dims n.mover)) (mover_rank n.mover) h' round sends next prog sum spoiled (after Reset (part_in n.mover sent got))
       → IsNode R h' (record { run = record { prog = prog; round = round; sends = sends; next = next; sum = sum; spoiled = spoiled }; mover = m' }) sent got
   node_of h' round sends next prog sum spoiled t =
-      let t1 = subst (HasTaken R (ranks (dims_of n.mover)) (rank_of n.mover) h' round sends next prog sum spoiled) (sym (b.step sent got is.moving).is) t in
-      let t2 : HasTaken R (ranks (dims_of m')) (rank_of m') h' round sends next prog sum spoiled (part_in m' sent got) =
-      subst (λ (d : List ℕ). HasTaken R (ranks d) (rank_of m') h' round sends next prog sum spoiled (part_in m' sent got)) (sym b.same_dims)
-      (subst (λ r. HasTaken R (ranks (dims_of n.mover)) r h' round sends next prog sum spoiled (part_in m' sent got)) (sym b.same_rank) t1) in
+      let t1 = subst (HasTaken R (ranks (mover_dims n.mover)) (mover_rank n.mover) h' round sends next prog sum spoiled) (sym (b.step sent got is.moving).is) t in
+      let t2 : HasTaken R (ranks (mover_dims m')) (mover_rank m') h' round sends next prog sum spoiled (part_in m' sent got) =
+      subst (λ (d : List ℕ). HasTaken R (ranks d) (mover_rank m') h' round sends next prog sum spoiled (part_in m' sent got)) (sym b.same_dims)
+      (subst (λ r. HasTaken R (ranks (mover_dims n.mover)) r h' round sends next prog sum spoiled (part_in m' sent got)) (sym b.same_rank) t1) in
       record { moving = b.moving sent got is.moving; paced = paced_start R (record { prog = prog; round = round; sends = sends; next = next; sum = sum; spoiled = spoiled }) m' b.starts; passed = t2.passed; within = t2.within }
 
-  pub node_votes : (vote q : ℕ) → is_voting n.run.sends ≡ false → q ≡ ranks (dims_of n.mover) → vote ≡ cond n.run.spoiled spoiled_vote (R.vote n.run.prog)
+  pub node_votes : (vote q : ℕ) → is_voting n.run.sends ≡ false → q ≡ ranks (mover_dims n.mover) → vote ≡ cond n.run.spoiled spoiled_vote (R.vote n.run.prog)
       → IsNode R h (record { run = record { prog = n.run.prog; round = n.run.round; sends = Votes vote q; next = 0; sum = 0; spoiled = n.run.spoiled }; mover = m' }) sent got
   node_votes vote q work same is_vote =
       node_of h n.run.round (Votes vote q) 0 n.run.prog 0 n.run.spoiled
-      (to_votes R laws (ranks (dims_of n.mover)) (rank_of n.mover) h n.run.round n.run.next n.run.prog n.run.sum n.run.spoiled (part_in n.mover sent got) done n.run.sends vote q work same is_vote own)
+      (to_votes R laws (ranks (mover_dims n.mover)) (mover_rank n.mover) h n.run.round n.run.next n.run.prog n.run.sum n.run.spoiled (part_in n.mover sent got) done n.run.sends vote q work same is_vote own)
 
   pub node_work : (prog' : S) (lost : Bool) (sends : Sends) → n.run.sum ≢ 2 ^ 64 - 1 → n.run.round < 2 ^ 63 → R.goes_on (R.shape n.run.prog) (R.round n.run.prog) n.run.sum ≡ true
       → is_voting n.run.sends ≡ true → n.run.spoiled ≡ false → is_voting sends ≡ false → (lost ≡ false → prog' ≡ R.ended n.run.prog n.run.sum) → (sends ≡ Emissions → lost ≡ false) → (sends ≡ Nothing → lost ≡ true)
-      → IsNode R (extended h (n.run.round + 1) (R.ended n.run.prog n.run.sum)) (record { run = record { prog = prog'; round = n.run.round + 1; sends = sends; next = 0; sum = 0; spoiled = lost }; mover = m' }) sent got
+      → IsNode R (with_next h (n.run.round + 1) (R.ended n.run.prog n.run.sum)) (record { run = record { prog = prog'; round = n.run.round + 1; sends = sends; next = 0; sum = 0; spoiled = lost }; mover = m' }) sent got
   node_work prog' lost sends clean few goes votes fine work ended some none =
-      node_of (extended h (n.run.round + 1) (R.ended n.run.prog n.run.sum)) (n.run.round + 1) sends 0 prog' 0 lost
-      (by n.run.sends votes (subst (λ b. HasTaken R (ranks (dims_of n.mover)) (rank_of n.mover) h n.run.round n.run.sends n.run.next n.run.prog n.run.sum b (part_in n.mover sent got)) fine own)) where
-        by : (s : Sends) → is_voting s ≡ true → HasTaken R (ranks (dims_of n.mover)) (rank_of n.mover) h n.run.round s n.run.next n.run.prog n.run.sum false (part_in n.mover sent got)
-            → HasTaken R (ranks (dims_of n.mover)) (rank_of n.mover) (extended h (n.run.round + 1) (R.ended n.run.prog n.run.sum)) (n.run.round + 1) sends 0 prog' 0 lost (after Reset (part_in n.mover sent got))
+      node_of (with_next h (n.run.round + 1) (R.ended n.run.prog n.run.sum)) (n.run.round + 1) sends 0 prog' 0 lost
+      (by n.run.sends votes (subst (λ b. HasTaken R (ranks (mover_dims n.mover)) (mover_rank n.mover) h n.run.round n.run.sends n.run.next n.run.prog n.run.sum b (part_in n.mover sent got)) fine own)) where
+        by : (s : Sends) → is_voting s ≡ true → HasTaken R (ranks (mover_dims n.mover)) (mover_rank n.mover) h n.run.round s n.run.next n.run.prog n.run.sum false (part_in n.mover sent got)
+            → HasTaken R (ranks (mover_dims n.mover)) (mover_rank n.mover) (with_next h (n.run.round + 1) (R.ended n.run.prog n.run.sum)) (n.run.round + 1) sends 0 prog' 0 lost (after Reset (part_in n.mover sent got))
         by Emissions v t = absurd (true≢false (sym v))
         by Nothing v t = absurd (true≢false (sym v))
-        by (Votes v q) e t = to_work R laws (ranks (dims_of n.mover)) (rank_of n.mover) h n.run.round n.run.next n.run.prog prog' n.run.sum lost sends (part_in n.mover sent got) v q done clean few goes work ended some none t
+        by (Votes v q) e t = to_work R laws (ranks (mover_dims n.mover)) (mover_rank n.mover) h n.run.round n.run.next n.run.prog prog' n.run.sum lost sends (part_in n.mover sent got) v q done clean few goes work ended some none t
 
 -- a mover has the capacity of its type
-pub seen_cap : {cap hops : ℕ} (m : Mover cap hops) → HasCap cap (seen m)
+pub seen_cap : {cap hops : ℕ} (m : Mover cap hops) → HasCap cap (mover_state m)
 seen_cap (mover.Convey c) = tt
 seen_cap (mover.Exstack x) = refl

@@ -6,7 +6,7 @@ use Rattle.std.proofs.lemmas.Bool.{eq-eqb}
 use Rattle.std.proofs.lemmas.List.{take_all, append-nil, get_or_append_left}
 use Rattle.bale_items.specs.declared.item.Entry.{Entry}
 use Rattle.item_buffer.specs.Contents.{Shipped}
-use Rattle.list_laws.specs.Lists.{Begins}
+use Rattle.list_laws.specs.Lists.{IsPrefix}
 use Rattle.list_laws.specs.Sums.{total}
 use Rattle.list_laws.proofs.Sums.{total_part}
 use Rattle.route_tensor.specs.Grid.{ranks, place, IsGrid}
@@ -29,21 +29,21 @@ use Rattle.convey.specs.Agreement.{items_among}
 use Rattle.convey.specs.Parts as conveyor_parts
 use Rattle.exstack.specs.declared.stage.Stage.{Stage}
 use Rattle.exstack.specs.declared.stage.Stage.TheVariants.{Start, Proceeding, Filling, Exchanging, Full, AllDone}
-use Rattle.exstack.specs.Links.{no_in, no_out}
-use Rattle.exstack.specs.State.{Stack, out_at, in_at, link_to, may_read}
+use Rattle.exstack.specs.Links.{no_stack_in, no_stack_out}
+use Rattle.exstack.specs.State.{Stack, stack_out_at, stack_in_at, stack_link_to, may_read}
 use Rattle.exstack.specs.Cycles.{odd_ones, entries_sent, entries_exchanged, items}
 use Rattle.exstack.specs.Agreement.{AgreesIn}
 use Rattle.exstack.specs.Parts as exstack_parts
 use Rattle.round_program.specs.Rules.{Rules}
 use Rattle.round_program.specs.Canonical.{items_of}
-use Rattle.round_program.specs.Epochs.{PairLists, vote_item, heard, worked}
+use Rattle.round_program.specs.Epochs.{PairLists, vote_item, heard, after_work}
 use Rattle.rank_node.specs.declared.sends.Sends.{Sends}
 use Rattle.rank_node.specs.declared.sends.Sends.TheVariants.{Emissions, Nothing, Votes}
 use Rattle.rank_node.specs.Fits.{IsGridRank}
-use Rattle.rank_node.specs.Movers.{MoverState, IsConveying, IsStacking, IsMoving, dims_of, rank_of, part_in, has_completed}
+use Rattle.rank_node.specs.Movers.{MoverState, IsConveying, IsStacking, IsMoving, mover_dims, mover_rank, part_in, has_completed}
 use Rattle.rank_node.specs.Movers.MoverState.{Conveying, Stacking}
 use Rattle.rank_node.specs.Sending.{to_send, is_voting, spoiled_vote}
-use Rattle.rank_node.specs.Runs.{lists_of}
+use Rattle.rank_node.specs.Runs.{part_lists}
 use Rattle.rank_node.specs.Nodes.{NodeState, IsNode}
 use Rattle.rank_node.proofs.Ballots.{votes_each}
 use Rattle.rank_node.proofs.Onward.{done_of_completed}
@@ -74,7 +74,7 @@ module _ (c : State) (sent got : Logs) (is : IsConveying c sent got) (at : IsGri
   reader : (h : ℕ) → 1 ≤ h → h ≤ length c.dims → reader_at c.dims (own h) ≡ r
   reader h first last = reader-on_route c.dims r r h at.grid at.low at.low first last ∙ place_own c.dims r h at.grid last
 
-  front : (h : ℕ) → 1 ≤ h → h ≤ length c.dims → Begins (got (own h)) (sent (own h))
+  front : (h : ℕ) → 1 ≤ h → h ≤ length c.dims → IsPrefix (got (own h)) (sent (own h))
   front h first last = is.agrees.own (own h) (below h first last) (sender h first last) (reader h first last)
 
   marks : (b : Bool) (n : ℕ) → b ≡ true → n ≡ lasts_in c.epoch b → c.epoch < n
@@ -136,17 +136,17 @@ all_odd (p ∷ q ∷ ps) h =
     let rest = all_odd ps (λ i d w even. h (suc (suc i)) d (omega (arith, w)) (let r : suc (suc i) % 2 ≡ i % 2 = omega arith in r ∙ even)) in
     ap (λ es. q.entries ++ es) rest ∙ ap (λ es. es ++ (q.entries ++ flat_map (λ (x : Shipped). x.entries) ps)) (sym (h 0 p (omega arith) refl))
 
-prefix_empty : (xs ys : List Shipped) → Begins xs ys → EvensEmpty ys → EvensEmpty xs
+prefix_empty : (xs ys : List Shipped) → IsPrefix xs ys → EvensEmpty ys → EvensEmpty xs
 prefix_empty xs ys b h i d w even =
     let same : get_or ys i d ≡ get_or xs i d = ap (λ zs. get_or zs i d) b.is ∙ get_or_append_left xs b.rest d i w in
     ap (λ (p : Shipped). p.entries) (sym same) ∙ h i d (omega (arith, w, begins_shorter xs ys b)) even
 
-exchanged_got : (e : ℕ) (sent got : List Shipped) → Begins got sent → IsExstackShape sent → entries_exchanged e got ≡ entries_sent e got
+exchanged_got : (e : ℕ) (sent got : List Shipped) → IsPrefix got sent → IsExstackShape sent → entries_exchanged e got ≡ entries_sent e got
 exchanged_got e sent got b s = all_odd (segment e got) (prefix_empty (segment e got) (segment e sent) (segment_begins e got sent b) (λ i d w even. s.empty e i d w even))
 
 module _ (cap : ℕ) (x : Stack) (sent got : Logs) (is : IsStacking cap x sent got) (over : exstack_parts.is_all_done x.stage ≡ true) where
   abbrev l : ℕ
-  l = link_to x x.rank
+  l = stack_link_to x x.rank
 
   abbrev a : AgreesIn is.agrees.cycle x sent got
   a = is.agrees.agrees
@@ -159,18 +159,18 @@ module _ (cap : ℕ) (x : Stack) (sent got : Logs) (is : IsStacking cap x sent g
   stack_marks false n e is' = absurd (cc)
 
   stack_ended : x.epoch < lasts (got l)
-  stack_ended = stack_marks (in_at x x.rank).ended (lasts (got l)) ((is.stack.each_in x.rank no_in (subst (λ n. x.rank < n) (sym is.stack.all_ins) low)).all_ended over) (a.ins x.rank low).ended
+  stack_ended = stack_marks (stack_in_at x x.rank).ended (lasts (got l)) ((is.stack.each_in x.rank no_stack_in (subst (λ n. x.rank < n) (sym is.stack.all_ins) low)).all_ended over) (a.ins x.rank low).ended
 
-  stack_closed : (out_at x x.rank).closed ≡ true
-  stack_closed = by (out_at x x.rank).closed refl where
-    by : (b : Bool) → (out_at x x.rank).closed ≡ b → (out_at x x.rank).closed ≡ true
+  stack_closed : (stack_out_at x x.rank).closed ≡ true
+  stack_closed = by (stack_out_at x x.rank).closed refl where
+    by : (b : Bool) → (stack_out_at x x.rank).closed ≡ b → (stack_out_at x x.rank).closed ≡ true
     by true e = e
     by false e =
         let n : lasts (sent l) ≡ x.epoch = (a.outs x.rank low).ended ∙ ap (lasts_in x.epoch) e in
         absurd (omega (arith, n, stack_ended, lasts_begins (got l) (sent l) a.own))
 
-  stack_read : (in_at x x.rank).unread ≡ []
-  stack_read = (is.stack.each_in x.rank no_in (subst (λ n. x.rank < n) (sym is.stack.all_ins) low)).read (by x.stage over) where
+  stack_read : (stack_in_at x x.rank).unread ≡ []
+  stack_read = (is.stack.each_in x.rank no_stack_in (subst (λ n. x.rank < n) (sym is.stack.all_ins) low)).read (by x.stage over) where
     by : (s : Stage) → exstack_parts.is_all_done s ≡ true → may_read s ≡ false
     by Start e = absurd (cc)
     by Proceeding e = absurd (cc)
@@ -179,31 +179,31 @@ module _ (cap : ℕ) (x : Stack) (sent got : Logs) (is : IsStacking cap x sent g
     by Full e = absurd (cc)
     by AllDone e = refl
 
-  stack_emptied : (out_at x x.rank).waiting ≡ []
-  stack_emptied = (is.stack.each_out x.rank no_out (subst (λ n. x.rank < n) (sym is.stack.all_outs) low)).closed_empty stack_closed
+  stack_emptied : (stack_out_at x x.rank).waiting ≡ []
+  stack_emptied = (is.stack.each_out x.rank no_stack_out (subst (λ n. x.rank < n) (sym is.stack.all_outs) low)).closed_empty stack_closed
 
-  stack_pushed : exstack_parts.pushed_to x sent x.epoch x.rank ≡ items (entries_sent x.epoch (sent l))
+  stack_pushed : exstack_parts.stack_pushed_to x sent x.epoch x.rank ≡ items (entries_sent x.epoch (sent l))
   stack_pushed =
-      ap (λ b. items (entries_sent x.epoch (sent l)) ++ cond b (items (out_at x x.rank).waiting) []) (eq-eqb x.epoch x.epoch refl)
+      ap (λ b. items (entries_sent x.epoch (sent l)) ++ cond b (items (stack_out_at x x.rank).waiting) []) (eq-eqb x.epoch x.epoch refl)
       ∙ (ap (λ (es : List Entry). items (entries_sent x.epoch (sent l)) ++ items es) stack_emptied ∙ append-nil (items (entries_sent x.epoch (sent l))))
 
-  stack_none : cond (x.epoch == x.epoch) (length (in_at x x.rank).unread) 0 ≡ 0
-  stack_none = ap (λ b. cond b (length (in_at x x.rank).unread) 0) (eq-eqb x.epoch x.epoch refl) ∙ ap (λ (es : List Entry). length es) stack_read
+  stack_none : cond (x.epoch == x.epoch) (length (stack_in_at x x.rank).unread) 0 ≡ 0
+  stack_none = ap (λ b. cond b (length (stack_in_at x x.rank).unread) 0) (eq-eqb x.epoch x.epoch refl) ∙ ap (λ (es : List Entry). length es) stack_read
 
   stack_came : items (entries_exchanged x.epoch (got l)) ≡ items (entries_sent x.epoch (sent l))
   stack_came =
       ap items (exchanged_got x.epoch (sent l) (got l) a.own (a.shapes x.rank low))
       ∙ ap (λ (ps : List Shipped). items (flat_map (λ (p : Shipped). p.entries) ps)) (sym (segment_same x.epoch (got l) (sent l) a.own stack_ended))
 
-  pub own_stacked : (exstack_parts.part_of x sent got).pulled x.epoch x.rank ≡ (exstack_parts.part_of x sent got).pushed x.epoch x.rank
+  pub own_stacked : (exstack_parts.stack_part x sent got).pulled x.epoch x.rank ≡ (exstack_parts.stack_part x sent got).pushed x.epoch x.rank
   own_stacked =
-      for_ranks-within x.ranks (exstack_parts.pulled_of x got) x.epoch x.rank low
-      ∙ (take_whole (cond (x.epoch == x.epoch) (length (in_at x x.rank).unread) 0) (items (entries_exchanged x.epoch (got l))) stack_none
-      ∙ (stack_came ∙ (sym stack_pushed ∙ sym (for_ranks-within x.ranks (exstack_parts.pushed_to x sent) x.epoch x.rank low))))
+      for_ranks-within x.ranks (exstack_parts.popped_of x got) x.epoch x.rank low
+      ∙ (take_whole (cond (x.epoch == x.epoch) (length (stack_in_at x x.rank).unread) 0) (items (entries_exchanged x.epoch (got l))) stack_none
+      ∙ (stack_came ∙ (sym stack_pushed ∙ sym (for_ranks-within x.ranks (exstack_parts.stack_pushed_to x sent) x.epoch x.rank low))))
 
 -- either of them
-pub own_pulled : (m : MoverState) (sent got : Logs) → IsMoving m sent got → IsGridRank (dims_of m) (rank_of m) → has_completed m ≡ true
-    → (part_in m sent got).pulled (part_in m sent got).epoch (rank_of m) ≡ (part_in m sent got).pushed (part_in m sent got).epoch (rank_of m)
+pub own_pulled : (m : MoverState) (sent got : Logs) → IsMoving m sent got → IsGridRank (mover_dims m) (mover_rank m) → has_completed m ≡ true
+    → (part_in m sent got).pulled (part_in m sent got).epoch (mover_rank m) ≡ (part_in m sent got).pushed (part_in m sent got).epoch (mover_rank m)
 own_pulled (Conveying c) sent got is at over = own_conveyed c sent got is at over
 own_pulled (Stacking cap x) sent got is at over = own_stacked cap x sent got is over
 
@@ -219,15 +219,15 @@ take_same : {T : Type 0} (n : ℕ) (xs : List T) → n ≡ length xs → take n 
 take_same n xs e = take_all n xs (omega (arith, e))
 
 -- a spoiled rank that has completed the epoch of its votes has heard its own
-pub spoiled_sum : {S : Type 0} (R : Rules S) (h : ℕ → S) (n : NodeState S) (sent got : Logs) → IsNode R h n sent got → IsGridRank (dims_of n.mover) (rank_of n.mover) → has_completed n.mover ≡ true
+pub spoiled_sum : {S : Type 0} (R : Rules S) (h : ℕ → S) (n : NodeState S) (sent got : Logs) → IsNode R h n sent got → IsGridRank (mover_dims n.mover) (mover_rank n.mover) → has_completed n.mover ≡ true
     → is_voting n.run.sends ≡ true → n.run.spoiled ≡ true → n.run.sum ≡ 2 ^ 64 - 1
-spoiled_sum {S} R h n sent got is at over votes lost = is.within.hears votes ∙ heard_spoiled p (lists_of part) n.run.round own at.low (by n.run.sends refl)
+spoiled_sum {S} R h n sent got is at over votes lost = is.within.hears votes ∙ heard_spoiled p (part_lists part) n.run.round own at.low (by n.run.sends refl)
   where
     p : ℕ
-    p = ranks (dims_of n.mover)
+    p = ranks (mover_dims n.mover)
 
     own : ℕ
-    own = rank_of n.mover
+    own = mover_rank n.mover
 
     part : Part
     part = part_in n.mover sent got
@@ -246,7 +246,7 @@ spoiled_sum {S} R h n sent got is at over votes lost = is.within.hears votes ∙
     by Nothing e = absurd (true≢false (sym votes ∙ ap is_voting e))
     by (Votes v q) e =
         let w = is.within.vote v q e in
-        let v_is : v ≡ 2 ^ 64 - 1 = w.1 ∙ ap (λ b. cond b spoiled_vote (R.vote (worked R p h (lists_of part) n.run.round))) lost in
+        let v_is : v ≡ 2 ^ 64 - 1 = w.1 ∙ ap (λ b. cond b spoiled_vote (R.vote (after_work R p h (part_lists part) n.run.round))) lost in
         ap (λ (k : ℕ). part.pulled k own) (sym epoch)
         ∙ (own_pulled n.mover sent got is.moving at over
         ∙ (pushed

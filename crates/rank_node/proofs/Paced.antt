@@ -3,13 +3,13 @@ use Rattle.std.proofs.Common.{◌≡◌, ◌⊎◌, ℕ, suc, ◌+◌, ◌*◌, 
 use Rattle.std.specs.List.{list_all}
 use Rattle.std.proofs.lemmas.Bool.{cases_Bool, cases_lt, true≢false, false≢true}
 use Rattle.std.proofs.lemmas.List.{length-map, append-nil}
-use Rattle.list_laws.specs.Lists.{Begins}
+use Rattle.list_laws.specs.Lists.{IsPrefix}
 use Rattle.list_laws.proofs.Lists.{find}
 use Rattle.port_bank.specs.Logs.{Logs, lasts, segment, lasts_in}
 use Rattle.exstack.specs.declared.stage.Stage.{Stage}
 use Rattle.exstack.specs.declared.stage.Stage.TheVariants.{Start, Proceeding, Filling, Exchanging, Full, AllDone}
-use Rattle.exstack.specs.Links.{Out, In, no_out, no_in, gone, begun_out, begun_in}
-use Rattle.exstack.specs.State.{Stack, out_at, in_at, number, link_to, link_from, may_proceed, is_proceeding, is_exchanging, in_proceed, in_exchange, all_ended}
+use Rattle.exstack.specs.Links.{StackOut, StackIn, no_stack_out, no_stack_in, gone, begun_out, begun_in}
+use Rattle.exstack.specs.State.{Stack, stack_out_at, stack_in_at, number, stack_link_to, stack_link_from, may_proceed, is_proceeding, is_exchanging, in_proceed, in_exchange, all_ended}
 use Rattle.exstack.specs.Steps.{MadeRound, was_moved}
 use Rattle.exstack.specs.Cycles.{proceed_parcel}
 use Rattle.exstack.specs.Agreement.{LinkAgrees, AgreesIn, rounds_in, cycle_after}
@@ -29,17 +29,17 @@ use Rattle.rank_node.proofs.Marks.{open_going, parcel_stays, marks_posted}
 -- the same rank's links are meant
 pub marks_like : (quota : ℕ → ℕ) (x y : Stack) (sent : Logs) → y.ranks ≡ x.ranks → y.rank ≡ x.rank → MarksLast quota x sent → MarksLast quota y sent
 marks_like quota x y sent ranks rank was = λ e b m p low at going.
-    let l : link_to y b ≡ link_to x b = ap (λ n. number n y.rank b) ranks ∙ ap (λ r. number x.ranks r b) rank in
+    let l : stack_link_to y b ≡ stack_link_to x b = ap (λ n. number n y.rank b) ranks ∙ ap (λ r. number x.ranks r b) rank in
     was e b m p (omega (arith, low, ranks)) (sym (ap (λ j. proceed_parcel e m (sent j)) l) ∙ at) going
 
-went_like : (e m : ℕ) (x y : Stack) (got got' : Logs) → y.ranks ≡ x.ranks → y.rank ≡ x.rank → ((l : ℕ) → Begins (got l) (got' l)) → WentOn e m x got → WentOn e m y got'
+went_like : (e m : ℕ) (x y : Stack) (got got' : Logs) → y.ranks ≡ x.ranks → y.rank ≡ x.rank → ((l : ℕ) → IsPrefix (got l) (got' l)) → WentOn e m x got → WentOn e m y got'
 went_like e m x y got got' ranks rank grows w =
-    let l : link_from y w.sender ≡ link_from x w.sender = ap (λ n. number n w.sender y.rank) ranks ∙ ap (λ r. number x.ranks w.sender r) rank in
+    let l : stack_link_from y w.sender ≡ stack_link_from x w.sender = ap (λ n. number n w.sender y.rank) ranks ∙ ap (λ r. number x.ranks w.sender r) rank in
     record {
       sender = w.sender;
       low = omega (arith, w.low, ranks);
       parcel = w.parcel;
-      came = ap (λ j. proceed_parcel e m (got' j)) l ∙ parcel_stays e m (got (link_from x w.sender)) (got' (link_from x w.sender)) w.parcel (grows (link_from x w.sender)) w.came;
+      came = ap (λ j. proceed_parcel e m (got' j)) l ∙ parcel_stays e m (got (stack_link_from x w.sender)) (got' (stack_link_from x w.sender)) w.parcel (grows (stack_link_from x w.sender)) w.came;
       going = w.going;
     }
 
@@ -48,28 +48,28 @@ marks_made : (quota : ℕ → ℕ) (n : ℕ) (mid x' : Stack) (last exchange : B
     → x'.ranks ≡ mid.ranks → x'.rank ≡ mid.rank → x'.epoch ≡ mid.epoch
     → (last ≡ false → (m : ℕ) → 2 * m + 1 ≡ rounds_in n x'.stage → m < quota x'.epoch) → MarksLast quota mid sent → MarksLast quota x' sent'
 marks_made quota n mid x' last exchange sent sent' got got' made agrees ranks rank epoch in_time was = λ e b m p low at going.
-    let l : link_to x' b ≡ link_to mid b = ap (λ k. number k x'.rank b) ranks ∙ ap (λ r. number mid.ranks r b) rank in
+    let l : stack_link_to x' b ≡ stack_link_to mid b = ap (λ k. number k x'.rank b) ranks ∙ ap (λ r. number mid.ranks r b) rank in
     let low' : b < mid.ranks = omega (arith, low, ranks) in
-    let o = out_at mid b in
-    let o' = out_at x' b in
-    let a : LinkAgrees mid.epoch (rounds_in n x'.stage) o'.closed o'.due (sent' (link_to mid b)) =
-    subst (λ d. LinkAgrees d (rounds_in n x'.stage) o'.closed o'.due (sent' (link_to mid b))) epoch
+    let o = stack_out_at mid b in
+    let o' = stack_out_at x' b in
+    let a : LinkAgrees mid.epoch (rounds_in n x'.stage) o'.closed o'.due (sent' (stack_link_to mid b)) =
+    subst (λ d. LinkAgrees d (rounds_in n x'.stage) o'.closed o'.due (sent' (stack_link_to mid b))) epoch
     (subst (λ j. LinkAgrees x'.epoch (rounds_in n x'.stage) o'.closed o'.due (sent' j)) l (agrees.outs b low)) in
-    marks_posted quota mid.epoch (rounds_in n x'.stage) last o o' (sent (link_to mid b)) (sent' (link_to mid b)) (made.posted b low') a
+    marks_posted quota mid.epoch (rounds_in n x'.stage) last o o' (sent (stack_link_to mid b)) (sent' (stack_link_to mid b)) (made.posted b low') a
     (λ f k c. subst (λ d. k < quota d) epoch (in_time f k c)) (λ d k q old g. was d b k q low' old g) e m p (sym (ap (λ j. proceed_parcel e m (sent' j)) l) ∙ at) going
 
 -- where not every link in has ended
-record Open (ins : List In) : Type 0 where
+record Open (ins : List StackIn) : Type 0 where
   pub sender : ℕ
   pub low : sender < length ins
-  pub going : (get_or ins sender no_in).ended ≡ false
+  pub going : (get_or ins sender no_stack_in).ended ≡ false
 
-one_open : (ins : List In) → list_all (λ (i : In). i.ended) ins ≡ false → Open ins
+one_open : (ins : List StackIn) → list_all (λ (i : StackIn). i.ended) ins ≡ false → Open ins
 one_open [] h = absurd (true≢false h)
 one_open (i ∷ is) h =
     elim (cases_Bool i.ended) [
       | inl t ↦
-          let r = one_open is (sym (ap (λ b. b && list_all (λ (k : In). k.ended) is) t) ∙ h) in record { sender = suc r.sender; low = omega (arith, r.low); going = r.going }
+          let r = one_open is (sym (ap (λ b. b && list_all (λ (k : StackIn). k.ended) is) t) ∙ h) in record { sender = suc r.sender; low = omega (arith, r.low); going = r.going }
       | inr f ↦ record { sender = 0; low = omega arith; going = f }
     ]
 
@@ -81,10 +81,10 @@ goes_on : (cap n : ℕ) (x : Stack) (sent got : Logs) → IsStack cap x → Agre
 goes_on cap n x sent got s a stage ended =
     let o = one_open x.ins ended in
     let low : o.sender < x.ranks = omega (arith, o.low, s.all_ins) in
-    let i = in_at x o.sender in
-    let log = got (link_from x o.sender) in
+    let i = stack_in_at x o.sender in
+    let log = got (stack_link_from x o.sender) in
     let agrees = a.ins o.sender low in
-    let due : i.due ≡ false = elim (cases_Bool i.due) [ inl d ↦ absurd (filling_apart x.stage stage ((s.each_in o.sender no_in o.low).due_round d)) | inr d ↦ d ] in
+    let due : i.due ≡ false = elim (cases_Bool i.due) [ inl d ↦ absurd (filling_apart x.stage stage ((s.each_in o.sender no_stack_in o.low).due_round d)) | inr d ↦ d ] in
     let open' : lasts log ≡ x.epoch = agrees.ended ∙ ap (lasts_in x.epoch) o.going in
     let rounds : rounds_in n x.stage ≡ 2 * n + 1 = ap (rounds_in n) stage in
     let count : length (segment x.epoch log) + cond i.due 1 0 ≡ rounds_in n x.stage = agrees.each_round o.going in
@@ -129,10 +129,10 @@ record Stays (mid x : Stack) : Type 0 where
   pub ranks : mid.ranks ≡ x.ranks
   pub rank : mid.rank ≡ x.rank
   pub epoch : mid.epoch ≡ x.epoch
-  pub waiting : (b : ℕ) → b < length x.outs → (out_at mid b).waiting ≡ (out_at x b).waiting
+  pub waiting : (b : ℕ) → b < length x.outs → (stack_out_at mid b).waiting ≡ (stack_out_at x b).waiting
 
-begun_waits : (outs : List Out) (b : ℕ) → b < length outs → (get_or (map begun_out outs) b no_out).waiting ≡ (get_or outs b no_out).waiting
-begun_waits outs b low = ap (λ (o : Out). o.waiting) (begun_outs outs b no_out (omega (arith, low, length-map outs begun_out)))
+begun_waits : (outs : List StackOut) (b : ℕ) → b < length outs → (get_or (map begun_out outs) b no_stack_out).waiting ≡ (get_or outs b no_stack_out).waiting
+begun_waits outs b low = ap (λ (o : StackOut). o.waiting) (begun_outs outs b no_stack_out (omega (arith, low, length-map outs begun_out)))
 
 proceed_begins : (done : Bool) (x : Stack) → Stays (in_proceed done x) x
 proceed_begins done x = by (is_proceeding x.stage) where
@@ -201,17 +201,17 @@ module _ {S : Type 0} (R : Rules S) (cap : ℕ) (run run' : Running S) (x x1 x2 
   done_is f = sym (ap (λ (t : Stack). t.done) p.same) ∙ f
 
   -- no entry waits
-  emptied : (b : ℕ) → b < x2.ranks → (out_at x2 b).waiting ≡ []
+  emptied : (b : ℕ) → b < x2.ranks → (stack_out_at x2 b).waiting ≡ []
   emptied b low =
       let low0 : b < x.ranks = omega (arith, low, ranks) in
       let low1 : b < x1.ranks = omega (arith, low0, ap (λ (t : Stack). t.ranks) p.popped) in
-      let o = out_at (in_proceed done x1) b in
-      let o' = out_at x2 b in
-      let none : (out_at x b).waiting ≡ [] = (p.standing.each_out b no_out (omega (arith, low0, p.standing.all_outs))).sent_on (proceed_waits x.stage (out_at x b).due p.may) in
-      let old : o.waiting ≡ [] = begins.waiting b (omega (arith, low0, p.standing.all_outs, ap length outs)) ∙ (ap (λ os. (get_or os b no_out).waiting) outs ∙ none) in
+      let o = stack_out_at (in_proceed done x1) b in
+      let o' = stack_out_at x2 b in
+      let none : (stack_out_at x b).waiting ≡ [] = (p.standing.each_out b no_stack_out (omega (arith, low0, p.standing.all_outs))).sent_on (proceed_waits x.stage (stack_out_at x b).due p.may) in
+      let old : o.waiting ≡ [] = begins.waiting b (omega (arith, low0, p.standing.all_outs, ap length outs)) ∙ (ap (λ os. (get_or os b no_stack_out).waiting) outs ∙ none) in
       let link : o' ≡ cond (was_moved o.due o'.due) (gone done) o = (p.made.posted b (omega (arith, low1, begins.ranks))).link in
-      ap (λ (k : Out). k.waiting) link ∙ either (was_moved o.due o'.due) (gone done) o refl old where
-        either : (b : Bool) (y z : Out) → y.waiting ≡ [] → z.waiting ≡ [] → (cond b y z).waiting ≡ []
+      ap (λ (k : StackOut). k.waiting) link ∙ either (was_moved o.due o'.due) (gone done) o refl old where
+        either : (b : Bool) (y z : StackOut) → y.waiting ≡ [] → z.waiting ≡ [] → (cond b y z).waiting ≡ []
         either true y z e f = e
         either false y z e f = f
 

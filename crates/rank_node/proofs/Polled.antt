@@ -14,11 +14,11 @@ use Rattle.exstack.specs.declared.stage.Stage.{Stage}
 use Rattle.exstack.specs.declared.stage.Stage.TheVariants.{Proceeding, Filling, Exchanging, AllDone}
 use Rattle.exstack.specs.declared.stage.Poll.{Poll}
 use Rattle.exstack.specs.declared.stage.Poll.TheVariants.{Ready, NotYet}
-use Rattle.exstack.specs.Links.{no_out, no_in}
-use Rattle.exstack.specs.State.{Stack, dims_of, out_at, in_at, number, link_to, link_from, is_proceeding, is_exchanging, stage_of_exchange}
+use Rattle.exstack.specs.Links.{no_stack_out, no_stack_in}
+use Rattle.exstack.specs.State.{Stack, stack_dims, stack_out_at, stack_in_at, number, stack_link_to, stack_link_from, is_proceeding, is_exchanging, stage_of_exchange}
 use Rattle.exstack.specs.Steps.{MadeRound, was_moved}
-use Rattle.exstack.specs.Agreement.{AgreesWith}
-use Rattle.exstack.specs.Parts.{part_of, AreOwnSteps, proceed_steps, is_all_done}
+use Rattle.exstack.specs.Agreement.{StackAgrees}
+use Rattle.exstack.specs.Parts.{stack_part, AreOwnSteps, proceed_steps, is_all_done}
 use Rattle.exstack.specs.Standing.{IsStack}
 use Rattle.exstack.proofs.OneHop.{ranks_one, grid_one, link_one}
 use Rattle.round_program.specs.Rules.{Rules}
@@ -78,27 +78,27 @@ pub record Made (cap : ℕ) (x mid x' : Stack) (last exchange : Bool) (sent sent
   pub same_rank : x'.rank ≡ x.rank
   pub same_epoch : x'.epoch ≡ x.epoch
   pub made : MadeRound last exchange mid x' sent sent' got got'
-  pub agrees : AgreesWith x' sent' got'
+  pub agrees : StackAgrees x' sent' got'
 
 module _ (cap : ℕ) (x mid x' : Stack) (last exchange : Bool) (sent sent' got got' : Logs) (m : Made cap x mid x' last exchange sent sent' got got') where
-  one_sent : (l : ℕ) → l < links (dims_of x) → sender_at (dims_of x) l ≡ x.rank → length (sent' l) ≤ length (sent l) + 1
+  one_sent : (l : ℕ) → l < links (stack_dims x) → sender_at (stack_dims x) l ≡ x.rank → length (sent' l) ≤ length (sent l) + 1
   one_sent l below own =
       let t = toward x.ranks x.rank l m.some m.few below own in
-      let e : l ≡ link_to mid t.other = t.out ∙ (ap (λ n. number n x.rank t.other) (sym m.mid_ranks) ∙ ap (λ r. number mid.ranks r t.other) (sym m.mid_rank)) in
+      let e : l ≡ stack_link_to mid t.other = t.out ∙ (ap (λ n. number n x.rank t.other) (sym m.mid_ranks) ∙ ap (λ r. number mid.ranks r t.other) (sym m.mid_rank)) in
       let p = m.made.posted t.other (omega (arith, t.low, m.mid_ranks)) in
-      subst (λ k. length (sent' k) ≤ length (sent k) + 1) (sym e) (one_more (was_moved (out_at mid t.other).due (out_at x' t.other).due) (sent (link_to mid t.other)) (sent' (link_to mid t.other)) _ p.sent)
+      subst (λ k. length (sent' k) ≤ length (sent k) + 1) (sym e) (one_more (was_moved (stack_out_at mid t.other).due (stack_out_at x' t.other).due) (sent (stack_link_to mid t.other)) (sent' (stack_link_to mid t.other)) _ p.sent)
 
-  one_got : (l : ℕ) → l < links (dims_of x) → reader_at (dims_of x) l ≡ x.rank → length (got' l) ≤ length (got l) + 1
+  one_got : (l : ℕ) → l < links (stack_dims x) → reader_at (stack_dims x) l ≡ x.rank → length (got' l) ≤ length (got l) + 1
   one_got l below own =
       let t = from x.ranks x.rank l m.some m.few below own in
-      let e : l ≡ link_from mid t.other = t.in' ∙ (ap (λ n. number n t.other x.rank) (sym m.mid_ranks) ∙ ap (λ r. number mid.ranks t.other r) (sym m.mid_rank)) in
+      let e : l ≡ stack_link_from mid t.other = t.in' ∙ (ap (λ n. number n t.other x.rank) (sym m.mid_ranks) ∙ ap (λ r. number mid.ranks t.other r) (sym m.mid_rank)) in
       let p = m.made.collected t.other (omega (arith, t.low, m.mid_ranks)) in
-      subst (λ k. length (got' k) ≤ length (got k) + 1) (sym e) (one_more (was_moved (in_at mid t.other).due (in_at x' t.other).due) (got (link_from mid t.other)) (got' (link_from mid t.other)) _ p.got)
+      subst (λ k. length (got' k) ≤ length (got k) + 1) (sym e) (one_more (was_moved (stack_in_at mid t.other).due (stack_in_at x' t.other).due) (got (stack_link_from mid t.other)) (got' (stack_link_from mid t.other)) _ p.got)
 
-  shaped : (l : ℕ) → l < links (dims_of x) → sender_at (dims_of x) l ≡ x.rank → IsExstackShape (sent' l)
+  shaped : (l : ℕ) → l < links (stack_dims x) → sender_at (stack_dims x) l ≡ x.rank → IsExstackShape (sent' l)
   shaped l below own =
       let t = toward x.ranks x.rank l m.some m.few below own in
-      let e : l ≡ link_to x' t.other = t.out ∙ (ap (λ n. number n x.rank t.other) (sym m.same_ranks) ∙ ap (λ r. number x'.ranks r t.other) (sym m.same_rank)) in
+      let e : l ≡ stack_link_to x' t.other = t.out ∙ (ap (λ n. number n x.rank t.other) (sym m.same_ranks) ∙ ap (λ r. number x'.ranks r t.other) (sym m.same_rank)) in
       subst (λ k. IsExstackShape (sent' k)) (sym e) (m.agrees.agrees.shapes t.other (omega (arith, t.low, m.same_ranks)))
 
   pub after_poll : {S : Type 0} (R : Rules S) (run run' : Running S) → run'.round ≡ run.round → run'.sends ≡ run.sends
@@ -145,8 +145,8 @@ none_due s e h = absurd (cc)
 pub waits_for_none : (cap : ℕ) (x : Stack) (got : Logs) (is_crowded is_idle : ℕ → Bool) → IsStack cap x → x.stage ≡ AllDone → WaitsFor x x got got is_crowded is_idle
 waits_for_none cap x got is_crowded is_idle s over =
     record {
-      posts = λ b low due same. absurd (none_due x.stage over ((s.each_out b no_out (omega (arith, low, s.all_outs))).due_round due));
-      collects = λ a low due. absurd (none_due x.stage over ((s.each_in a no_in (omega (arith, low, s.all_ins))).due_round due));
+      posts = λ b low due same. absurd (none_due x.stage over ((s.each_out b no_stack_out (omega (arith, low, s.all_outs))).due_round due));
+      collects = λ a low due. absurd (none_due x.stage over ((s.each_in a no_stack_in (omega (arith, low, s.all_ins))).due_round due));
     }
 
 -- the steps of a proceed poll, which says that the rank is done where all is pushed
@@ -167,11 +167,11 @@ proceeded_taken R p rank h round sends next prog sum spoiled part part' true fal
 -- what a proceed poll leaves of the exstack
 pub record AfterProceed (cap : ℕ) (x x' : Stack) (done : Bool) (sent got sent' got' : Logs) : Type 0 where
   pub standing : IsStack cap x'
-  pub agrees : AgreesWith x' sent' got'
+  pub agrees : StackAgrees x' sent' got'
   pub same_ranks : x'.ranks ≡ x.ranks
   pub same_rank : x'.rank ≡ x.rank
   pub done_is : x'.done ≡ done
-  pub steps : AreOwnSteps (proceed_steps x.done done (is_all_done x'.stage)) (part_of x sent got) (part_of x' sent' got')
+  pub steps : AreOwnSteps (proceed_steps x.done done (is_all_done x'.stage)) (stack_part x sent got) (stack_part x' sent' got')
 
 -- where not all is pushed something is left
 pub left_over : (next count : ℕ) (done : Bool) → done ≡ (next == count) → next ≤ count → done ≡ false → next < count
@@ -206,14 +206,14 @@ module _ {S : Type 0} (R : Rules S) (h : ℕ → S) (run : Running S) (cap : ℕ
 module _ {S : Type 0} (R : Rules S) (h : ℕ → S) (run : Running S) (cap : ℕ) (x x1 x' : Stack) (prog : S) (sum : ℕ) (spoiled voting done : Bool) (sent got sent' got' : Logs)
     (is_v : is_voting run.sends ≡ voting) (pops : Pops R voting x x1 run.prog prog run.sum sum run.spoiled spoiled) (all : done ≡ (run.next == length (to_send R prog run.sends)))
     (p : AfterProceed cap x1 x' done sent got sent' got') (is : IsNode R h (record { run = run; mover = Stacking cap x }) sent got) where
-  h0 : HasTaken R (ranks (dims_of x)) x.rank h run.round run.sends run.next run.prog run.sum run.spoiled (part_of x sent got)
+  h0 : HasTaken R (ranks (stack_dims x)) x.rank h run.round run.sends run.next run.prog run.sum run.spoiled (stack_part x sent got)
   h0 = record { passed = is.passed; within = is.within }
 
-  h1 : HasTaken R (ranks (dims_of x)) x.rank h run.round run.sends run.next prog sum spoiled (part_of x1 sent got)
+  h1 : HasTaken R (ranks (stack_dims x)) x.rank h run.round run.sends run.next prog sum spoiled (stack_part x1 sent got)
   h1 = pops.taken h x.rank run.round run.next run.sends is.moving.agrees.cycle sent got is_v is.moving.agrees.agrees h0
 
-  h2 : HasTaken R (ranks (dims_of x)) x.rank h run.round run.sends run.next prog sum spoiled (part_of x' sent' got')
-  h2 = proceeded_taken R (ranks (dims_of x)) x.rank h run.round run.sends run.next prog sum spoiled (part_of x1 sent got) (part_of x' sent' got') x1.done done (is_all_done x'.stage)
+  h2 : HasTaken R (ranks (stack_dims x)) x.rank h run.round run.sends run.next prog sum spoiled (stack_part x' sent' got')
+  h2 = proceeded_taken R (ranks (stack_dims x)) x.rank h run.round run.sends run.next prog sum spoiled (stack_part x1 sent got) (stack_part x' sent' got') x1.done done (is_all_done x'.stage)
       (λ d. eqb-true run.next (length (to_send R prog run.sends)) (sym all ∙ d)) p.steps h1
 
   ranks_same : x'.ranks ≡ x.ranks
@@ -224,9 +224,9 @@ module _ {S : Type 0} (R : Rules S) (h : ℕ → S) (run : Running S) (cap : ℕ
 
   pub proceeded : IsNode R h (record { run = record { prog = prog; round = run.round; sends = run.sends; next = run.next; sum = sum; spoiled = spoiled }; mover = Stacking cap x' }) sent' got'
   proceeded =
-      let h3 : HasTaken R (ranks (dims_of x')) x'.rank h run.round run.sends run.next prog sum spoiled (part_of x' sent' got') =
-      subst (λ n. HasTaken R (ranks (n ∷ [])) x'.rank h run.round run.sends run.next prog sum spoiled (part_of x' sent' got')) (sym ranks_same)
-      (subst (λ r. HasTaken R (ranks (dims_of x)) r h run.round run.sends run.next prog sum spoiled (part_of x' sent' got')) (sym rank_same) h2) in
+      let h3 : HasTaken R (ranks (stack_dims x')) x'.rank h run.round run.sends run.next prog sum spoiled (stack_part x' sent' got') =
+      subst (λ n. HasTaken R (ranks (n ∷ [])) x'.rank h run.round run.sends run.next prog sum spoiled (stack_part x' sent' got')) (sym ranks_same)
+      (subst (λ r. HasTaken R (ranks (stack_dims x)) r h run.round run.sends run.next prog sum spoiled (stack_part x' sent' got')) (sym rank_same) h2) in
       record {
         moving = record { stack = p.standing; agrees = p.agrees };
         paced = λ s d. left_over run.next (length (to_send R prog run.sends)) done all h3.within.next_low (sym p.done_is ∙ d);
@@ -237,11 +237,11 @@ module _ {S : Type 0} (R : Rules S) (h : ℕ → S) (run : Running S) (cap : ℕ
 -- what an exchange poll leaves
 pub record AfterExchange (cap : ℕ) (x x' : Stack) (sent got sent' got' : Logs) : Type 0 where
   pub standing : IsStack cap x'
-  pub agrees : AgreesWith x' sent' got'
+  pub agrees : StackAgrees x' sent' got'
   pub same_ranks : x'.ranks ≡ x.ranks
   pub same_rank : x'.rank ≡ x.rank
   pub apart : x'.stage ≡ Proceeding → ⊥
-  pub step : IsOwnStep Idle (part_of x sent got) (part_of x' sent' got')
+  pub step : IsOwnStep Idle (stack_part x sent got) (stack_part x' sent' got')
 
 pub exchanging_apart : {s : Stage} → s ≡ Exchanging → s ≡ Proceeding → ⊥
 exchanging_apart e p = absurd (cc)
@@ -253,25 +253,25 @@ ready_apart (NotYet l) e q = absurd (cc)
 pub exchanged : {S : Type 0} (R : Rules S) (h : ℕ → S) (run : Running S) (cap : ℕ) (x x' : Stack) (sent got sent' got' : Logs) → AfterExchange cap x x' sent got sent' got'
     → IsNode R h (record { run = run; mover = Stacking cap x }) sent got → IsNode R h (record { run = run; mover = Stacking cap x' }) sent' got'
 exchanged R h run cap x x' sent got sent' got' p is =
-    let h0 : HasTaken R (ranks (dims_of x)) x.rank h run.round run.sends run.next run.prog run.sum run.spoiled (part_of x sent got) = record { passed = is.passed; within = is.within } in
-    let h1 = taken_same R (ranks (dims_of x)) x.rank h run.round run.sends run.next run.prog run.sum run.spoiled (part_of x sent got) (part_of x' sent' got') p.step.is h0 in
-    let h2 : HasTaken R (ranks (dims_of x')) x'.rank h run.round run.sends run.next run.prog run.sum run.spoiled (part_of x' sent' got') =
-    subst (λ n. HasTaken R (ranks (n ∷ [])) x'.rank h run.round run.sends run.next run.prog run.sum run.spoiled (part_of x' sent' got')) (sym p.same_ranks)
-    (subst (λ r. HasTaken R (ranks (dims_of x)) r h run.round run.sends run.next run.prog run.sum run.spoiled (part_of x' sent' got')) (sym p.same_rank) h1) in
+    let h0 : HasTaken R (ranks (stack_dims x)) x.rank h run.round run.sends run.next run.prog run.sum run.spoiled (stack_part x sent got) = record { passed = is.passed; within = is.within } in
+    let h1 = taken_same R (ranks (stack_dims x)) x.rank h run.round run.sends run.next run.prog run.sum run.spoiled (stack_part x sent got) (stack_part x' sent' got') p.step.is h0 in
+    let h2 : HasTaken R (ranks (stack_dims x')) x'.rank h run.round run.sends run.next run.prog run.sum run.spoiled (stack_part x' sent' got') =
+    subst (λ n. HasTaken R (ranks (n ∷ [])) x'.rank h run.round run.sends run.next run.prog run.sum run.spoiled (stack_part x' sent' got')) (sym p.same_ranks)
+    (subst (λ r. HasTaken R (ranks (stack_dims x)) r h run.round run.sends run.next run.prog run.sum run.spoiled (stack_part x' sent' got')) (sym p.same_rank) h1) in
     record { moving = record { stack = p.standing; agrees = p.agrees }; paced = λ s d. absurd (p.apart s); passed = h2.passed; within = h2.within }
 
 -- what pushes leave
 pub filled : {S : Type 0} (R : Rules S) (h : ℕ → S) (run : Running S) (cap : ℕ) (x x' : Stack) (next : ℕ) (sent got : Logs) → IsStack cap x' → x.stage ≡ Filling → Fills cap (to_send R run.prog run.sends) x x' run.next next
     → IsNode R h (record { run = run; mover = Stacking cap x }) sent got → IsNode R h (record { run = record run { next = next }; mover = Stacking cap x' }) sent got
 filled R h run cap x x' next sent got standing filling fills is =
-    let h0 : HasTaken R (ranks (dims_of x)) x.rank h run.round run.sends run.next run.prog run.sum run.spoiled (part_of x sent got) = record { passed = is.passed; within = is.within } in
-    let h1 = pushed_taken R (ranks (dims_of x)) x.rank h run.round run.sends run.next next run.prog run.sum run.spoiled (part_of x sent got) (part_of x' sent got)
+    let h0 : HasTaken R (ranks (stack_dims x)) x.rank h run.round run.sends run.next run.prog run.sum run.spoiled (stack_part x sent got) = record { passed = is.passed; within = is.within } in
+    let h1 = pushed_taken R (ranks (stack_dims x)) x.rank h run.round run.sends run.next next run.prog run.sum run.spoiled (stack_part x sent got) (stack_part x' sent got)
     (fills.pushed is.moving.agrees.cycle sent got is.moving.agrees.agrees) fills.forward fills.low h0 in
     let same_ranks : x'.ranks ≡ x.ranks = ap (λ (t : Stack). t.ranks) fills.same in
     let same_rank : x'.rank ≡ x.rank = ap (λ (t : Stack). t.rank) fills.same in
-    let h2 : HasTaken R (ranks (dims_of x')) x'.rank h run.round run.sends next run.prog run.sum run.spoiled (part_of x' sent got) =
-    subst (λ n. HasTaken R (ranks (n ∷ [])) x'.rank h run.round run.sends next run.prog run.sum run.spoiled (part_of x' sent got)) (sym same_ranks)
-    (subst (λ r. HasTaken R (ranks (dims_of x)) r h run.round run.sends next run.prog run.sum run.spoiled (part_of x' sent got)) (sym same_rank) h1) in
+    let h2 : HasTaken R (ranks (stack_dims x')) x'.rank h run.round run.sends next run.prog run.sum run.spoiled (stack_part x' sent got) =
+    subst (λ n. HasTaken R (ranks (n ∷ [])) x'.rank h run.round run.sends next run.prog run.sum run.spoiled (stack_part x' sent got)) (sym same_ranks)
+    (subst (λ r. HasTaken R (ranks (stack_dims x)) r h run.round run.sends next run.prog run.sum run.spoiled (stack_part x' sent got)) (sym same_rank) h1) in
     record {
       moving = record { stack = standing; agrees = record { cycle = is.moving.agrees.cycle; agrees = fills.kept is.moving.agrees.cycle sent got is.moving.agrees.agrees } };
       paced = λ s d. absurd (not_both x'.stage (ap (λ (t : Stack). t.stage) fills.same ∙ filling) s);
@@ -286,7 +286,7 @@ pub fill_then : {S : Type 0} (R : Rules S) (cap : ℕ) (run run1 run' : Running 
     → AfterMoves R cap (record { run = run1; mover = Stacking cap x1 }) (record { run = run'; mover = Stacking cap x' }) sent got sent' got'
     → AfterMoves R cap (record { run = run; mover = Stacking cap x }) (record { run = run'; mover = Stacking cap x' }) sent got sent' got'
 fill_then R cap run run1 run' x x1 x' sent got sent' got' same fill moves =
-    let dims : dims_of x1 ≡ dims_of x = ap (λ (t : Stack). dims_of t) same in
+    let dims : stack_dims x1 ≡ stack_dims x = ap (λ (t : Stack). stack_dims t) same in
     let rank : x1.rank ≡ x.rank = ap (λ (t : Stack). t.rank) same in
     record {
       kept = λ h is. moves.kept h (fill.kept h sent got is);
@@ -308,10 +308,10 @@ pub waits_like : (x x1 x' : Stack) (got got' : Logs) (is_crowded is_idle : ℕ �
 waits_like x x1 x' got got' is_crowded is_idle same_ranks same_rank w =
     record {
       posts = λ b low due same.
-          let e : link_to x b ≡ link_to x1 b = ap (λ n. number n x.rank b) (sym same_ranks) ∙ ap (λ r. number x1.ranks r b) (sym same_rank) in
+          let e : stack_link_to x b ≡ stack_link_to x1 b = ap (λ n. number n x.rank b) (sym same_ranks) ∙ ap (λ r. number x1.ranks r b) (sym same_rank) in
           subst (λ l. is_crowded l ≡ true) (sym e) (w.posts b (omega (arith, low, same_ranks)) due (subst (λ l. got' l ≡ got l) e same));
       collects = λ a low due.
-          let e : link_from x a ≡ link_from x1 a = ap (λ n. number n a x.rank) (sym same_ranks) ∙ ap (λ r. number x1.ranks a r) (sym same_rank) in
+          let e : stack_link_from x a ≡ stack_link_from x1 a = ap (λ n. number n a x.rank) (sym same_ranks) ∙ ap (λ r. number x1.ranks a r) (sym same_rank) in
           subst (λ l. is_idle l ≡ true) (sym e) (w.collects a (omega (arith, low, same_ranks)) due);
     }
 

@@ -19,13 +19,13 @@ use Rattle.port_bank.specs.Machine.Step.{Pull, Idle}
 use Rattle.round_program.specs.Rules.{Rules}
 use Rattle.round_program.specs.Laws.{Laws, fits}
 use Rattle.round_program.specs.Orders.{after_pulls}
-use Rattle.round_program.specs.Epochs.{PairLists, heard, worked}
+use Rattle.round_program.specs.Epochs.{PairLists, heard, after_work}
 use Rattle.round_program.proofs.Orders.{one_more_pull, pulls_same, fits_same}
 use Rattle.round_program.proofs.Steps.{worked_same}
 use Rattle.rank_node.specs.declared.sends.Sends.{Sends}
 use Rattle.rank_node.specs.declared.sends.Sends.TheVariants.{Emissions, Nothing, Votes}
 use Rattle.rank_node.specs.Sending.{to_send, is_voting, spoiled_vote}
-use Rattle.rank_node.specs.Runs.{lists_of, IsPushed, HasPassed, IsWithin, HasTaken}
+use Rattle.rank_node.specs.Runs.{part_lists, IsPushed, HasPassed, IsWithinEpoch, HasTaken}
 use Rattle.rank_node.specs.Pulls.{NoMore, Takes}
 use Rattle.rank_node.specs.Batches.{TakesEach}
 use Rattle.rank_node.proofs.Chains.{TakesOne, Chain, each_chain, none_more, one_more, all_more, from_none}
@@ -69,12 +69,12 @@ module _ {S : Type 0} (R : Rules S) (laws : Laws R) (p rank : ℕ) (h : ℕ → 
   took = after (Pull from x) part
 
   within_votes : (v q : ℕ) → HasPassed R p rank h round true part → TakesOne R true prog prog' from x sum sum' spoiled spoiled'
-      → IsWithin R p h (record { prog = prog; round = round; sends = Votes v q; next = next; sum = sum; spoiled = spoiled }) part
-      → IsWithin R p h (record { prog = prog'; round = round; sends = Votes v q; next = next; sum = sum'; spoiled = spoiled' }) took
+      → IsWithinEpoch R p h (record { prog = prog; round = round; sends = Votes v q; next = next; sum = sum; spoiled = spoiled }) part
+      → IsWithinEpoch R p h (record { prog = prog'; round = round; sends = Votes v q; next = next; sum = sum'; spoiled = spoiled' }) took
   within_votes v q passed takes is =
       let e : part.epoch ≡ 2 * round + 1 = passed.epoch in
-      let still : worked R p h (lists_of took) round ≡ worked R p h (lists_of part) round =
-      worked_same R p part.epoch part.epoch h h (lists_of part) (lists_of took) round (before_same part took (pull_elsewhere from x part)) (omega arith) refl in
+      let still : after_work R p h (part_lists took) round ≡ after_work R p h (part_lists part) round =
+      worked_same R p part.epoch part.epoch h h (part_lists part) (part_lists took) round (before_same part took (pull_elsewhere from x part)) (omega arith) refl in
       let same = takes.votes refl in
       record {
         next_low = is.next_low;
@@ -85,18 +85,18 @@ module _ {S : Type 0} (R : Rules S) (laws : Laws R) (p rank : ℕ) (h : ℕ → 
         works = λ clean. same.1 ∙ (is.works (sym same.0 ∙ clean) ∙ sym still);
         vote = λ w r s.
             let was = is.vote w r s in
-            (was.0, was.1 ∙ (ap (λ b. cond b spoiled_vote (R.vote (worked R p h (lists_of part) round))) (sym same.0) ∙ ap (λ t. cond spoiled' spoiled_vote (R.vote t)) (sym still)));
+            (was.0, was.1 ∙ (ap (λ b. cond b spoiled_vote (R.vote (after_work R p h (part_lists part) round))) (sym same.0) ∙ ap (λ t. cond spoiled' spoiled_vote (R.vote t)) (sym still)));
         emitted_all = λ b clean. is.emitted_all refl (sym same.0 ∙ clean);
         hears = λ b.
             takes.summed ∙ (ap (λ n. min (n + x.a) (2 ^ 64 - 1)) (is.hears refl)
-            ∙ sym (heard_more p round from x (lists_of part) (lists_of took) below
+            ∙ sym (heard_more p round from x (part_lists part) (part_lists took) below
             (subst (λ k. with_item part.pulled part.epoch from x k from ≡ part.pulled k from ++ x ∷ []) e (item_here part.pulled part.epoch from x))
             (λ g apart. subst (λ k. with_item part.pulled part.epoch from x k g ≡ part.pulled k g) e (item_other part.pulled part.epoch from x g apart))));
       }
 
   -- the program after an item of a round's work
-  works_on : part.epoch ≡ 2 * round → R.valid (h round) → TakesOne R false prog prog' from x sum sum' spoiled spoiled' → (spoiled ≡ false → prog ≡ worked R p h (lists_of part) round)
-      → spoiled' ≡ false → prog' ≡ worked R p h (lists_of took) round
+  works_on : part.epoch ≡ 2 * round → R.valid (h round) → TakesOne R false prog prog' from x sum sum' spoiled spoiled' → (spoiled ≡ false → prog ≡ after_work R p h (part_lists part) round)
+      → spoiled' ≡ false → prog' ≡ after_work R p h (part_lists took) round
   works_on e valid takes works clean =
       let start : S = h round in
       let was : prog ≡ after_pulls R start (part.pulled (2 * round)) p = works (takes.unspoiled clean) in
@@ -111,8 +111,8 @@ module _ {S : Type 0} (R : Rules S) (laws : Laws R) (p rank : ℕ) (h : ℕ → 
       takes.absorbed refl clean ∙ (ap (λ b. cond b (R.absorbed prog from x) prog) alike ∙ (ap (λ s. cond (fits R start from x) (R.absorbed s from x) s) was ∙ sym more))
 
   within_work : (sends : Sends) → is_voting sends ≡ false → HasPassed R p rank h round false part → TakesOne R false prog prog' from x sum sum' spoiled spoiled'
-      → IsWithin R p h (record { prog = prog; round = round; sends = sends; next = next; sum = sum; spoiled = spoiled }) part
-      → IsWithin R p h (record { prog = prog'; round = round; sends = sends; next = next; sum = sum'; spoiled = spoiled' }) took
+      → IsWithinEpoch R p h (record { prog = prog; round = round; sends = sends; next = next; sum = sum; spoiled = spoiled }) part
+      → IsWithinEpoch R p h (record { prog = prog'; round = round; sends = sends; next = next; sum = sum'; spoiled = spoiled' }) took
   within_work sends work passed takes is =
       let same : to_send R prog sends ≡ to_send R prog' sends = same_sends R prog prog' sends (sym takes.emissions) in
       record {
@@ -141,8 +141,8 @@ take_on R laws p rank h round sends next prog prog' from x sum sum' spoiled spoi
       within = by_kind sends is.passed (subst (λ b. TakesOne R b prog prog' from x sum sum' spoiled spoiled') (sym is_v) takes) is.within;
     }) where
       by_kind : (s : Sends) → HasPassed R p rank h round (is_voting s) part → TakesOne R (is_voting s) prog prog' from x sum sum' spoiled spoiled'
-          → IsWithin R p h (record { prog = prog; round = round; sends = s; next = next; sum = sum; spoiled = spoiled }) part
-          → IsWithin R p h (record { prog = prog'; round = round; sends = s; next = next; sum = sum'; spoiled = spoiled' }) (after (Pull from x) part)
+          → IsWithinEpoch R p h (record { prog = prog; round = round; sends = s; next = next; sum = sum; spoiled = spoiled }) part
+          → IsWithinEpoch R p h (record { prog = prog'; round = round; sends = s; next = next; sum = sum'; spoiled = spoiled' }) (after (Pull from x) part)
       by_kind Emissions a t w = within_work R laws p rank h round next prog prog' from x sum sum' spoiled spoiled' part below Emissions refl a t w
       by_kind Nothing a t w = within_work R laws p rank h round next prog prog' from x sum sum' spoiled spoiled' part below Nothing refl a t w
       by_kind (Votes v q) a t w = within_votes R laws p rank h round next prog prog' from x sum sum' spoiled spoiled' part below v q a t w

@@ -25,8 +25,8 @@ from_sender sender entries = map (λ e. (sender, e.item)) entries
 
 -- A sum of votes after further votes came. It stands at 2^64 - 1 once it would pass it.
 -- After votes of 2 and 1 the sum 4 is 7.
-abbrev pub summed : ℕ → List (ℕ × Item) → ℕ
-summed sum came = fold (λ n e. min (n + e.1.a) (2 ^ 64 - 1)) sum came
+abbrev pub sum_after : ℕ → List (ℕ × Item) → ℕ
+sum_after sum came = fold (λ n e. min (n + e.1.a) (2 ^ 64 - 1)) sum came
 
 -- What a node makes of items that it pulled. In an epoch of votes it adds their first fields to its
 -- sum. In an epoch of work the program absorbs those that it may be sent, unless memory was wanting
@@ -35,7 +35,7 @@ pub record TakesEach {S : Type 0} (R : Rules S) (voting : Bool) (prog prog' : S)
     (spoiled spoiled' : Bool) : Type 0 where
   pub valid : R.valid prog
   pub emissions : R.emissions prog' ≡ R.emissions prog
-  pub summed_up : sum' ≡ (if voting then summed sum came else sum)
+  pub summed_up : sum' ≡ (if voting then sum_after sum came else sum)
   pub unspoiled : spoiled' ≡ false → spoiled ≡ false
   pub votes : voting ≡ true → (spoiled' ≡ spoiled) × (prog' ≡ prog)
   pub absorbed : voting ≡ false → spoiled' ≡ false → prog' ≡ all_taken_in R prog came

@@ -4,7 +4,7 @@ use Rattle.item_buffer.specs.Contents.{Shipped}
 use Rattle.port_bank.specs.Logs.{Logs}
 use Rattle.exstack.specs.declared.stage.Stage.{Stage}
 use Rattle.exstack.specs.declared.stage.Stage.TheVariants.{Start, Proceeding, Filling, Exchanging, Full, AllDone}
-use Rattle.exstack.specs.State.{Stack, out_at, in_at, link_to, link_from, is_proceeding, is_exchanging}
+use Rattle.exstack.specs.State.{Stack, stack_out_at, stack_in_at, stack_link_to, stack_link_from, is_proceeding, is_exchanging}
 use Rattle.exstack.specs.Cycles.{proceed_parcel}
 use Rattle.exstack.specs.Agreement.{AgreesIn, cycle_after}
 use Rattle.round_program.specs.Rules.{Rules}
@@ -40,7 +40,7 @@ pub record WentOn (e m : ℕ) (x : Stack) (got : Logs) : Type 0 where
   pub sender : ℕ
   pub low : sender < x.ranks
   pub parcel : Shipped
-  pub came : proceed_parcel e m (got (link_from x sender)) ≡ Some parcel
+  pub came : proceed_parcel e m (got (stack_link_from x sender)) ≡ Some parcel
   pub going : parcel.last ≡ false
 
 -- A rank's proceed parcel of cycle m isn't marked last only where the rank has more than m items to
@@ -48,7 +48,7 @@ pub record WentOn (e m : ℕ) (x : Stack) (got : Logs) : Type 0 where
 -- With two items to send in epoch 0 those of the cycles 0 and 1 may go on, and that of cycle 2 is
 -- marked last at the latest.
 abbrev pub MarksLast : (ℕ → ℕ) → Stack → Logs → Type 0
-MarksLast quota x sent = (e b m : ℕ) (p : Shipped) → b < x.ranks → proceed_parcel e m (sent (link_to x b)) ≡ Some p
+MarksLast quota x sent = (e b m : ℕ) (p : Shipped) → b < x.ranks → proceed_parcel e m (sent (stack_link_to x b)) ≡ Some p
     → p.last ≡ false → m < quota e
 
 -- A rank that has at most `quota e` items to send in epoch e is in cycle n of its exstack. So an
@@ -66,7 +66,7 @@ pub record InCycle {S : Type 0} (R : Rules S) (quota : ℕ → ℕ) (n : ℕ) (r
   pub few : length (to_send R run.prog run.sends) ≤ quota x.epoch
   pub paced : x.done ≡ false → exchanges_in n x.stage ≤ run.next
   pub left : x.stage ≡ Filling → x.done ≡ false → run.next < length (to_send R run.prog run.sends)
-  pub emptied : x.stage ≡ Filling → (b : ℕ) → b < x.ranks → (out_at x b).waiting ≡ []
+  pub emptied : x.stage ≡ Filling → (b : ℕ) → b < x.ranks → (stack_out_at x b).waiting ≡ []
   pub went_on : (m : ℕ) → m < cycles_gone_on n x.stage → WentOn x.epoch m x got
   pub marks : MarksLast quota x sent
 
@@ -113,12 +113,12 @@ IsOnward AllDone s = s ≡ AllDone
 pub record DueOut (x : Stack) : Type 0 where
   pub other : ℕ
   pub low : other < x.ranks
-  pub due : (out_at x other).due ≡ true
+  pub due : (stack_out_at x other).due ≡ true
 
 pub record DueIn (x : Stack) : Type 0 where
   pub other : ℕ
   pub low : other < x.ranks
-  pub due : (in_at x other).due ≡ true
+  pub due : (stack_in_at x other).due ≡ true
 
 -- An exstack within a round waits for a parcel.
 abbrev pub Awaits : Stack → Type 0

@@ -13,7 +13,7 @@ use Rattle.convey.specs.Buffers.{buffers_of, in_of, is_complete}
 use Rattle.convey.specs.Conveyors as conveyors
 use Rattle.convey.specs.Law.{IsSound}
 use Rattle.convey.specs.Parts as conveyor_parts
-use Rattle.exstack.specs.State.{dims_of as stack_dims}
+use Rattle.exstack.specs.State.{stack_dims}
 use Rattle.exstack.specs.State.{Stack}
 use Rattle.exstack.specs.Standing.{IsStack}
 use Rattle.exstack.specs.Agreement as exstacks
@@ -29,9 +29,9 @@ pub data MoverState : Type 0 where
   Conveying : State → MoverState
   Stacking : ℕ → Stack → MoverState
 
-abbrev pub seen : {cap hops : ℕ} → Mover cap hops → MoverState
-seen {cap} (mover.Convey c) = Conveying c
-seen {cap} (mover.Exstack x) = Stacking cap x
+abbrev pub mover_state : {cap hops : ℕ} → Mover cap hops → MoverState
+mover_state {cap} (mover.Convey c) = Conveying c
+mover_state {cap} (mover.Exstack x) = Stacking cap x
 
 -- How parcels are filled: by conveyors, steady or not, or by exstacks.
 pub data Manner : Type 0 where
@@ -44,17 +44,17 @@ manner_of Convey steady = ByConveyor steady
 manner_of Exstack steady = ByExstack
 
 -- The shape of a log that is filled in such a manner.
-abbrev pub IsShape : Manner → ℕ → List Shipped → Type 0
-IsShape (ByConveyor steady) cap log = IsConveyorShape steady cap log
-IsShape ByExstack cap log = IsExstackShape log
+abbrev pub IsLogShape : Manner → ℕ → List Shipped → Type 0
+IsLogShape (ByConveyor steady) cap log = IsConveyorShape steady cap log
+IsLogShape ByExstack cap log = IsExstackShape log
 
-abbrev pub dims_of : MoverState → List ℕ
-dims_of (Conveying c) = c.dims
-dims_of (Stacking cap x) = stack_dims x
+abbrev pub mover_dims : MoverState → List ℕ
+mover_dims (Conveying c) = c.dims
+mover_dims (Stacking cap x) = stack_dims x
 
-abbrev pub rank_of : MoverState → ℕ
-rank_of (Conveying c) = c.rank
-rank_of (Stacking cap x) = x.rank
+abbrev pub mover_rank : MoverState → ℕ
+mover_rank (Conveying c) = c.rank
+mover_rank (Stacking cap x) = x.rank
 
 abbrev pub epoch_in : MoverState → ℕ
 epoch_in (Conveying c) = c.epoch
@@ -82,7 +82,7 @@ lying (Stacking cap x) l = 0
 -- The rank's part of the exchange machine, over a port with these lists.
 abbrev pub part_in : MoverState → Logs → Logs → Part
 part_in (Conveying c) sent got = conveyor_parts.part_of (buffers_of c) sent got
-part_in (Stacking cap x) sent got = exstack_parts.part_of x sent got
+part_in (Stacking cap x) sent got = exstack_parts.stack_part x sent got
 
 -- Every item that came for the rank was pulled.
 abbrev pub AllRead : State → Type 0
@@ -100,7 +100,7 @@ pub record IsConveying (c : State) (sent got : Logs) : Type 0 where
 -- An exstack between two turns.
 pub record IsStacking (cap : ℕ) (x : Stack) (sent got : Logs) : Type 0 where
   pub stack : IsStack cap x
-  pub agrees : exstacks.AgreesWith x sent got
+  pub agrees : exstacks.StackAgrees x sent got
 
 -- Either of them.
 abbrev pub IsMoving : MoverState → Logs → Logs → Type 0
@@ -125,8 +125,8 @@ SameUnread (Stacking cap x) (Stacking cap' x') = ⊤
 
 -- A rank's mover that wasn't used, and has begun its first epoch.
 pub record IsNew (dims : List ℕ) (rank : ℕ) (manner : Manner) (m : MoverState) : Type 0 where
-  pub same_dims : dims_of m ≡ dims
-  pub same_rank : rank_of m ≡ rank
+  pub same_dims : mover_dims m ≡ dims
+  pub same_rank : mover_rank m ≡ rank
   pub same_manner : manner_in m ≡ manner
   pub first : epoch_in m ≡ 0
   pub moving : IsMoving m (λ l. []) (λ l. [])
@@ -137,9 +137,9 @@ pub record IsNew (dims : List ℕ) (rank : ℕ) (manner : Manner) (m : MoverStat
   pub unread : NoneUnread m
 
 -- One that has gone on to the next epoch.
-pub record GoesOn (m m' : MoverState) : Type 0 where
-  pub same_dims : dims_of m' ≡ dims_of m
-  pub same_rank : rank_of m' ≡ rank_of m
+pub record GoesToNextEpoch (m m' : MoverState) : Type 0 where
+  pub same_dims : mover_dims m' ≡ mover_dims m
+  pub same_rank : mover_rank m' ≡ mover_rank m
   pub same_manner : manner_in m' ≡ manner_in m
   pub next : epoch_in m' ≡ epoch_in m + 1
   pub moving : (sent got : Logs) → IsMoving m sent got → IsMoving m' sent got

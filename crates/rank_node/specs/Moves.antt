@@ -2,7 +2,7 @@
 use Rattle.std.specs.Prelude.{◌≡◌, ℕ, ⊤, ◌+◌, ◌<◌, ◌≤◌, ◌==◌, Bool, true, false, List, ◌++◌, length}
 use Rattle.std.specs.List.{flat_map}
 use Rattle.item_buffer.specs.Contents.{Shipped}
-use Rattle.list_laws.specs.Lists.{Begins}
+use Rattle.list_laws.specs.Lists.{IsPrefix}
 use Rattle.route_tensor.specs.Link.{links}
 use Rattle.route_tensor.specs.Ends.{sender_at, reader_at}
 use Rattle.port_bank.specs.declared.port.Port.{Ghosts}
@@ -13,10 +13,10 @@ use Rattle.convey.specs.Buffers.{in_of, out_of}
 use Rattle.convey.specs.Conveyors.{HoldsAtMost}
 use Rattle.exstack.specs.declared.stage.Stage.TheVariants.{Filling}
 use Rattle.exstack.specs.State.{Stack}
-use Rattle.exstack.specs.State.{out_at, in_at, link_to, link_from}
+use Rattle.exstack.specs.State.{stack_out_at, stack_in_at, stack_link_to, stack_link_from}
 use Rattle.round_program.specs.Rules.{Rules}
 use Rattle.rank_node.specs.Sending.{to_send}
-use Rattle.rank_node.specs.Movers.{MoverState, IsShape, dims_of, rank_of, epoch_in, manner_in}
+use Rattle.rank_node.specs.Movers.{MoverState, IsLogShape, mover_dims, mover_rank, epoch_in, manner_in}
 use Rattle.rank_node.specs.Movers.MoverState.{Conveying, Stacking}
 use Rattle.rank_node.specs.Runs.{Running}
 use Rattle.rank_node.specs.Nodes.{NodeState, IsNode}
@@ -26,8 +26,8 @@ use Rattle.rank_node.specs.Stuck.{IsStuck}
 -- A node that may turn over a port of its own, whose programs began in these states.
 pub record MayTurn {P : Type 0} {cap : ℕ} {M : Type 0} (G : Ghosts P cap M) {S : Type 0} (R : Rules S) (n : NodeState S)
     (port : P) : Type 0 where
-  pub same_dims : G.dims port ≡ dims_of n.mover
-  pub same_rank : G.rank port ≡ rank_of n.mover
+  pub same_dims : G.dims port ≡ mover_dims n.mover
+  pub same_rank : G.rank port ≡ mover_rank n.mover
   pub first : ℕ → S
   pub node : IsNode R first n (G.sent port) (G.got port)
 
@@ -37,20 +37,20 @@ pub record MayTurn {P : Type 0} {cap : ℕ} {M : Type 0} (G : Ghosts P cap M) {S
 pub record AfterMoves {S : Type 0} (R : Rules S) (cap : ℕ) (n n' : NodeState S)
     (sent got sent' got' : Logs) : Type 0 where
   pub kept : (h : ℕ → S) → IsNode R h n sent got → IsNode R h n' sent' got'
-  pub dims : dims_of n'.mover ≡ dims_of n.mover
-  pub rank : rank_of n'.mover ≡ rank_of n.mover
+  pub dims : mover_dims n'.mover ≡ mover_dims n.mover
+  pub rank : mover_rank n'.mover ≡ mover_rank n.mover
   pub manner : manner_in n'.mover ≡ manner_in n.mover
   pub epoch : epoch_in n'.mover ≡ epoch_in n.mover
   pub round : n'.run.round ≡ n.run.round
   pub sends : n'.run.sends ≡ n.run.sends
-  pub sent_grows : (l : ℕ) → Begins (sent l) (sent' l)
-  pub got_grows : (l : ℕ) → Begins (got l) (got' l)
-  pub one_sent : (l : ℕ) → l < links (dims_of n.mover) → sender_at (dims_of n.mover) l ≡ rank_of n.mover
+  pub sent_grows : (l : ℕ) → IsPrefix (sent l) (sent' l)
+  pub got_grows : (l : ℕ) → IsPrefix (got l) (got' l)
+  pub one_sent : (l : ℕ) → l < links (mover_dims n.mover) → sender_at (mover_dims n.mover) l ≡ mover_rank n.mover
       → length (sent' l) ≤ length (sent l) + 1
-  pub one_got : (l : ℕ) → l < links (dims_of n.mover) → reader_at (dims_of n.mover) l ≡ rank_of n.mover
+  pub one_got : (l : ℕ) → l < links (mover_dims n.mover) → reader_at (mover_dims n.mover) l ≡ mover_rank n.mover
       → length (got' l) ≤ length (got l) + 1
-  pub shape : (l : ℕ) → l < links (dims_of n.mover) → sender_at (dims_of n.mover) l ≡ rank_of n.mover
-      → IsShape (manner_in n.mover) cap (sent l) → IsShape (manner_in n.mover) cap (sent' l)
+  pub shape : (l : ℕ) → l < links (mover_dims n.mover) → sender_at (mover_dims n.mover) l ≡ mover_rank n.mover
+      → IsLogShape (manner_in n.mover) cap (sent l) → IsLogShape (manner_in n.mover) cap (sent' l)
 
 -- What a turn over a conveyor leaves besides.
 -- lies: an inbox holds at most what it held and what came.
@@ -80,9 +80,9 @@ pub record LeavesAfterPoll {S : Type 0} (R : Rules S) (cap : ℕ) (run run' : Ru
 -- Where a parcel of its round is still to be posted, the link is crowded, unless this turn
 -- collected a parcel from it; where one is still to be collected, the link is idle.
 pub record WaitsFor (x x' : Stack) (got got' : Logs) (is_crowded is_idle : ℕ → Bool) : Type 0 where
-  pub posts : (b : ℕ) → b < x.ranks → (out_at x' b).due ≡ true → got' (link_to x b) ≡ got (link_to x b)
-      → is_crowded (link_to x b) ≡ true
-  pub collects : (a : ℕ) → a < x.ranks → (in_at x' a).due ≡ true → is_idle (link_from x a) ≡ true
+  pub posts : (b : ℕ) → b < x.ranks → (stack_out_at x' b).due ≡ true → got' (stack_link_to x b) ≡ got (stack_link_to x b)
+      → is_crowded (stack_link_to x b) ≡ true
+  pub collects : (a : ℕ) → a < x.ranks → (stack_in_at x' a).due ≡ true → is_idle (stack_link_from x a) ≡ true
 
 -- What pushes alone leave of an exstack's node.
 pub record AfterFill {S : Type 0} (R : Rules S) (cap : ℕ) (run run' : Running S) (x x' : Stack) : Type 0 where

@@ -8,8 +8,8 @@ use Rattle.rank_node.specs.Nodes.{NodeState, IsNode}
 
 -- A history with another state as round m begins.
 -- extended h 3 s is s at 3, and h elsewhere.
-abbrev pub extended : {S : Type 0} → (ℕ → S) → ℕ → S → ℕ → S
-extended h m s = λ k. if k == m then s else h k
+abbrev pub with_next : {S : Type 0} → (ℕ → S) → ℕ → S → ℕ → S
+with_next h m s = λ k. if k == m then s else h k
 
 -- A node whose run is over: in its last epoch of votes it heard that no round follows, and it ended
 -- the round.

@@ -4,10 +4,10 @@ use Rattle.route_tensor.specs.Grid.{ranks}
 use Rattle.port_bank.specs.Logs.{Logs}
 use Rattle.exstack.specs.declared.stage.Stage.TheVariants.{Proceeding}
 use Rattle.round_program.specs.Rules.{Rules}
-use Rattle.rank_node.specs.Movers.{MoverState, dims_of, rank_of, part_in, IsMoving}
+use Rattle.rank_node.specs.Movers.{MoverState, mover_dims, mover_rank, part_in, IsMoving}
 use Rattle.rank_node.specs.Movers.MoverState.{Conveying, Stacking}
 use Rattle.rank_node.specs.Sending.{is_voting, to_send}
-use Rattle.rank_node.specs.Runs.{Running, HasPassed, IsWithin}
+use Rattle.rank_node.specs.Runs.{Running, HasPassed, IsWithinEpoch}
 
 -- What contracts see of a node: how far its run is, and what carries its rank's items.
 pub record NodeState (S : Type 0) : Type 0 where
@@ -26,6 +26,6 @@ IsPaced R run (Stacking cap x) = x.stage ≡ Proceeding → x.done ≡ false
 pub record IsNode {S : Type 0} (R : Rules S) (h : ℕ → S) (n : NodeState S) (sent got : Logs) : Type 0 where
   pub moving : IsMoving n.mover sent got
   pub paced : IsPaced R n.run n.mover
-  pub passed : HasPassed R (ranks (dims_of n.mover)) (rank_of n.mover) h n.run.round (is_voting n.run.sends)
+  pub passed : HasPassed R (ranks (mover_dims n.mover)) (mover_rank n.mover) h n.run.round (is_voting n.run.sends)
       (part_in n.mover sent got)
-  pub within : IsWithin R (ranks (dims_of n.mover)) h n.run (part_in n.mover sent got)
+  pub within : IsWithinEpoch R (ranks (mover_dims n.mover)) h n.run (part_in n.mover sent got)

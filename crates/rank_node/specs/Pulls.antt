@@ -12,7 +12,7 @@ use Rattle.route_tensor.specs.Grid.{ranks}
 use Rattle.port_bank.specs.Logs.{Logs}
 use Rattle.exstack.specs.Links.{headroom_of}
 use Rattle.exstack.specs.State.{Stack}
-use Rattle.exstack.specs.State.{dims_of, out_at}
+use Rattle.exstack.specs.State.{stack_dims, stack_out_at}
 use Rattle.exstack.specs.Agreement.{AgreesIn}
 use Rattle.exstack.specs.Parts as exstacks
 use Rattle.rank_node.specs.declared.sends.Sends.{Sends}
@@ -67,10 +67,10 @@ pub record Fills (cap : ℕ) (es : List (ℕ × Item)) (old x : Stack) (from nex
   pub forward : from ≤ next
   pub low : next ≤ length es
   pub same : x ≡ record old { outs = x.outs; popped = x.popped }
-  pub kept : exstacks.KeepsAgreement old x
+  pub kept : exstacks.StackKeepsAgreement old x
   pub pushed : (n : ℕ) (sent got : Logs) → AgreesIn n old sent got
-      → PushedOn es (ranks (dims_of old)) from next (exstacks.part_of old sent got) (exstacks.part_of x sent got)
-  pub refused : (to : ℕ) (y : Item) → slice_get es next ≡ Some (to, y) → headroom_of cap (out_at x to) ≡ 0
+      → PushedOn es (ranks (stack_dims old)) from next (exstacks.stack_part old sent got) (exstacks.stack_part x sent got)
+  pub refused : (to : ℕ) (y : Item) → slice_get es next ≡ Some (to, y) → headroom_of cap (stack_out_at x to) ≡ 0
   pub none : next ≡ from → x.outs ≡ old.outs
 
 -- What pops leave of an exstack, whose items are summed or absorbed.
@@ -78,8 +78,8 @@ pub record Pops {S : Type 0} (R : Rules S) (voting : Bool) (old x : Stack) (prog
     (spoiled spoiled' : Bool) : Type 0 where
   pub same : x ≡ record old { ins = x.ins; popped = x.popped }
   pub emissions : R.emissions prog' ≡ R.emissions prog
-  pub kept : exstacks.KeepsAgreement old x
+  pub kept : exstacks.StackKeepsAgreement old x
   pub taken : (h : ℕ → S) (rank round next : ℕ) (sends : Sends) (n : ℕ) (sent got : Logs) → is_voting sends ≡ voting
       → AgreesIn n old sent got
-      → HasTaken R (ranks (dims_of old)) rank h round sends next prog sum spoiled (exstacks.part_of old sent got)
-      → HasTaken R (ranks (dims_of old)) rank h round sends next prog' sum' spoiled' (exstacks.part_of x sent got)
+      → HasTaken R (ranks (stack_dims old)) rank h round sends next prog sum spoiled (exstacks.stack_part old sent got)
+      → HasTaken R (ranks (stack_dims old)) rank h round sends next prog' sum' spoiled' (exstacks.stack_part x sent got)

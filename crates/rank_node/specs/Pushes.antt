@@ -11,7 +11,7 @@ use Rattle.convey.specs.Conveyors.{standing_toward}
 use Rattle.exstack.specs.declared.stage.Stage.TheVariants.{Filling}
 use Rattle.exstack.specs.Links.{headroom_of}
 use Rattle.exstack.specs.State.{Stack}
-use Rattle.exstack.specs.State.{dims_of, out_at, pushed_on}
+use Rattle.exstack.specs.State.{stack_dims, stack_out_at, pushed_on}
 use Rattle.exstack.specs.Parts as exstacks
 
 -- An item for a rank may be pushed into a conveyor.
@@ -30,7 +30,7 @@ pub record MayPushOn (es : List (ℕ × Item)) (c : State) (from : ℕ) : Type 0
 
 -- What a push into a conveyor leaves. One that was refused left the open parcel toward the rank as
 -- full as it can be.
-pub record Pushes (cap : ℕ) (old : State) (to : ℕ) (x : Item) (accepted : Bool) (c : State) : Type 0 where
+pub record AfterConveyorPush (cap : ℕ) (old : State) (to : ℕ) (x : Item) (accepted : Bool) (c : State) : Type 0 where
   pub same : c ≡ record old { outs = c.outs; pulled = c.pulled }
   pub kept : conveyors.KeepsAgreement old c
   pub step : accepted ≡ true → conveyors.IsStepOf (Push to x) old c
@@ -46,15 +46,15 @@ pub record MayFill (x : Stack) (to : ℕ) : Type 0 where
 -- And of these those from number `from` on.
 pub record MayFillOn (es : List (ℕ × Item)) (x : Stack) (from : ℕ) : Type 0 where
   pub low : from ≤ length es
-  pub receivers : All (λ e. e.0 < ranks (dims_of x)) es
+  pub receivers : All (λ e. e.0 < ranks (stack_dims x)) es
   pub filling : x.stage ≡ Filling
   pub all_pushed : x.done ≡ true → from ≡ length es
 
 -- What a push into an exstack leaves. One that was refused found the buffer toward the rank full.
 pub record FillsOne (cap : ℕ) (old : Stack) (to : ℕ) (y : Item) (accepted : Bool) (x : Stack) : Type 0 where
-  pub kept : exstacks.KeepsAgreement old x
+  pub kept : exstacks.StackKeepsAgreement old x
   pub pushed : accepted ≡ true → x ≡ pushed_on old y to
-  pub step : accepted ≡ true → exstacks.IsStepOf (Push to y) old x
+  pub step : accepted ≡ true → exstacks.IsStackStep (Push to y) old x
   pub unpushed : accepted ≡ false → x ≡ record old { popped = None }
-  pub idle : accepted ≡ false → exstacks.IsStepOf Idle old x
-  pub full : accepted ≡ false → headroom_of cap (out_at old to) ≡ 0
+  pub idle : accepted ≡ false → exstacks.IsStackStep Idle old x
+  pub full : accepted ≡ false → headroom_of cap (stack_out_at old to) ≡ 0

@@ -2,19 +2,19 @@
 use Rattle.std.specs.Prelude.{◌≡◌, ℕ, zero, suc, ◌+◌, ◌-◌, ◌*◌, ◌^◌, ◌<◌, ◌≤◌, min, Bool, true, false, List, [], length, take}
 use Rattle.std.specs.Prelude.{if◌then◌else◌}
 use Rattle.bale_items.specs.declared.item.Item.{Item}
-use Rattle.port_bank.specs.Flow.{Begins}
+use Rattle.port_bank.specs.Flow.{IsPrefix}
 use Rattle.port_bank.specs.Machine.{Part}
 use Rattle.round_program.specs.Rules.{Rules}
-use Rattle.round_program.specs.Canonical.{items_of, emitted}
-use Rattle.round_program.specs.Epochs.{PairLists, heard, worked, Own}
+use Rattle.round_program.specs.Canonical.{items_of, emissions_to}
+use Rattle.round_program.specs.Epochs.{PairLists, heard, after_work, Own}
 use Rattle.rank_node.specs.declared.run.Run.{Run}
 use Rattle.rank_node.specs.declared.sends.Sends.{Sends}
 use Rattle.rank_node.specs.declared.sends.Sends.TheVariants.{Emissions, Nothing, Votes}
 use Rattle.rank_node.specs.Sending.{to_send, is_voting, epoch_of, spoiled_vote}
 
 -- What a part of the machine pushed and pulled.
-abbrev pub lists_of : Part → PairLists
-lists_of part = record { pushed = part.pushed; pulled = part.pulled }
+abbrev pub part_lists : Part → PairLists
+part_lists part = record { pushed = part.pushed; pulled = part.pulled }
 
 -- The first so many of some items to send were pushed: toward each of p ranks, those that go to it.
 -- Of the items (1,x), (0,y), (1,z), of which two are pushed, rank 1 was sent [x] and rank 0 [y].
@@ -71,10 +71,10 @@ pub record HasPassed {S : Type 0} (R : Rules S) (p rank : ℕ) (h : ℕ → S) (
   pub all_ranks : R.ranks (h round) ≡ p
   pub own_round : R.round (h round) ≡ round_after (R.round (h 0)) round
   pub few : round ≤ 2 ^ 63
-  pub own : Own (from_round (R.round (h 0)) R) p part.epoch part.epoch h (lists_of part)
+  pub own : Own (from_round (R.round (h 0)) R) p part.epoch part.epoch h (part_lists part)
   pub goes : (m : ℕ) → m + 1 ≡ round
-      → R.goes_on (R.shape (h m)) (round_after (R.round (h 0)) m) (heard p (lists_of part) m) ≡ true
-  pub emitted_front : (m d : ℕ) → d < p → 2 * m < part.epoch → Begins (part.pushed (2 * m) d) (emitted R (h m) d)
+      → R.goes_on (R.shape (h m)) (round_after (R.round (h 0)) m) (heard p (part_lists part) m) ≡ true
+  pub emitted_front : (m d : ℕ) → d < p → 2 * m < part.epoch → IsPrefix (part.pushed (2 * m) d) (emissions_to R (h m) d)
   pub one_vote : (m d : ℕ) → d < p → 2 * m + 1 < part.epoch → length (part.pushed (2 * m + 1) d) ≤ 1
   pub ahead : (e d : ℕ) → part.epoch < e → (part.pushed e d ≡ []) × (part.pulled e d ≡ [])
 
@@ -88,22 +88,22 @@ pub record HasPassed {S : Type 0} (R : Rules S) (p rank : ℕ) (h : ℕ → S) (
 -- emitted_all: where it votes what its program votes, it has pushed all that the program emits in
 -- the round.
 -- hears: it has summed the votes that came.
-pub record IsWithin {S : Type 0} (R : Rules S) (p : ℕ) (h : ℕ → S) (run : Running S) (part : Part) : Type 0 where
+pub record IsWithinEpoch {S : Type 0} (R : Rules S) (p : ℕ) (h : ℕ → S) (run : Running S) (part : Part) : Type 0 where
   pub next_low : run.next ≤ length (to_send R run.prog run.sends)
   pub all_pushed : part.done ≡ true → run.next ≡ length (to_send R run.prog run.sends)
   pub pushed : IsPushed (to_send R run.prog run.sends) p run.next part
   pub emissions : run.sends ≡ Emissions → R.emissions run.prog ≡ R.emissions (h run.round)
   pub nothing : run.sends ≡ Nothing → run.spoiled ≡ true
-  pub works : run.spoiled ≡ false → run.prog ≡ worked R p h (lists_of part) run.round
+  pub works : run.spoiled ≡ false → run.prog ≡ after_work R p h (part_lists part) run.round
   pub vote : (v q : ℕ) → run.sends ≡ Votes v q
-      → (q ≡ p) × (v ≡ (if run.spoiled then spoiled_vote else R.vote (worked R p h (lists_of part) run.round)))
+      → (q ≡ p) × (v ≡ (if run.spoiled then spoiled_vote else R.vote (after_work R p h (part_lists part) run.round)))
   pub emitted_all : is_voting run.sends ≡ true → run.spoiled ≡ false → (d : ℕ) → d < p
-      → part.pushed (2 * run.round) d ≡ emitted R (h run.round) d
-  pub hears : is_voting run.sends ≡ true → run.sum ≡ heard p (lists_of part) run.round
+      → part.pushed (2 * run.round) d ≡ emissions_to R (h run.round) d
+  pub hears : is_voting run.sends ≡ true → run.sum ≡ heard p (part_lists part) run.round
 
 -- Both, as items are taken in.
 pub record HasTaken {S : Type 0} (R : Rules S) (p rank : ℕ) (h : ℕ → S) (round : ℕ) (sends : Sends) (next : ℕ)
     (prog : S) (sum : ℕ) (spoiled : Bool) (part : Part) : Type 0 where
   pub passed : HasPassed R p rank h round (is_voting sends) part
-  pub within : IsWithin R p h
+  pub within : IsWithinEpoch R p h
       (record { prog = prog; round = round; sends = sends; next = next; sum = sum; spoiled = spoiled }) part

@@ -1,7 +1,7 @@
 //! A rank whose items travel by a conveyor.
 ghost use Rattle.std.specs.Prelude.{◌≡◌, ◌≢◌, ◌^◌, ◌<◌, false, IfOk, IsOk, OnOk, Ok};
 ghost use Rattle.route_tensor.specs.Grid.{ranks};
-ghost use Rattle.rank_node.specs.Movers.{IsNew, GoesOn};
+ghost use Rattle.rank_node.specs.Movers.{IsNew, GoesToNextEpoch};
 ghost use Rattle.rank_node.specs.Movers.Manner.{ByConveyor};
 ghost use Rattle.rank_node.specs.Movers.MoverState.{Conveying};
 ghost use Rattle.rank_node.specs.Runs.{running};
@@ -82,7 +82,7 @@ pub(crate) fn reset_conveyor<const CAP: usize, const HOPS: usize>(
 )
     requires complete { conveyor.old.phase ≡ Phase.Complete }
     requires epochs { conveyor.old.epoch < 2 ^ 63 }
-    ensures { GoesOn (Conveying conveyor.old) (Conveying conveyor.new) }
+    ensures { GoesToNextEpoch (Conveying conveyor.old) (Conveying conveyor.new) }
 {
     conveyor.reset();
     conveyor.begin();

@@ -1,6 +1,6 @@
 //! A conveyor and an exstack, as what takes the items that a rank sends.
 ghost use Rattle.std.specs.Prelude.{◌≡◌};
-ghost use Rattle.rank_node.specs.Pushes.{MayPush, Pushes, MayFill, FillsOne};
+ghost use Rattle.rank_node.specs.Pushes.{MayPush, AfterConveyorPush, MayFill, FillsOne};
 ghost use Rattle.rank_node.specs.laws.PushLaws.{push_stays, fill_stays};
 
 use bale_items::Item;
@@ -18,7 +18,7 @@ impl<'a, const CAP: usize, const HOPS: usize> Departures for OnConveyor<'a, CAP,
     ghost may = { λ s to. MayPush s.conveyor.now to };
 
     ghost hands = { λ s to x accepted t. (t.conveyor.ghost_name ≡ s.conveyor.ghost_name)
-        × Pushes CAP s.conveyor.now to x accepted t.conveyor.now };
+        × AfterConveyorPush CAP s.conveyor.now to x accepted t.conveyor.now };
 
     ghost stays = { λ s t to other x accepted h. push_stays CAP s.conveyor.now t.conveyor.now to other x accepted h.1 };
 

@@ -1,7 +1,7 @@
 //! What carries the items of a rank.
 ghost use Rattle.std.specs.Prelude.{◌≡◌, ◌^◌, ◌<◌, true, false, length, IfOk, IsOk, OnOk, Ok};
 ghost use Rattle.route_tensor.specs.Grid.{ranks};
-ghost use Rattle.rank_node.specs.Movers.{seen, dims_of, rank_of, epoch_in, manner_of, has_completed, IsNew, GoesOn};
+ghost use Rattle.rank_node.specs.Movers.{mover_state, mover_dims, mover_rank, epoch_in, manner_of, has_completed, IsNew, GoesToNextEpoch};
 ghost use Rattle.rank_node.specs.Runs.{running};
 ghost use Rattle.rank_node.specs.Moves.{MayTurn};
 ghost use Rattle.rank_node.specs.Turns.{Turns, TurnsInFull};
@@ -39,7 +39,7 @@ impl<const CAP: usize, const HOPS: usize> Mover<CAP, HOPS> {
         requires fits { FitsGrid CAP HOPS grid.now }
         requires one_hop { via ≡ Via.Exstack → length grid.now ≡ 1 }
         requires rank { rank < ranks grid.now }
-        ensures { IfOk result (λ m. IsNew grid.now rank (manner_of via steady) (seen m)) }
+        ensures { IfOk result (λ m. IsNew grid.now rank (manner_of via steady) (mover_state m)) }
     {
         match via {
             Via::Convey => Ok(Mover::Convey(new_conveyor(alloc, grid, rank, steady)?)),
@@ -49,7 +49,7 @@ impl<const CAP: usize, const HOPS: usize> Mover<CAP, HOPS> {
 
     /// Does nothing, and states whose it is.
     pub(crate) fn known(&self)
-        ensures { IsGridRank (dims_of (seen self.now)) (rank_of (seen self.now)) }
+        ensures { IsGridRank (mover_dims (mover_state self.now)) (mover_rank (mover_state self.now)) }
     {
         match self {
             Mover::Convey(conveyor) => conveyor.known(),
@@ -63,16 +63,16 @@ impl<const CAP: usize, const HOPS: usize> Mover<CAP, HOPS> {
         run: &mut Run<Q>,
         port: &mut P,
     ) -> Result<Turn, NoMemory>
-        requires turns { MayTurn P.Port Q.rules (record { run = running run.old; mover = seen self.old })
+        requires turns { MayTurn P.Port Q.rules (record { run = running run.old; mover = mover_state self.old })
             port.old }
-        ensures turns { Turns P.Port Q.rules (record { run = running run.old; mover = seen self.old })
-            (record { run = running run.new; mover = seen self.new }) port.old port.new }
+        ensures turns { Turns P.Port Q.rules (record { run = running run.old; mover = mover_state self.old })
+            (record { run = running run.new; mover = mover_state self.new }) port.old port.new }
         ensures in_full { OnOk result (TurnsInFull P.Port Q.rules
-            (record { run = running run.old; mover = seen self.old })
-            (record { run = running run.new; mover = seen self.new }) port.old port.new) }
+            (record { run = running run.old; mover = mover_state self.old })
+            (record { run = running run.new; mover = mover_state self.new }) port.old port.new) }
         ensures memory { P.Memory.GROWS ≡ false → IsOk result }
-        ensures ended { result ≡ Ok Turn.Ended → has_completed (seen self.new) ≡ true }
-        ensures going { result ≡ Ok Turn.Going → has_completed (seen self.new) ≡ false }
+        ensures ended { result ≡ Ok Turn.Ended → has_completed (mover_state self.new) ≡ true }
+        ensures going { result ≡ Ok Turn.Going → has_completed (mover_state self.new) ≡ false }
     {
         match self {
             Mover::Convey(conveyor) => turn_conveyor(run, conveyor, port),
@@ -82,9 +82,9 @@ impl<const CAP: usize, const HOPS: usize> Mover<CAP, HOPS> {
 
     /// Goes from an epoch that is over to the next.
     pub(crate) fn reset(&mut self)
-        requires completed { has_completed (seen self.old) ≡ true }
-        requires epochs { epoch_in (seen self.old) < 2 ^ 63 }
-        ensures { GoesOn (seen self.old) (seen self.new) }
+        requires completed { has_completed (mover_state self.old) ≡ true }
+        requires epochs { epoch_in (mover_state self.old) < 2 ^ 63 }
+        ensures { GoesToNextEpoch (mover_state self.old) (mover_state self.new) }
     {
         match self {
             Mover::Convey(conveyor) => reset_conveyor(conveyor),

@@ -3,11 +3,11 @@ ghost use Rattle.std.specs.Prelude.{◌≡◌, ◌⊎◌, ℕ, ◌+◌, ◌-◌,
 ghost use Rattle.route_tensor.specs.Grid.{ranks};
 ghost use Rattle.port_bank.specs.Logs.{Logs};
 ghost use Rattle.rank_node.specs.Sending.{is_voting, to_send};
-ghost use Rattle.rank_node.specs.Movers.{dims_of, rank_of, epoch_in, manner_in, manner_of, has_completed, HasCap, IsStarting, NoneUnread, SameUnread};
+ghost use Rattle.rank_node.specs.Movers.{mover_dims, mover_rank, epoch_in, manner_in, manner_of, has_completed, HasCap, IsStarting, NoneUnread, SameUnread};
 ghost use Rattle.rank_node.specs.Moves.{MayTurn};
 ghost use Rattle.rank_node.specs.Turns.{Turns, TurnsInFull};
 ghost use Rattle.rank_node.specs.Nodes.{IsNode};
-ghost use Rattle.rank_node.specs.Next.{extended, HasStopped};
+ghost use Rattle.rank_node.specs.Next.{with_next, HasStopped};
 ghost use Rattle.rank_node.specs.Cycles.{IsInCycle};
 ghost use Rattle.rank_node.specs.Fits.{FitsGrid};
 
@@ -39,14 +39,14 @@ impl<Q, const CAP: usize, const HOPS: usize> Model for Node<Q, CAP, HOPS> {
     ghost use Rattle.std.specs.Prelude.{◌≡◌};
     ghost use Rattle.route_tensor.specs.Grid.{ranks};
     ghost use Rattle.rank_node.specs.Runs.{running};
-    ghost use Rattle.rank_node.specs.Movers.{seen, dims_of};
+    ghost use Rattle.rank_node.specs.Movers.{mover_state, mover_dims};
     ghost use Rattle.rank_node.specs.Nodes.{NodeState};
 
     ghost Value = { NodeState Q };
 
-    ghost view = { λ n. record { run = running n.run; mover = seen n.mover } };
+    ghost view = { λ n. record { run = running n.run; mover = mover_state n.mover } };
 
-    ghost invariant = { λ n. n.rank_count ≡ ranks (dims_of (seen n.mover)) };
+    ghost invariant = { λ n. n.rank_count ≡ ranks (mover_dims (mover_state n.mover)) };
 }
 
 impl<Q: Program, const CAP: usize, const HOPS: usize> Node<Q, CAP, HOPS> {
@@ -66,8 +66,8 @@ impl<Q: Program, const CAP: usize, const HOPS: usize> Node<Q, CAP, HOPS> {
         ensures node { IfOk result (λ n. IsNode Q.rules (λ m. prog) n (λ l. []) (λ l. [])) }
         ensures prog { IfOk result (λ n. n.run.prog ≡ prog) }
         ensures next { IfOk result (λ n. n.run.next ≡ 0) }
-        ensures dims { IfOk result (λ n. dims_of n.mover ≡ grid.now) }
-        ensures rank { IfOk result (λ n. rank_of n.mover ≡ Q.rules.rank prog) }
+        ensures dims { IfOk result (λ n. mover_dims n.mover ≡ grid.now) }
+        ensures rank { IfOk result (λ n. mover_rank n.mover ≡ Q.rules.rank prog) }
         ensures manner { IfOk result (λ n. manner_in n.mover ≡ manner_of via steady) }
         ensures cap { IfOk result (λ n. HasCap CAP n.mover) }
         ensures epoch { IfOk result (λ n. epoch_in n.mover ≡ 0) }
@@ -143,8 +143,8 @@ impl<Q: Program, const CAP: usize, const HOPS: usize> Node<Q, CAP, HOPS> {
         requires over { has_completed self.old.mover ≡ true }
         requires epochs { epoch_in self.old.mover < 2 ^ 63 }
         requires node { (h : ℕ → Q) × (sent : Logs) × (got : Logs) × IsNode Q.rules h self.old sent got }
-        ensures self_dims { dims_of self.new.mover ≡ dims_of self.old.mover }
-        ensures self_rank { rank_of self.new.mover ≡ rank_of self.old.mover }
+        ensures self_dims { mover_dims self.new.mover ≡ mover_dims self.old.mover }
+        ensures self_rank { mover_rank self.new.mover ≡ mover_rank self.old.mover }
         ensures manner { manner_in self.new.mover ≡ manner_in self.old.mover }
         ensures cap { HasCap CAP self.new.mover }
         ensures epoch { result ≡ Ok true → epoch_in self.new.mover ≡ epoch_in self.old.mover + 1 }
@@ -159,7 +159,7 @@ impl<Q: Program, const CAP: usize, const HOPS: usize> Node<Q, CAP, HOPS> {
         // one with memory.
         ensures work { is_voting self.old.run.sends ≡ true → result ≡ Ok true → (h : ℕ → Q) (sent got : Logs)
             → IsNode Q.rules h self.old sent got
-            → IsNode Q.rules (extended h (self.old.run.round + 1) (Q.rules.ended self.old.run.prog self.old.run.sum))
+            → IsNode Q.rules (with_next h (self.old.run.round + 1) (Q.rules.ended self.old.run.prog self.old.run.sum))
             self.new sent got }
         ensures stays { result ≡ Ok false → self.new.mover ≡ self.old.mover }
         ensures stopped { result ≡ Ok false → (h : ℕ → Q) (sent got : Logs) → IsNode Q.rules h self.old sent got

@@ -2,9 +2,9 @@
 ghost use Rattle.std.specs.Prelude.{◌≡◌, ◌≢◌, ℕ, ◌^◌, ◌<◌, true, false, length, Some, IfOk, IsOk, OnOk, Ok};
 ghost use Rattle.item_buffer.specs.Capacity.{IsCap};
 ghost use Rattle.route_tensor.specs.Grid.{ranks};
-ghost use Rattle.exstack.specs.State.{unread_of, lowest_unread, may_exchange, may_proceed};
+ghost use Rattle.exstack.specs.State.{stack_unread, lowest_unread_sender, may_exchange, may_proceed};
 ghost use Rattle.exstack.specs.Agreement.{cycle_after};
-ghost use Rattle.rank_node.specs.Movers.{IsNew, GoesOn};
+ghost use Rattle.rank_node.specs.Movers.{IsNew, GoesToNextEpoch};
 ghost use Rattle.rank_node.specs.Movers.MoverState.{Stacking};
 ghost use Rattle.rank_node.specs.Movers.Manner.{ByExstack};
 ghost use Rattle.port_bank.specs.Logs.{Logs};
@@ -172,7 +172,7 @@ fn pop_all<const CAP: usize, Q: Program>(
 ) -> Taken
     ensures pops { Pops Q.rules voting exstack.old exstack.new prog.old.value prog.new.value taken.sum result.sum
         taken.spoiled result.spoiled }
-    ensures read { unread_of exstack.new ≡ 0 }
+    ensures read { stack_unread exstack.new ≡ 0 }
 {
     let mut taken = taken;
     while let Some(sender) = exstack.next_sender() {
@@ -189,10 +189,10 @@ fn pop_batch<const CAP: usize, Q: Program>(
     voting: bool,
     taken: Taken,
 ) -> Taken
-    requires lowest { lowest_unread exstack.old ≡ Some sender }
+    requires lowest { lowest_unread_sender exstack.old ≡ Some sender }
     ensures pops { Pops Q.rules voting exstack.old exstack.new prog.old.value prog.new.value taken.sum result.sum
         taken.spoiled result.spoiled }
-    ensures less { unread_of exstack.new < unread_of exstack.old }
+    ensures less { stack_unread exstack.new < stack_unread exstack.old }
 {
     exstack.known();
     let came = FromSender {
@@ -224,7 +224,7 @@ pub(crate) fn new_exstack<const CAP: usize>(
 pub(crate) fn reset_exstack<const CAP: usize>(exstack: &mut Exstack<CAP>)
     requires all_done { exstack.old.stage ≡ Stage.AllDone }
     requires epochs { exstack.old.epoch < 2 ^ 63 }
-    ensures { GoesOn (Stacking CAP exstack.old) (Stacking CAP exstack.new) }
+    ensures { GoesToNextEpoch (Stacking CAP exstack.old) (Stacking CAP exstack.new) }
 {
     exstack.reset();
     exstack.known();

@@ -5,7 +5,7 @@ ghost use Rattle.hop_core.specs.State.{lowest_unread, pulls};
 ghost use Rattle.convey.specs.Conveyors.{GivesNext};
 ghost use Rattle.rank_node.specs.Movers.{AllRead};
 ghost use Rattle.rank_node.specs.Pulls.{Takes};
-ghost use Rattle.rank_node.specs.Batches.{summed, came_on, TakesEach};
+ghost use Rattle.rank_node.specs.Batches.{sum_after, came_on, TakesEach};
 ghost use Rattle.bale_items.specs.declared.item.Item.{Item};
 
 use crate::arrivals::{FromLink, FromSender};
@@ -126,7 +126,7 @@ pub(crate) fn take_each<Q: Program, I: Arrivals>(
 
 /// The sum after the votes that came.
 fn sum_votes<I: Arrivals>(came: I, sum: u64) -> u64
-    ensures { result ≡ summed sum (I.items came) }
+    ensures { result ≡ sum_after sum (I.items came) }
 {
     let mut came = came;
     let mut sum = sum;

@@ -9,17 +9,17 @@ use Rattle.round_program.specs.Laws.{Laws}
 use Rattle.round_program.specs.Canonical.{states_at, HaveEnded, InRound}
 use Rattle.round_program.proofs.Members.{in_round_at}
 use Rattle.reductions.specs.Reductions.{ReducedState}
-use Rattle.reductions.specs.Answers.{cell_in, cell_of, owned}
+use Rattle.reductions.specs.Answers.{cell_in, cell_of, owned_values}
 
 -- there is one for each key
-pub owned_len : {S : Type 0} (cells : S → ReducedState) (states : List S) (count : ℕ) → length (owned cells states count) ≡ count
+pub owned_len : {S : Type 0} (cells : S → ReducedState) (states : List S) (count : ℕ) → length (owned_values cells states count) ≡ count
 owned_len cells states count = length-map-range_with_len (cell_of cells states) 0 count
 
 -- what holds of each key and its cell in its owner's state holds of each key and the cell that is
 -- read
 pub each_owned : {S : Type 0} (cells : S → ReducedState) (states : List S) (count : ℕ) (P : ℕ → ℕ → Type 0) → 0 < length states
     → ((k : ℕ) (s : S) → k < count → slice_get states (k % length states) ≡ Some s → P k (get_or (cells s).cells k 0))
-    → EachAt P (owned cells states count)
+    → EachAt P (owned_values cells states count)
 each_owned cells states count P some holds k d low =
     let few : k < count = subst (λ n. k < n) (owned_len cells states count) low in
     let s = find states (k % length states) (mod-lt k some) in

@@ -12,23 +12,23 @@ use Rattle.round_program.specs.Rules.{Rules}
 use Rattle.round_program.specs.Canonical.{absorb_all, absorb_upto, emitted_by, emitted_of, items_of}
 use Rattle.reductions.specs.declared.reduced.Reduction.{Reduction}
 use Rattle.reductions.specs.declared.reduced.Reduction.TheVariants.{Least}
-use Rattle.reductions.specs.Reductions.{ReducedState, combined, begun, reduced}
+use Rattle.reductions.specs.Reductions.{ReducedState, combination, at_round_begin, after_item}
 use Rattle.reductions.proofs.Cells.{reduced_len}
 use Rattle.reductions.proofs.Lists.{numbers_more, all_mapped, unfiltered, filtered, all_flat, each_flat, fold_on, flat_at}
 use Rattle.reductions.proofs.Rounds.{full, sent}
 
 -- ---- Folds of the least
 
-pub least_below : (c : ℕ) (xs : List ℕ) → fold (combined Least) c xs ≤ c
+pub least_below : (c : ℕ) (xs : List ℕ) → fold (combination Least) c xs ≤ c
 least_below c [] = omega arith
-least_below c (x ∷ xs) = (let h : fold (combined Least) (min c x) xs ≤ min c x = least_below (min c x) xs in omega arith)
+least_below c (x ∷ xs) = (let h : fold (combination Least) (min c x) xs ≤ min c x = least_below (min c x) xs in omega arith)
 
-pub least_each : (c : ℕ) (xs : List ℕ) → All (λ x. fold (combined Least) c xs ≤ x) xs
+pub least_each : (c : ℕ) (xs : List ℕ) → All (λ x. fold (combination Least) c xs ≤ x) xs
 least_each c [] = All-nil (λ x. c ≤ x)
 least_each c (x ∷ xs) =
-    All-cons (λ y. fold (combined Least) (min c x) xs ≤ y) x xs (let h : fold (combined Least) (min c x) xs ≤ min c x = least_below (min c x) xs in omega arith) (least_each (min c x) xs)
+    All-cons (λ y. fold (combination Least) (min c x) xs ≤ y) x xs (let h : fold (combination Least) (min c x) xs ≤ min c x = least_below (min c x) xs in omega arith) (least_each (min c x) xs)
 
-pub least_is : (P : ℕ → Type 0) (c : ℕ) (xs : List ℕ) → P c → All P xs → P (fold (combined Least) c xs)
+pub least_is : (P : ℕ → Type 0) (c : ℕ) (xs : List ℕ) → P c → All P xs → P (fold (combination Least) c xs)
 least_is P c [] p h = p
 least_is P c (x ∷ xs) p h =
     let one : P (min c x) = elim (cases_lt c x) [
@@ -90,25 +90,25 @@ module _ (key value : Item → ℕ) where
 -- What its calls do to them: each item is for the cell of its key, and a round begins with the
 -- cells as they are.
 pub record HasCells {S : Type 0} (R : Rules S) (how : Reduction) (key value : Item → ℕ) (cells : S → ReducedState) : Type 0 where
-  pub absorbs : (s : S) (from : ℕ) (x : Item) → cells (R.absorbed s from x) ≡ reduced how (cells s) (key x) (value x)
-  pub begins : (s : S) (votes : ℕ) → cells (R.ended s votes) ≡ begun (cells s).cells
+  pub absorbs : (s : S) (from : ℕ) (x : Item) → cells (R.absorbed s from x) ≡ after_item how (cells s) (key x) (value x)
+  pub begins : (s : S) (votes : ℕ) → cells (R.ended s votes) ≡ at_round_begin (cells s).cells
 
 -- the cell of a key
 abbrev pub cell : ReducedState → ℕ → ℕ
 cell s v = get_or s.cells v 0
 
 module _ {S : Type 0} {R : Rules S} {how : Reduction} {key value : Item → ℕ} {cells : S → ReducedState} (has : HasCells R how key value cells) where
-  cell_one : (s : S) (f : ℕ) (x : Item) (v : ℕ) → v < length (cells s).cells → cell (cells (R.absorbed s f x)) v ≡ cond (key x == v) (combined how (cell (cells s) v) (value x)) (cell (cells s) v)
+  cell_one : (s : S) (f : ℕ) (x : Item) (v : ℕ) → v < length (cells s).cells → cell (cells (R.absorbed s f x)) v ≡ cond (key x == v) (combination how (cell (cells s) v) (value x)) (cell (cells s) v)
   cell_one s f x v inside =
       let c : ReducedState = cells s in
       ap (λ c. cell c v) (has.absorbs s f x)
       ∙ elim (cases_eq (key x) v) [
         | inl same ↦
-            subst (λ k. cell (reduced how c k (value x)) v ≡ cond (k == v) (combined how (cell c v) (value x)) (cell c v)) (sym same)
-            (get_or-set_at c.cells v v (combined how (cell c v) (value x)) 0 refl inside ∙ ap (λ b. cond b (combined how (cell c v) (value x)) (cell c v)) (sym (eq-eqb v v refl)))
+            subst (λ k. cell (after_item how c k (value x)) v ≡ cond (k == v) (combination how (cell c v) (value x)) (cell c v)) (sym same)
+            (get_or-set_at c.cells v v (combination how (cell c v) (value x)) 0 refl inside ∙ ap (λ b. cond b (combination how (cell c v) (value x)) (cell c v)) (sym (eq-eqb v v refl)))
         | inr other ↦
-            get_or-set_other c.cells (key x) v (combined how (cell c (key x)) (value x)) 0 (λ e. other (sym e))
-            ∙ ap (λ b. cond b (combined how (cell c v) (value x)) (cell c v)) (sym (ne_eqb (key x) v other))
+            get_or-set_other c.cells (key x) v (combination how (cell c (key x)) (value x)) 0 (λ e. other (sym e))
+            ∙ ap (λ b. cond b (combination how (cell c v) (value x)) (cell c v)) (sym (ne_eqb (key x) v other))
       ]
 
   len_one : (s : S) (f : ℕ) (x : Item) → length (cells (R.absorbed s f x)).cells ≡ length (cells s).cells
@@ -130,26 +130,26 @@ module _ {S : Type 0} {R : Rules S} {how : Reduction} {key value : Item → ℕ}
   before_upto s lists zero = refl
   before_upto s lists (suc n) = before_all (absorb_upto R s lists n) n (lists n) ∙ before_upto s lists n
 
-  cell_all : (s : S) (f : ℕ) (xs : List Item) (v : ℕ) → v < length (cells s).cells → cell (cells (absorb_all R s f xs)) v ≡ fold (combined how) (cell (cells s) v) (brought key value v xs)
+  cell_all : (s : S) (f : ℕ) (xs : List Item) (v : ℕ) → v < length (cells s).cells → cell (cells (absorb_all R s f xs)) v ≡ fold (combination how) (cell (cells s) v) (brought key value v xs)
   cell_all s f [] v inside = refl
   cell_all s f (x ∷ xs) v inside =
       let t : S = R.absorbed s f x in
-      let rest : cell (cells (absorb_all R t f xs)) v ≡ fold (combined how) (cell (cells t) v) (brought key value v xs) =
+      let rest : cell (cells (absorb_all R t f xs)) v ≡ fold (combination how) (cell (cells t) v) (brought key value v xs) =
       cell_all t f xs v (subst (λ n. v < n) (sym (len_one s f x)) inside) in
       rest
-      ∙ ap (λ c. fold (combined how) c (brought key value v xs)) (cell_one s f x v inside)
+      ∙ ap (λ c. fold (combination how) c (brought key value v xs)) (cell_one s f x v inside)
       ∙ elim (cases_Bool (key x == v)) [
         | inl t ↦
-            ap (λ b. fold (combined how) (cond b (combined how (cell (cells s) v) (value x)) (cell (cells s) v)) (brought key value v xs)) t
-            ∙ sym (ap (fold (combined how) (cell (cells s) v)) (brought_cons key value v x xs ∙ ap (λ b. cond b (value x ∷ brought key value v xs) (brought key value v xs)) t))
+            ap (λ b. fold (combination how) (cond b (combination how (cell (cells s) v) (value x)) (cell (cells s) v)) (brought key value v xs)) t
+            ∙ sym (ap (fold (combination how) (cell (cells s) v)) (brought_cons key value v x xs ∙ ap (λ b. cond b (value x ∷ brought key value v xs) (brought key value v xs)) t))
         | inr f ↦
-            ap (λ b. fold (combined how) (cond b (combined how (cell (cells s) v) (value x)) (cell (cells s) v)) (brought key value v xs)) f
-            ∙ sym (ap (fold (combined how) (cell (cells s) v)) (brought_cons key value v x xs ∙ ap (λ b. cond b (value x ∷ brought key value v xs) (brought key value v xs)) f))
+            ap (λ b. fold (combination how) (cond b (combination how (cell (cells s) v) (value x)) (cell (cells s) v)) (brought key value v xs)) f
+            ∙ sym (ap (fold (combination how) (cell (cells s) v)) (brought_cons key value v x xs ∙ ap (λ b. cond b (value x ∷ brought key value v xs) (brought key value v xs)) f))
       ]
 
   -- after what so many ranks sent, a cell is the fold of what they sent for it
   pub cell_upto : (s : S) (lists : ℕ → List Item) (n v : ℕ) → v < length (cells s).cells
-      → cell (cells (absorb_upto R s lists n)) v ≡ fold (combined how) (cell (cells s) v) (brought key value v (flat_map lists (range_with_len 0 n)))
+      → cell (cells (absorb_upto R s lists n)) v ≡ fold (combination how) (cell (cells s) v) (brought key value v (flat_map lists (range_with_len 0 n)))
   cell_upto s lists zero v inside = refl
   cell_upto s lists (suc n) v inside =
       let so_far : List Item = flat_map lists (range_with_len 0 n) in
@@ -157,9 +157,9 @@ module _ {S : Type 0} {R : Rules S} {how : Reduction} {key value : Item → ℕ}
       ap (λ m. flat_map lists (range_with_len 0 m)) (let e : suc n ≡ n + 1 = omega arith in e)
       ∙ ap (flat_map lists) (numbers_more n) ∙ flat_map-append lists (range_with_len 0 n) (n ∷ []) ∙ ap (λ xs. so_far ++ xs) (append-nil (lists n)) in
       cell_all (absorb_upto R s lists n) n (lists n) v (subst (λ k. v < k) (sym (len_upto s lists n)) inside)
-      ∙ ap (λ c. fold (combined how) c (brought key value v (lists n))) (cell_upto s lists n v inside)
-      ∙ sym (fold_on (combined how) (cell (cells s) v) (brought key value v so_far) (brought key value v (lists n)))
-      ∙ ap (fold (combined how) (cell (cells s) v)) (sym (brought_on key value v so_far (lists n)) ∙ ap (brought key value v) (sym one))
+      ∙ ap (λ c. fold (combination how) c (brought key value v (lists n))) (cell_upto s lists n v inside)
+      ∙ sym (fold_on (combination how) (cell (cells s) v) (brought key value v so_far) (brought key value v (lists n)))
+      ∙ ap (fold (combination how) (cell (cells s) v)) (sym (brought_on key value v so_far (lists n)) ∙ ap (brought key value v) (sym one))
 
   -- ---- After the absorbs of a round
 
@@ -172,10 +172,10 @@ module _ {S : Type 0} {R : Rules S} {how : Reduction} {key value : Item → ℕ}
   GoTo ss v r = (f : ℕ) (q : S) → slice_get ss f ≡ Some q → All (λ e. key e.1 ≡ v → e.0 ≡ r) (R.emissions q)
 
   -- There the cell is the fold of all that all ranks send for it.
-  pub cell_after : (ss : List S) (s : S) (v : ℕ) → v < length (cells s).cells → GoTo ss v (R.rank s) → cell (cells (full R ss s)) v ≡ fold (combined how) (cell (cells s) v) (brought key value v (all_sent ss))
+  pub cell_after : (ss : List S) (s : S) (v : ℕ) → v < length (cells s).cells → GoTo ss v (R.rank s) → cell (cells (full R ss s)) v ≡ fold (combination how) (cell (cells s) v) (brought key value v (all_sent ss))
   cell_after ss s v inside there =
       cell_upto s (emitted_by R ss (R.rank s)) (length ss) v inside
-      ∙ ap (fold (combined how) (cell (cells s) v))
+      ∙ ap (fold (combination how) (cell (cells s) v))
       (brought_flat key value v (emitted_by R ss (R.rank s)) (range_with_len 0 (length ss))
       ∙ flat_at (λ f. brought key value v (emitted_by R ss (R.rank s) f)) (λ q. brought key value v (map (λ e. e.1) (R.emissions q))) 0 ss
       (λ f q at.

@@ -4,7 +4,7 @@ use Rattle.std.proofs.lemmas.List.Elements.{All-nil, All-head, All-tail}
 use Rattle.bale_items.specs.declared.Item.{Item}
 use Rattle.list_laws.proofs.Lists.{got_map}
 use Rattle.round_program.specs.Rules.{Rules}
-use Rattle.round_program.specs.Canonical.{absorb_all, absorb_upto, absorbed_round, round_of, vote_sum, emitted_by, emitted_of}
+use Rattle.round_program.specs.Canonical.{absorb_all, absorb_upto, absorbed_round, after_whole_round, vote_sum, emitted_by, emitted_of}
 use Rattle.round_program.proofs.Items.{picked, from_picked}
 
 module _ {S : Type 0} (R : Rules S) where
@@ -17,7 +17,7 @@ module _ {S : Type 0} (R : Rules S) where
   next ss s = R.ended (full ss s) (vote_sum R (absorbed_round R ss))
 
   -- what a rank was before the round
-  pub was : (ss : List S) (r : ℕ) (t : S) → slice_get (round_of R ss) r ≡ Some t → (s : S) × (slice_get ss r ≡ Some s) × (next ss s ≡ t)
+  pub was : (ss : List S) (r : ℕ) (t : S) → slice_get (after_whole_round R ss) r ≡ Some t → (s : S) × (slice_get ss r ≡ Some s) × (next ss s ≡ t)
   was ss r t here =
       let a = got_map (λ s. R.ended s (vote_sum R (absorbed_round R ss))) (absorbed_round R ss) r t here in
       let b = got_map (full ss) ss r a.0 a.1 in

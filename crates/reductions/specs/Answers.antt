@@ -15,5 +15,5 @@ abbrev pub cell_of : {S : Type 0} → (S → ReducedState) → List S → ℕ �
 cell_of cells states key = cell_in cells (slice_get states (key % length states)) key
 
 -- The cells of the keys below a number, each as its owner has it.
-abbrev pub owned : {S : Type 0} → (S → ReducedState) → List S → ℕ → List ℕ
-owned cells states count = map (cell_of cells states) (range_with_len 0 count)
+abbrev pub owned_values : {S : Type 0} → (S → ReducedState) → List S → ℕ → List ℕ
+owned_values cells states count = map (cell_of cells states) (range_with_len 0 count)

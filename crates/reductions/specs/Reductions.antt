@@ -12,20 +12,20 @@ pub record ReducedState : Type 0 where
 
 -- What a cell and a value make: the lesser, the greater, or the sum modulo 2^64.
 -- combined Least 5 3 = 3, combined Greatest 5 3 = 5, combined Sum 5 3 = 8
-abbrev pub combined : Reduction → ℕ → ℕ → ℕ
-combined Least cell value = min cell value
-combined Greatest cell value = max cell value
-combined Sum cell value = (cell + value) % 2 ^ 64
+abbrev pub combination : Reduction → ℕ → ℕ → ℕ
+combination Least cell value = min cell value
+combination Greatest cell value = max cell value
+combination Sum cell value = (cell + value) % 2 ^ 64
 
 -- Cells as a round begins: they are what they were.
-abbrev pub begun : List ℕ → ReducedState
-begun values = record { before = values; cells = values }
+abbrev pub at_round_begin : List ℕ → ReducedState
+at_round_begin values = record { before = values; cells = values }
 
 -- A cell is reduced by a value.
 -- reduced Least (7, 5, 9) 1 3 = (7, 3, 9)
-abbrev pub reduced : Reduction → ReducedState → ℕ → ℕ → ReducedState
-reduced how s key value =
-    record { before = s.before; cells = changed_at s.cells key 0 (λ cell. combined how cell value) }
+abbrev pub after_item : Reduction → ReducedState → ℕ → ℕ → ReducedState
+after_item how s key value =
+    record { before = s.before; cells = changed_at s.cells key 0 (λ cell. combination how cell value) }
 
 -- A cell has changed since the round began.
 abbrev pub has_changed : ReducedState → ℕ → Bool

@@ -2,7 +2,7 @@
 
 ghost use Rattle.std.specs.Prelude.{◌≡◌, ◌<◌, ◌≤◌, ◌%◌, length, IfOk};
 ghost use Rattle.std.specs.List.{All};
-ghost use Rattle.reductions.specs.Answers.{cell_of, owned};
+ghost use Rattle.reductions.specs.Answers.{cell_of, owned_values};
 
 use crate::reduced::Reduced;
 use bale_items::NoMemory;
@@ -32,7 +32,7 @@ pub fn owned<Q: HasCells>(
 ) -> Result<Vec<u64>, NoMemory>
     requires some { 0 < length progs.now }
     requires keys { All (λ s. count ≤ length (Q.cells_of s).cells) progs.now }
-    ensures { IfOk result (λ v. v.items ≡ owned Q.cells_of progs.now count) }
+    ensures { IfOk result (λ v. v.items ≡ owned_values Q.cells_of progs.now count) }
 {
     let mut answer = Vec::new(alloc);
     for key in 0..count {

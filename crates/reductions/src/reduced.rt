@@ -1,7 +1,7 @@
 //! Numbers by key, each reduced by what comes for it.
 
 ghost use Rattle.std.specs.Prelude.{◌≡◌, ◌<◌, length, IfOk};
-ghost use Rattle.reductions.specs.Reductions.{combined, begun, reduced, has_changed, vote_of};
+ghost use Rattle.reductions.specs.Reductions.{combination, at_round_begin, after_item, has_changed, vote_of};
 
 use bale_items::NoMemory;
 use std::alloc::Global;
@@ -44,7 +44,7 @@ impl Reduced {
     /// # Errors
     /// `NoMemory` where there was none.
     pub fn new(alloc: Global, values: &[u64]) -> Result<Reduced, NoMemory>
-        ensures { IfOk result (λ s. s ≡ begun values.now) }
+        ensures { IfOk result (λ s. s ≡ at_round_begin values.now) }
     {
         let before = Vec::from_slice(alloc, values)?;
         let cells = Vec::from_slice(alloc, values)?;
@@ -82,7 +82,7 @@ impl Reduced {
     /// Reduces a cell by what came for it.
     pub fn take(&mut self, how: Reduction, key: usize, value: u64)
         requires { key < length self.old.cells }
-        ensures { self.new ≡ reduced how self.old key value }
+        ensures { self.new ≡ after_item how self.old key value }
     {
         self.cells[key] = combine(how, self.cells[key], value);
     }
@@ -108,7 +108,7 @@ impl Reduced {
 
     /// Begins a round. No memory is taken.
     pub fn begin(&mut self)
-        ensures { self.new ≡ begun self.old.cells }
+        ensures { self.new ≡ at_round_begin self.old.cells }
     {
         self.before.copy_from_slice(&self.cells);
     }
@@ -116,7 +116,7 @@ impl Reduced {
 
 /// What a cell and a value make.
 fn combine(how: Reduction, cell: u64, value: u64) -> u64
-    ensures { result ≡ combined how cell value }
+    ensures { result ≡ combination how cell value }
 {
     match how {
         Reduction::Least => cell.min(value),

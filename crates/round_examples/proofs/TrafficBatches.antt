@@ -7,7 +7,7 @@ use Rattle.bale_items.specs.declared.Item.{Item}
 use Rattle.list_laws.proofs.Lists.{changed_len}
 use Rattle.round_program.specs.Laws.{is_item}
 use Rattle.round_program.specs.Batches.{all_taken_in}
-use Rattle.round_examples.specs.Traffics.{TrafficState, traffic_rules, is_sent, raised}
+use Rattle.round_examples.specs.Traffics.{TrafficState, traffic_rules, is_sent, traffic_raised}
 use Rattle.round_examples.specs.code.TrafficBatches.{is_for_it, all_counted, all_checked}
 
 -- a choice of two fields
@@ -32,8 +32,8 @@ counts_taken s counts check [] z own = refl
 counts_taken s counts check (e ∷ es) z own =
     let b = is_for_it s.ranks e.0 e.1 in
     ap (λ t. all_taken_in traffic_rules t es)
-    (inside s (is_sent s.ranks s.round s.rank e.0 e.1) b (raised counts e.1) counts ((check + e.1.c) % 2 ^ 64) check (first s.round s.rank s.ranks e.0 e.1 z own))
-    ∙ counts_taken s (cond b (raised counts e.1) counts) (cond b ((check + e.1.c) % 2 ^ 64) check) es z own
+    (inside s (is_sent s.ranks s.round s.rank e.0 e.1) b (traffic_raised counts e.1) counts ((check + e.1.c) % 2 ^ 64) check (first s.round s.rank s.ranks e.0 e.1 z own))
+    ∙ counts_taken s (cond b (traffic_raised counts e.1) counts) (cond b ((check + e.1.c) % 2 ^ 64) check) es z own
 
 -- nothing may be sent in a later round
 pub none_taken : (s : TrafficState) (came : List (ℕ × Item)) → s.round ≢ 0 → all_taken_in traffic_rules s came ≡ s
@@ -41,16 +41,16 @@ none_taken s [] n = refl
 none_taken s (e ∷ es) n = ap (λ t. all_taken_in traffic_rules t es) (late (s.round == 0) (ne_eqb s.round 0 n)) ∙ none_taken s es n
   where
     late : (b : Bool) → b ≡ false
-        → cond (b && nat_lt s.rank s.ranks && nat_lt e.0 s.ranks && nat_lt e.1.a 1024 && is_item e.1) (record s { counts = raised s.counts e.1; check = (s.check + e.1.c) % 2 ^ 64 }) s ≡ s
+        → cond (b && nat_lt s.rank s.ranks && nat_lt e.0 s.ranks && nat_lt e.1.a 1024 && is_item e.1) (record s { counts = traffic_raised s.counts e.1; check = (s.check + e.1.c) % 2 ^ 64 }) s ≡ s
     late false h = refl
     late true h = absurd (cc)
 
 -- the counts stay as many
-raised_len : (b : Bool) (counts : List ℕ) (x : Item) → length (cond b (raised counts x) counts) ≡ length counts
+raised_len : (b : Bool) (counts : List ℕ) (x : Item) → length (cond b (traffic_raised counts x) counts) ≡ length counts
 raised_len true counts x = changed_len counts x.a 0 (λ v. (v + x.b) % 2 ^ 64)
 raised_len false counts x = refl
 
 pub all_raised_len : (ranks : ℕ) (counts : List ℕ) (came : List (ℕ × Item)) → length (all_counted ranks counts came) ≡ length counts
 all_raised_len ranks counts [] = refl
 all_raised_len ranks counts (e ∷ es) =
-    all_raised_len ranks (cond (is_for_it ranks e.0 e.1) (raised counts e.1) counts) es ∙ raised_len (is_for_it ranks e.0 e.1) counts e.1
+    all_raised_len ranks (cond (is_for_it ranks e.0 e.1) (traffic_raised counts e.1) counts) es ∙ raised_len (is_for_it ranks e.0 e.1) counts e.1

@@ -45,13 +45,13 @@ asking rank ranks table names =
     }
 
 -- the reply to a query of rank f: the number of the query and the value of its column
-abbrev pub reply_to : List ℕ → ℕ → Item → ℕ × Item
-reply_to table f x = (f, record { a = x.b; b = slice_index table x.a; c = 0 })
+abbrev pub ask_reply_to : List ℕ → ℕ → Item → ℕ × Item
+ask_reply_to table f x = (f, record { a = x.b; b = slice_index table x.a; c = 0 })
 
 -- the replies to lists of queries, whose senders begin at f
-abbrev pub replies_from : List ℕ → ℕ → List (List Item) → List (ℕ × Item)
-replies_from table f [] = []
-replies_from table f (q ∷ qs) = map (reply_to table f) q ++ replies_from table (suc f) qs
+abbrev pub ask_replies_from : List ℕ → ℕ → List (List Item) → List (ℕ × Item)
+ask_replies_from table f [] = []
+ask_replies_from table f (q ∷ qs) = map (ask_reply_to table f) q ++ ask_replies_from table (suc f) qs
 
 -- in round 0 a rank may be sent queries for its own columns, and later any reply
 abbrev pub is_asked : List ℕ → ℕ → ℕ → ℕ → ℕ → Item → Bool
@@ -60,16 +60,16 @@ is_asked (columns ∷ []) ranks round to from x =
 is_asked shape ranks round to from x = false
 
 -- the query is appended to its sender's list
-abbrev pub noted : List (List Item) → ℕ → Item → List (List Item)
-noted queries f x = changed_at queries f [] (λ q. q ++ x ∷ [])
+abbrev pub noted_ask : List (List Item) → ℕ → Item → List (List Item)
+noted_ask queries f x = changed_at queries f [] (λ q. q ++ x ∷ [])
 
 -- the answer of number a is b, or stays where it is greater
-abbrev pub answered : List ℕ → Item → List ℕ
-answered answers x = changed_at answers x.a 0 (λ v. max v x.b)
+abbrev pub answered_number : List ℕ → Item → List ℕ
+answered_number answers x = changed_at answers x.a 0 (λ v. max v x.b)
 
 -- A query that came: of an own column.
-abbrev pub IsQuery : ℕ → Item → Type 0
-IsQuery columns x = (x.a < columns) × (x.b < 2 ^ 64)
+abbrev pub IsAskQuery : ℕ → Item → Type 0
+IsAskQuery columns x = (x.a < columns) × (x.b < 2 ^ 64)
 
 -- every column has a value, every sender a list of queries, and what is sent fits
 pub record IsAsk (s : AskState) : Type 0 where
@@ -77,7 +77,7 @@ pub record IsAsk (s : AskState) : Type 0 where
   pub values : All (λ v. v < 2 ^ 64) s.table
   pub columns : length s.table < 2 ^ 32
   pub senders : length s.queries ≡ s.ranks
-  pub asked : All (All (IsQuery (length s.table))) s.queries
+  pub asked : All (All (IsAskQuery (length s.table))) s.queries
   pub fit : All (λ e. is_asked (length s.table ∷ []) s.ranks s.round e.0 s.rank e.1 ≡ true) s.outgoing
 
 abbrev pub ask_rules : Rules AskState
@@ -92,13 +92,13 @@ ask_rules =
       emissions = λ s. s.outgoing;
       may_be_sent = is_asked;
       absorbed = λ s from x. record s {
-        queries = if s.round == 0 then noted s.queries from x else s.queries;
-        answers = (if s.round == 0 then s.answers else answered s.answers x);
+        queries = if s.round == 0 then noted_ask s.queries from x else s.queries;
+        answers = (if s.round == 0 then s.answers else answered_number s.answers x);
       };
       vote = λ s. 0;
       goes_on = λ shape round votes. round == 0;
       ended = λ s votes. record s {
         round = min (s.round + 1) (2 ^ 64 - 1);
-        outgoing = (if s.round == 0 then replies_from s.table 0 s.queries else []);
+        outgoing = (if s.round == 0 then ask_replies_from s.table 0 s.queries else []);
       };
     }

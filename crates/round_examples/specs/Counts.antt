@@ -30,8 +30,8 @@ abbrev pub to_owner : ℕ → ℕ → ℕ × Item
 to_owner ranks j = (j % ranks, named_item j)
 
 -- the count of column a rises by b, modulo 2^64
-abbrev pub raised : List ℕ → Item → List ℕ
-raised counts x = changed_at counts x.a 0 (λ v. (v + x.b) % 2 ^ 64)
+abbrev pub count_raised : List ℕ → Item → List ℕ
+count_raised counts x = changed_at counts x.a 0 (λ v. (v + x.b) % 2 ^ 64)
 
 -- in round 0 an owner may be sent its columns
 abbrev pub is_named : List ℕ → ℕ → ℕ → ℕ → ℕ → Item → Bool
@@ -50,7 +50,7 @@ count_rules =
       most = λ s. 1;
       emissions = λ s. if s.round == 0 then map (to_owner s.ranks) s.names else [];
       may_be_sent = is_named;
-      absorbed = λ s from x. record s { counts = raised s.counts x };
+      absorbed = λ s from x. record s { counts = count_raised s.counts x };
       vote = λ s. 0;
       goes_on = λ shape round votes. false;
       ended = λ s votes. record s { round = min (s.round + 1) (2 ^ 64 - 1) };

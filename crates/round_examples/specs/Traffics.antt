@@ -34,8 +34,8 @@ sent_from i [] = []
 sent_from i (t ∷ ts) = (t.0, record { a = t.1; b = 1; c = i }) ∷ sent_from (i + 1) ts
 
 -- the count of cell a rises by b, modulo 2^64
-abbrev pub raised : List ℕ → Item → List ℕ
-raised counts x = changed_at counts x.a 0 (λ v. (v + x.b) % 2 ^ 64)
+abbrev pub traffic_raised : List ℕ → Item → List ℕ
+traffic_raised counts x = changed_at counts x.a 0 (λ v. (v + x.b) % 2 ^ 64)
 
 abbrev pub is_sent : ℕ → ℕ → ℕ → ℕ → Item → Bool
 is_sent ranks round to from x = round == 0 && nat_lt to ranks && nat_lt from ranks && nat_lt x.a 1024 && is_item x
@@ -56,7 +56,7 @@ traffic_rules =
       most = λ s. s.rounds;
       emissions = λ s. if s.round == 0 then sent_from 0 s.targets else [];
       may_be_sent = λ shape. is_sent;
-      absorbed = λ s from x. record s { counts = raised s.counts x; check = (s.check + x.c) % 2 ^ 64 };
+      absorbed = λ s from x. record s { counts = traffic_raised s.counts x; check = (s.check + x.c) % 2 ^ 64 };
       vote = λ s. 0;
       goes_on = λ shape round votes. goes_on shape round;
       ended = λ s votes. record s { round = min (s.round + 1) (2 ^ 64 - 1) };

@@ -3,7 +3,7 @@
 ghost use Rattle.std.specs.Prelude.{◌≡◌, ◌+◌, ◌<◌, ◌^◌, ◌++◌, [], IfOk, OnOk, is_ok, if◌then◌else◌, length, map, replicate, max};
 ghost use Rattle.std.specs.List.{All};
 ghost use Rattle.list_laws.specs.Lists.{changed_at};
-ghost use Rattle.round_examples.specs.Asks.{asks_from, replies_from, reply_to, noted, IsQuery, asking};
+ghost use Rattle.round_examples.specs.Asks.{asks_from, ask_replies_from, ask_reply_to, noted_ask, IsAskQuery, asking};
 
 use bale_items::{Item, NoMemory};
 use round_program::Program;
@@ -142,7 +142,7 @@ impl Program for Ask {
 fn note(queries: &mut Vec<Vec<Item>>, from: usize, item: Item) -> Result<(), NoMemory>
     requires { from < length queries.old.items }
     ensures { map (λ l. l.items) queries.new.items
-        ≡ (if is_ok result then noted (map (λ l. l.items) queries.old.items) from item else map
+        ≡ (if is_ok result then noted_ask (map (λ l. l.items) queries.old.items) from item else map
         (λ l. l.items) queries.old.items) }
 {
     queries[from].push(item).map_err(|_| NoMemory)
@@ -166,9 +166,9 @@ fn next_outgoing(
     queries: &[Vec<Item>],
 ) -> Result<Vec<(u32, Item)>, NoMemory>
     requires senders { length queries.now < 2 ^ 32 }
-    requires asked { All (All (IsQuery (length table.now))) (map (λ l. l.items) queries.now) }
+    requires asked { All (All (IsAskQuery (length table.now))) (map (λ l. l.items) queries.now) }
     ensures { IfOk result (λ v. v.items
-        ≡ (if asked then replies_from table.now 0 (map (λ l. l.items) queries.now) else [])) }
+        ≡ (if asked then ask_replies_from table.now 0 (map (λ l. l.items) queries.now) else [])) }
 {
     if asked {
         replies(alloc, table, queries)
@@ -184,8 +184,8 @@ fn replies(
     queries: &[Vec<Item>],
 ) -> Result<Vec<(u32, Item)>, NoMemory>
     requires senders { length queries.now < 2 ^ 32 }
-    requires asked { All (All (IsQuery (length table.now))) (map (λ l. l.items) queries.now) }
-    ensures { IfOk result (λ v. v.items ≡ replies_from table.now 0 (map (λ l. l.items) queries.now)) }
+    requires asked { All (All (IsAskQuery (length table.now))) (map (λ l. l.items) queries.now) }
+    ensures { IfOk result (λ v. v.items ≡ ask_replies_from table.now 0 (map (λ l. l.items) queries.now)) }
 {
     let mut outgoing = Vec::new(alloc);
     for (from, list) in queries.iter().enumerate() {
@@ -201,8 +201,8 @@ fn reply_all(
     from: u32,
     queries: &[Item],
 ) -> Result<(), NoMemory>
-    requires { All (IsQuery (length table.now)) queries.now }
-    ensures { OnOk result (outgoing.new.items ≡ outgoing.old.items ++ map (reply_to table.now from) queries.now) }
+    requires { All (IsAskQuery (length table.now)) queries.now }
+    ensures { OnOk result (outgoing.new.items ≡ outgoing.old.items ++ map (ask_reply_to table.now from) queries.now) }
 {
     for query in queries {
         let reply = Item {

@@ -1,7 +1,7 @@
 //! Traffic as a program in rounds: what one rank sends, and what it makes of the items that come.
 ghost use Rattle.std.specs.Prelude.{◌≡◌, ◌<◌, ◌^◌, length};
 ghost use Rattle.std.specs.List.{All};
-ghost use Rattle.round_examples.specs.Traffics.{raised};
+ghost use Rattle.round_examples.specs.Traffics.{traffic_raised};
 ghost use Rattle.round_examples.specs.code.TrafficBatches.{is_for_it, all_counted, all_checked};
 
 use bale_items::{Item, NoMemory};
@@ -183,7 +183,7 @@ fn is_for_it(ranks: u32, from: u32, item: Item) -> bool
 /// Counts an item, where its cell has a count.
 #[inline(always)]
 fn count_one(counts: &mut [u64], item: Item)
-    ensures { counts.new ≡ raised counts.old item }
+    ensures { counts.new ≡ traffic_raised counts.old item }
 {
     if item.a < counts.len() as u64 {
         let cell = item.a as usize;

@@ -6,9 +6,9 @@ use Rattle.list_laws.proofs.Lists.{find, within, get_map, get_once}
 use Rattle.list_laws.proofs.Sums.{total_list, total_part, total_same}
 use Rattle.round_program.specs.Rules.{Rules}
 use Rattle.round_program.specs.Laws.{Laws, Fits}
-use Rattle.round_program.specs.Canonical.{absorb_upto, absorbed_round, states_at, votes_at, emitted, emitted_of, emitted_by, shape_of, HasRounds, InRound}
+use Rattle.round_program.specs.Canonical.{absorb_upto, absorbed_round, states_at, votes_at, emissions_to, emitted_of, emitted_by, shape_of, HasRounds, InRound}
 use Rattle.round_program.specs.Orders.{fitting}
-use Rattle.round_program.specs.Epochs.{PairLists, vote_item, heard, worked, Voted, told, spoiled, Own, Closes, EveryRunIsCanonical}
+use Rattle.round_program.specs.Epochs.{PairLists, vote_item, heard, after_work, Voted, told, spoiled, Own, Closes, EveryRunIsCanonical}
 use Rattle.round_program.proofs.Orders.{upto_ext, fitting_all, emitted_by_fits}
 use Rattle.round_program.proofs.Members.{in_round_at, absorbed_in, shape_is}
 
@@ -22,8 +22,8 @@ record Run {S : Type 0} (R : Rules S) (p : ℕ) (shape : List ℕ) (most : ℕ) 
 
 -- what a rank that wasn't spoiled in round m did
 record Told {S : Type 0} (R : Rules S) (p : ℕ) (h : ℕ → S) (l : PairLists) (m : ℕ) : Type 0 where
-  emits : (d : ℕ) → d < p → l.pushed (2 * m) d ≡ emitted R (h m) d
-  votes : (d : ℕ) → d < p → l.pushed (2 * m + 1) d ≡ vote_item (R.vote (worked R p h l m)) ∷ []
+  emits : (d : ℕ) → d < p → l.pushed (2 * m) d ≡ emissions_to R (h m) d
+  votes : (d : ℕ) → d < p → l.pushed (2 * m + 1) d ≡ vote_item (R.vote (after_work R p h l m)) ∷ []
 
 one_vote : (v : ℕ) → sum_by (λ x. x.a) (vote_item v ∷ []) ≡ v
 one_vote v = omega arith
@@ -56,7 +56,7 @@ begun_by {completed = completed} {done = done} run r f m lr lf c =
 abbrev At : {S : Type 0} → Rules S → ℕ → List S → (ℕ → ℕ) → (ℕ → ℕ → S) → ℕ → Type 0
 At R p starts completed h m = (r : ℕ) → r < p → 2 * m ≤ completed r → slice_get (states_at R starts m) r ≡ Some (h r m)
 
-worked_by : {S : Type 0} {R : Rules S} {p : ℕ} {shape : List ℕ} {most : ℕ} {starts : List S} {completed done : ℕ → ℕ} {h : ℕ → ℕ → S} {ls : ℕ → PairLists} → Run R p shape most starts completed done h ls → (m : ℕ) → At R p starts completed h m → (r f : ℕ) → r < p → f < p → 2 * m + 2 ≤ completed r → slice_get (absorbed_round R (states_at R starts m)) f ≡ Some (worked R p (h f) (ls f) m)
+worked_by : {S : Type 0} {R : Rules S} {p : ℕ} {shape : List ℕ} {most : ℕ} {starts : List S} {completed done : ℕ → ℕ} {h : ℕ → ℕ → S} {ls : ℕ → PairLists} → Run R p shape most starts completed done h ls → (m : ℕ) → At R p starts completed h m → (r f : ℕ) → r < p → f < p → 2 * m + 2 ≤ completed r → slice_get (absorbed_round R (states_at R starts m)) f ≡ Some (after_work R p (h f) (ls f) m)
 worked_by {R = R} {p = p} {shape = shape} {most = most} {starts = starts} {completed = completed} {h = h} {ls = ls} run m at_m r f lr lf c =
     let all : InRound R p (min m (2 ^ 64 - 1)) shape most (states_at R starts m) = in_round_at R run.laws p shape most starts m run.start in
     let begun : (g : ℕ) → g < p → 2 * m + 1 ≤ completed g = λ g lg. begun_by run r g m lr lg c in
@@ -64,13 +64,13 @@ worked_by {R = R} {p = p} {shape = shape} {most = most} {starts = starts} {compl
     let list : (g : ℕ) → g < p → emitted_by R (states_at R starts m) f g ≡ fitting R (h f m) g ((ls f).pulled (2 * m) g) =
     λ g lg.
     let there : slice_get (states_at R starts m) g ≡ Some (h g m) = at_m g lg (let b : 2 * m + 1 ≤ completed g = begun g lg in omega arith) in
-    let one : emitted_by R (states_at R starts m) f g ≡ emitted R (h g m) f = ap (λ o. emitted_of R o f) there in
+    let one : emitted_by R (states_at R starts m) f g ≡ emissions_to R (h g m) f = ap (λ o. emitted_of R o f) there in
     let came : (ls f).pulled (2 * m) g ≡ emitted_by R (states_at R starts m) f g =
     run.closes.whole f g (2 * m) lf lg (let b : 2 * m + 1 ≤ completed f = begun f lf in omega arith) ∙ ((told_by run r g m lr lg c).emits f lf ∙ sym one) in
     let fit : All (Fits R (h f m) g) (emitted_by R (states_at R starts m) f g) =
     λ k d b. (emitted_by_fits R run.laws p (min m (2 ^ 64 - 1)) shape most (states_at R starts m) f g (h f m) all here k d b).1 in
     sym (ap (fitting R (h f m) g) came ∙ fitting_all R (h f m) g (emitted_by R (states_at R starts m) f g) fit) in
-    let fold' : absorb_upto R (h f m) (emitted_by R (states_at R starts m) (R.rank (h f m))) (length (states_at R starts m)) ≡ worked R p (h f) (ls f) m =
+    let fold' : absorb_upto R (h f m) (emitted_by R (states_at R starts m) (R.rank (h f m))) (length (states_at R starts m)) ≡ after_work R p (h f) (ls f) m =
     ap (λ k. absorb_upto R (h f m) (emitted_by R (states_at R starts m) k) (length (states_at R starts m))) (all.each f (h f m) here).own_rank
     ∙ (ap (absorb_upto R (h f m) (emitted_by R (states_at R starts m) f)) all.size
     ∙ upto_ext R (h f m) (emitted_by R (states_at R starts m) f) (λ g. fitting R (h f m) g ((ls f).pulled (2 * m) g)) p list) in
@@ -80,14 +80,14 @@ heard_by : {S : Type 0} {R : Rules S} {p : ℕ} {shape : List ℕ} {most : ℕ} 
 heard_by {S} {R = R} {p = p} {shape = shape} {most = most} {starts = starts} {completed = completed} {h = h} {ls = ls} run m at_m r lr c =
     let all : InRound R p (min m (2 ^ 64 - 1)) shape most (states_at R starts m) = in_round_at R run.laws p shape most starts m run.start in
     let size : length (absorbed_round R (states_at R starts m)) ≡ p = (absorbed_in R run.laws p (min m (2 ^ 64 - 1)) shape most (states_at R starts m) all).size in
-    let said : (f : ℕ) → f < p → sum_by (λ x. x.a) ((ls r).pulled (2 * m + 1) f) ≡ R.vote (worked R p (h f) (ls f) m) =
+    let said : (f : ℕ) → f < p → sum_by (λ x. x.a) ((ls r).pulled (2 * m + 1) f) ≡ R.vote (after_work R p (h f) (ls f) m) =
     λ f lf.
-    let came : (ls r).pulled (2 * m + 1) f ≡ vote_item (R.vote (worked R p (h f) (ls f) m)) ∷ [] = run.closes.whole r f (2 * m + 1) lr lf (omega arith) ∙ (told_by run r f m lr lf c).votes r lr in
-    ap (sum_by (λ x. x.a)) came ∙ one_vote (R.vote (worked R p (h f) (ls f) m)) in
+    let came : (ls r).pulled (2 * m + 1) f ≡ vote_item (R.vote (after_work R p (h f) (ls f) m)) ∷ [] = run.closes.whole r f (2 * m + 1) lr lf (omega arith) ∙ (told_by run r f m lr lf c).votes r lr in
+    ap (sum_by (λ x. x.a)) came ∙ one_vote (R.vote (after_work R p (h f) (ls f) m)) in
     let each : (k : ℕ) (x : S) → slice_get (absorbed_round R (states_at R starts m)) k ≡ Some x → R.vote x ≡ sum_by (λ x. x.a) ((ls r).pulled (2 * m + 1) k) =
     λ k x e.
     let lk : k < p = subst (λ n. k < n) size (within (absorbed_round R (states_at R starts m)) k x e) in
-    let same : x ≡ worked R p (h k) (ls k) m = get_once (absorbed_round R (states_at R starts m)) k x (worked R p (h k) (ls k) m) e (worked_by run m at_m r k lr lk c) in
+    let same : x ≡ after_work R p (h k) (ls k) m = get_once (absorbed_round R (states_at R starts m)) k x (after_work R p (h k) (ls k) m) e (worked_by run m at_m r k lr lk c) in
     ap R.vote same ∙ sym (said k lk) in
     let sums : sum_by R.vote (absorbed_round R (states_at R starts m)) ≡ total p (λ f. sum_by (λ x. x.a) ((ls r).pulled (2 * m + 1) f)) =
     total_list R.vote (λ f. sum_by (λ x. x.a) ((ls r).pulled (2 * m + 1) f)) (absorbed_round R (states_at R starts m)) each
@@ -101,8 +101,8 @@ at_each {S} {R = R} {starts = starts} {h = h} run zero r lr c =
 at_each {R = R} {p = p} {starts = starts} {completed = completed} {h = h} {ls = ls} run (suc m) r lr c =
     let at_m : At R p starts completed h m = at_each run m in
     let over : 2 * m + 2 ≤ completed r = omega arith in
-    get_map (λ t. R.ended t (votes_at R starts m)) (absorbed_round R (states_at R starts m)) r (worked R p (h r) (ls r) m) (worked_by run m at_m r r lr lr over)
-    ∙ ap Some (ap (R.ended (worked R p (h r) (ls r) m)) (sym (heard_by run m at_m r lr over)) ∙ sym ((run.own r lr).next m over))
+    get_map (λ t. R.ended t (votes_at R starts m)) (absorbed_round R (states_at R starts m)) r (after_work R p (h r) (ls r) m) (worked_by run m at_m r r lr lr over)
+    ∙ ap Some (ap (R.ended (after_work R p (h r) (ls r) m)) (sym (heard_by run m at_m r lr over)) ∙ sym ((run.own r lr).next m over))
 
 -- the shape of a rank's state is that of the run
 shape_by : {S : Type 0} {R : Rules S} {p : ℕ} {shape : List ℕ} {most : ℕ} {starts : List S} {completed done : ℕ → ℕ} {h : ℕ → ℕ → S} {ls : ℕ → PairLists} → Run R p shape most starts completed done h ls → (m r : ℕ) → r < p → 2 * m ≤ completed r → R.shape (h r m) ≡ shape_of R starts

@@ -7,7 +7,7 @@ use Rattle.std.proofs.lemmas.Option.{slice_get-map}
 use Rattle.bale_items.specs.declared.Item.{Item}
 use Rattle.list_laws.proofs.Lists.{got_map}
 use Rattle.round_program.specs.Rules.{Rules}
-use Rattle.round_program.specs.Canonical.{items_of, emitted_of, emitted_by, absorb_all, absorb_upto, absorbed_round, vote_sum, end_all, round_of, states_at, votes_at, items_at, shape_of, HasRounds, InRound, Member}
+use Rattle.round_program.specs.Canonical.{items_of, emitted_of, emitted_by, absorb_all, absorb_upto, absorbed_round, vote_sum, end_all, after_whole_round, states_at, votes_at, items_at, shape_of, HasRounds, InRound, Member}
 use Rattle.round_program.specs.Injections.{Injects, SameRuns}
 use Rattle.round_program.proofs.Orders.{upto_ext}
 
@@ -61,7 +61,7 @@ absorbed_over {R = R} {Q = Q} {inject = inject} i ss =
 votes_over : {S T : Type 0} {R : Rules S} {Q : Rules T} {inject : S → T} {wrap : List ℕ → List ℕ} → Injects R Q inject wrap → (ss : List S) → vote_sum Q (map inject ss) ≡ vote_sum R ss
 votes_over {R = R} {Q = Q} {inject = inject} i ss = ap (λ n. min n (2 ^ 64 - 1)) (sum_over inject R.vote Q.vote i.vote ss)
 
-round_over : {S T : Type 0} {R : Rules S} {Q : Rules T} {inject : S → T} {wrap : List ℕ → List ℕ} → Injects R Q inject wrap → (ss : List S) → round_of Q (map inject ss) ≡ map inject (round_of R ss)
+round_over : {S T : Type 0} {R : Rules S} {Q : Rules T} {inject : S → T} {wrap : List ℕ → List ℕ} → Injects R Q inject wrap → (ss : List S) → after_whole_round Q (map inject ss) ≡ map inject (after_whole_round R ss)
 round_over {R = R} {Q = Q} {inject = inject} i ss =
     ap (end_all Q) (absorbed_over i ss)
     ∙ (ap (λ v. map (λ t. Q.ended t v) (map inject (absorbed_round R ss))) (votes_over i (absorbed_round R ss))
@@ -69,7 +69,7 @@ round_over {R = R} {Q = Q} {inject = inject} i ss =
 
 states_over : {S T : Type 0} {R : Rules S} {Q : Rules T} {inject : S → T} {wrap : List ℕ → List ℕ} → Injects R Q inject wrap → (starts : List S) (n : ℕ) → states_at Q (map inject starts) n ≡ map inject (states_at R starts n)
 states_over i starts zero = refl
-states_over {R = R} {Q = Q} i starts (suc n) = ap (round_of Q) (states_over i starts n) ∙ round_over i (states_at R starts n)
+states_over {R = R} {Q = Q} i starts (suc n) = ap (after_whole_round Q) (states_over i starts n) ∙ round_over i (states_at R starts n)
 
 votes_at_over : {S T : Type 0} {R : Rules S} {Q : Rules T} {inject : S → T} {wrap : List ℕ → List ℕ} → Injects R Q inject wrap → (starts : List S) (n : ℕ) → votes_at Q (map inject starts) n ≡ votes_at R starts n
 votes_at_over {R = R} {Q = Q} i starts n =

@@ -9,7 +9,7 @@ use Rattle.std.proofs.lemmas.Option.{slice_get_past}
 use Rattle.list_laws.proofs.Lists.{all_head, all_tail, get_map, find}
 use Rattle.round_program.specs.Rules.{Rules}
 use Rattle.round_program.specs.Laws.{Laws, SameRound, fits, Fits}
-use Rattle.round_program.specs.Canonical.{items_of, absorb_all, absorb_upto, emitted, emitted_of, emitted_by, InRound, Member}
+use Rattle.round_program.specs.Canonical.{items_of, absorb_all, absorb_upto, emissions_to, emitted_of, emitted_by, InRound, Member}
 use Rattle.round_program.proofs.Items.{picked, from_picked, items_push, items_here, items_other}
 use Rattle.round_program.specs.Orders.{absorb_each, fitting, after_pulls, OneMorePull, EveryOrder, EveryOrderIsCanonical}
 
@@ -141,7 +141,7 @@ pub every_order : {S : Type 0} (R : Rules S) → Laws R → EveryOrder R
 every_order R laws s p came v a = ap (λ t. absorb_each R t came) (sym (upto_none R s p)) ∙ every_from R laws s p [] came v (All-nil (λ e. (e.0 < p) × Fits R s e.0 e.1)) a
 
 -- what a rank of a round emits fits the rank that it goes to
-pub emitted_fits : {S : Type 0} (R : Rules S) → Laws R → (p n : ℕ) (shape : List ℕ) (most r f : ℕ) (s t : S) → Member R p n shape most r s → Member R p n shape most f t → All (Fits R s f) (emitted R t r)
+pub emitted_fits : {S : Type 0} (R : Rules S) → Laws R → (p n : ℕ) (shape : List ℕ) (most r f : ℕ) (s t : S) → Member R p n shape most r s → Member R p n shape most f t → All (Fits R s f) (emissions_to R t r)
 emitted_fits R laws p n shape most r f s t a b =
     picked (λ e. R.may_be_sent (R.shape t) (R.ranks t) (R.round t) e.0 (R.rank t) e.1 ≡ true) (Fits R s f) r (R.emissions t)
     (λ e w same.
@@ -159,7 +159,7 @@ emitted_by_fits R laws p n shape most ss r f s all e =
     elim (cases_lt f (length ss)) [
       | inl l ↦
           let t : (t : _) × (slice_get ss f ≡ Some t) = find ss f l in
-          let fit : All (Fits R s f) (emitted R t.0 r) = emitted_fits R laws p n shape most r f s t.0 (all.each r s e) (all.each f t.0 t.1) in
+          let fit : All (Fits R s f) (emissions_to R t.0 r) = emitted_fits R laws p n shape most r f s t.0 (all.each r s e) (all.each f t.0 t.1) in
           let low : f < p = subst (λ k. f < k) all.size l in
           subst (λ o. All (λ x. (f < p) × Fits R s f x) (emitted_of R o r)) (sym t.1) (λ k d b. (low, fit k d b))
       | inr m ↦ subst (λ o. All (λ x. (f < p) × Fits R s f x) (emitted_of R o r)) (sym (slice_get_past ss f m)) (All-nil (λ x. (f < p) × Fits R s f x))

@@ -4,9 +4,9 @@ use Rattle.std.proofs.Common.{ℕ, suc, ◌+◌, ◌-◌, ◌*◌, ◌^◌, ◌<
 use Rattle.std.proofs.lemmas.Bool.{cases_eq}
 use Rattle.list_laws.proofs.Sums.{total_same}
 use Rattle.round_program.specs.Rules.{Rules}
-use Rattle.round_program.specs.Canonical.{emitted}
+use Rattle.round_program.specs.Canonical.{emissions_to}
 use Rattle.round_program.specs.Orders.{fitting, after_pulls}
-use Rattle.round_program.specs.Epochs.{PairLists, vote_item, heard, worked, Voted, told, spoiled, Own}
+use Rattle.round_program.specs.Epochs.{PairLists, vote_item, heard, after_work, Voted, told, spoiled, Own}
 use Rattle.round_program.proofs.Orders.{upto_ext}
 
 -- lists that are as they were in the epochs in which the rank was done, and in those that it has
@@ -19,13 +19,13 @@ pub heard_same : (p completed done : ℕ) (l k : PairLists) (m : ℕ) → SameBe
 heard_same p completed done l k m same c =
     ap (λ n. min n (2 ^ 64 - 1)) (total_same p (λ f. sum_by (λ x. x.a) (k.pulled (2 * m + 1) f)) (λ f. sum_by (λ x. x.a) (l.pulled (2 * m + 1) f)) (λ f b. ap (sum_by (λ x. x.a)) (same.pulled (2 * m + 1) f (omega arith))))
 
-pub worked_same : {S : Type 0} (R : Rules S) (p completed done : ℕ) (h g : ℕ → S) (l k : PairLists) (m : ℕ) → SameBefore completed done l k → 2 * m < completed → g m ≡ h m → worked R p g k m ≡ worked R p h l m
+pub worked_same : {S : Type 0} (R : Rules S) (p completed done : ℕ) (h g : ℕ → S) (l k : PairLists) (m : ℕ) → SameBefore completed done l k → 2 * m < completed → g m ≡ h m → after_work R p g k m ≡ after_work R p h l m
 worked_same R p completed done h g l k m same c e =
     ap (λ s. after_pulls R s (k.pulled (2 * m)) p) e ∙ upto_ext R (h m) (λ f. fitting R (h m) f (k.pulled (2 * m) f)) (λ f. fitting R (h m) f (l.pulled (2 * m) f)) p (λ f b. ap (fitting R (h m) f) (same.pulled (2 * m) f c))
 
 voted_same : {S : Type 0} (R : Rules S) (p completed done : ℕ) (h g : ℕ → S) (l k : PairLists) (m : ℕ) → SameBefore completed done l k → 2 * m + 1 < done → done ≤ completed + 1 → g m ≡ h m → Voted R p h l m → Voted R p g k m
 voted_same R p completed done h g l k m same c near e (told es vs) =
-    told (λ d b. same.pushed (2 * m) d (omega arith) ∙ (es d b ∙ ap (λ s. emitted R s d) (sym e)))
+    told (λ d b. same.pushed (2 * m) d (omega arith) ∙ (es d b ∙ ap (λ s. emissions_to R s d) (sym e)))
     (λ d b. same.pushed (2 * m + 1) d c ∙ (vs d b ∙ ap (λ s. vote_item (R.vote s) ∷ []) (sym (worked_same R p completed done h g l k m same (omega arith) e))))
 voted_same R p completed done h g l k m same c near e (spoiled vs) = spoiled (λ d b. same.pushed (2 * m + 1) d c ∙ vs d b)
 
@@ -43,7 +43,7 @@ own_same R p completed done h g l k same hist own =
           hist (suc m) (omega arith)
           ∙ (own.next m c
           ∙ (ap (λ s. R.ended s (heard p l m)) (sym (worked_same R p completed done h g l k m same (omega arith) (hist m (omega arith))))
-          ∙ ap (R.ended (worked R p g k m)) (sym (heard_same p completed done l k m same c))));
+          ∙ ap (R.ended (after_work R p g k m)) (sym (heard_same p completed done l k m same c))));
       goes = λ m c. ap (λ s. R.goes_on (R.shape s) m (heard p k m)) (hist m (omega arith)) ∙ (ap (R.goes_on (R.shape (h m)) m) (heard_same p completed done l k m same (omega arith)) ∙ own.goes m c);
     }
 
@@ -96,13 +96,13 @@ own_vote_done R p m h l vote own =
     }
 
 -- round m is completed
-pub own_round_over : {S : Type 0} (R : Rules S) (p m : ℕ) (h : ℕ → S) (l : PairLists) → heard p l m ≢ 2 ^ 64 - 1 → h (suc m) ≡ R.ended (worked R p h l m) (heard p l m) → Own R p (2 * m + 1) (2 * m + 2) h l → Own R p (2 * m + 2) (2 * m + 2) h l
+pub own_round_over : {S : Type 0} (R : Rules S) (p m : ℕ) (h : ℕ → S) (l : PairLists) → heard p l m ≢ 2 ^ 64 - 1 → h (suc m) ≡ R.ended (after_work R p h l m) (heard p l m) → Own R p (2 * m + 1) (2 * m + 2) h l → Own R p (2 * m + 2) (2 * m + 2) h l
 own_round_over R p m h l clean next own =
     record {
       done_low = omega arith;
       done_high = omega arith;
       voted = own.voted;
       unspoiled = λ k c. elim (cases_eq k m) [ inl e ↦ subst (λ j. heard p l j ≢ 2 ^ 64 - 1) (sym e) clean | inr n ↦ own.unspoiled k (omega arith) ];
-      next = λ k c. elim (cases_eq k m) [ inl e ↦ subst (λ j. h (suc j) ≡ R.ended (worked R p h l j) (heard p l j)) (sym e) next | inr n ↦ own.next k (omega arith) ];
+      next = λ k c. elim (cases_eq k m) [ inl e ↦ subst (λ j. h (suc j) ≡ R.ended (after_work R p h l j) (heard p l j)) (sym e) next | inr n ↦ own.next k (omega arith) ];
       goes = own.goes;
     }

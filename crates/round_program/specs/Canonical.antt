@@ -13,13 +13,13 @@ items_of r pairs = map (λ e. e.1) (filter (λ e. e.0 == r) pairs)
 
 -- The items that a program sends to rank d in its round, in order.
 -- Where it emits x to 1, y to 0 and z to 1, it sends x, z to rank 1.
-abbrev pub emitted : {S : Type 0} → Rules S → S → ℕ → List Item
-emitted R s d = items_of d (R.emissions s)
+abbrev pub emissions_to : {S : Type 0} → Rules S → S → ℕ → List Item
+emissions_to R s d = items_of d (R.emissions s)
 
 -- What a program sends to rank d, where there is a program.
 abbrev pub emitted_of : {S : Type 0} → Rules S → Option S → ℕ → List Item
 emitted_of R None d = []
-emitted_of R (Some s) d = emitted R s d
+emitted_of R (Some s) d = emissions_to R s d
 
 -- What the rank numbered f of a list of programs sends to rank d; nothing where there is no rank f.
 abbrev pub emitted_by : {S : Type 0} → Rules S → List S → ℕ → ℕ → List Item
@@ -53,13 +53,13 @@ end_all R ss = map (λ s. R.ended s (vote_sum R ss)) ss
 
 -- The programs after a whole round: absorbs, then votes, then every rank ends the round with their
 -- sum.
-abbrev pub round_of : {S : Type 0} → Rules S → List S → List S
-round_of R ss = end_all R (absorbed_round R ss)
+abbrev pub after_whole_round : {S : Type 0} → Rules S → List S → List S
+after_whole_round R ss = end_all R (absorbed_round R ss)
 
 -- The programs at the beginning of round n of the canonical run.
 abbrev pub states_at : {S : Type 0} → Rules S → List S → ℕ → List S
 states_at R starts zero = starts
-states_at R starts (suc n) = round_of R (states_at R starts n)
+states_at R starts (suc n) = after_whole_round R (states_at R starts n)
 
 -- The sum of the votes of round n of the canonical run.
 abbrev pub votes_at : {S : Type 0} → Rules S → List S → ℕ → ℕ

@@ -5,7 +5,7 @@ use Rattle.std.specs.List.{sum_by}
 use Rattle.bale_items.specs.declared.Item.{Item}
 use Rattle.list_laws.specs.Sums.{total}
 use Rattle.round_program.specs.Rules.{Rules}
-use Rattle.round_program.specs.Canonical.{emitted, absorbed_round, states_at, votes_at, HasRounds, InRound}
+use Rattle.round_program.specs.Canonical.{emissions_to, absorbed_round, states_at, votes_at, HasRounds, InRound}
 use Rattle.round_program.specs.Orders.{after_pulls}
 
 -- One rank's own lists, for each epoch and each other rank. Epoch 2m is the work of round m, and
@@ -26,15 +26,15 @@ abbrev pub heard : ℕ → PairLists → ℕ → ℕ
 heard p l m = min (total p (λ f. sum_by (λ x. x.a) (l.pulled (2 * m + 1) f))) (2 ^ 64 - 1)
 
 -- The state of a rank after the work of round m, where h m is its state as the round began.
-abbrev pub worked : {S : Type 0} → Rules S → ℕ → (ℕ → S) → PairLists → ℕ → S
-worked R p h l m = after_pulls R (h m) (l.pulled (2 * m)) p
+abbrev pub after_work : {S : Type 0} → Rules S → ℕ → (ℕ → S) → PairLists → ℕ → S
+after_work R p h l m = after_pulls R (h m) (l.pulled (2 * m)) p
 
 -- What a rank that was done with the votes of round m has done in that round: it told its emissions
 -- and its vote, or it was spoiled, having found no memory at the round's beginning or at an absorb,
 -- and voted 2^64 - 1.
 pub data Voted {S : Type 0} (R : Rules S) (p : ℕ) (h : ℕ → S) (l : PairLists) (m : ℕ) : Type 0 where
-  told : ((d : ℕ) → d < p → l.pushed (2 * m) d ≡ emitted R (h m) d)
-      → ((d : ℕ) → d < p → l.pushed (2 * m + 1) d ≡ vote_item (R.vote (worked R p h l m)) ∷ []) → Voted R p h l m
+  told : ((d : ℕ) → d < p → l.pushed (2 * m) d ≡ emissions_to R (h m) d)
+      → ((d : ℕ) → d < p → l.pushed (2 * m + 1) d ≡ vote_item (R.vote (after_work R p h l m)) ∷ []) → Voted R p h l m
   spoiled : ((d : ℕ) → d < p → l.pushed (2 * m + 1) d ≡ vote_item (2 ^ 64 - 1) ∷ []) → Voted R p h l m
 
 -- What one rank knows of itself. It has completed the epochs below `completed` and was done in
@@ -48,7 +48,7 @@ pub record Own {S : Type 0} (R : Rules S) (p completed done : ℕ) (h : ℕ → 
   -- no round is completed on a spoiled vote
   pub unspoiled : (m : ℕ) → 2 * m + 2 ≤ completed → heard p l m ≢ 2 ^ 64 - 1
   -- a completed round ends with the votes that were heard
-  pub next : (m : ℕ) → 2 * m + 2 ≤ completed → h (suc m) ≡ R.ended (worked R p h l m) (heard p l m)
+  pub next : (m : ℕ) → 2 * m + 2 ≤ completed → h (suc m) ≡ R.ended (after_work R p h l m) (heard p l m)
   -- a rank begins another round only where the program goes on
   pub goes : (m : ℕ) → 2 * m + 2 < done → R.goes_on (R.shape (h m)) m (heard p l m) ≡ true
 
@@ -66,11 +66,11 @@ pub record IsCanonical {S : Type 0} (R : Rules S) (p : ℕ) (starts : List S) (c
   -- in a round that some rank r has completed, each rank f pushed its emissions, worked to the
   -- canonical state and pushed its vote
   pub pushed : (r f d m : ℕ) → r < p → f < p → d < p → 2 * m + 2 ≤ completed r
-      → (ls f).pushed (2 * m) d ≡ emitted R (h f m) d
+      → (ls f).pushed (2 * m) d ≡ emissions_to R (h f m) d
   pub absorbed : (r f m : ℕ) → r < p → f < p → 2 * m + 2 ≤ completed r
-      → slice_get (absorbed_round R (states_at R starts m)) f ≡ Some (worked R p (h f) (ls f) m)
+      → slice_get (absorbed_round R (states_at R starts m)) f ≡ Some (after_work R p (h f) (ls f) m)
   pub votes : (r f d m : ℕ) → r < p → f < p → d < p → 2 * m + 2 ≤ completed r
-      → (ls f).pushed (2 * m + 1) d ≡ vote_item (R.vote (worked R p (h f) (ls f) m)) ∷ []
+      → (ls f).pushed (2 * m + 1) d ≡ vote_item (R.vote (after_work R p (h f) (ls f) m)) ∷ []
   -- and heard the canonical sum
   pub sums : (r m : ℕ) → r < p → 2 * m + 2 ≤ completed r → heard p (ls r) m ≡ votes_at R starts m
   -- no rank goes past the last round

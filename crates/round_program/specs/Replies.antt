@@ -65,12 +65,12 @@ abbrev pub answered_from : {S : Type 0} → Talk S → (ℕ → S) → ℕ → S
 answered_from T all r s i [] = s
 answered_from T all r s i (q ∷ qs) = answered_from T all r (T.heard s i (T.answer (all q.0) r q.1)) (suc i) qs
 
-abbrev pub answered : {S : Type 0} → Talk S → (ℕ → S) → ℕ → S
-answered T all r = answered_from T all r (all r) 0 (T.queries (all r))
+abbrev pub after_answers : {S : Type 0} → Talk S → (ℕ → S) → ℕ → S
+after_answers T all r = answered_from T all r (all r) 0 (T.queries (all r))
 
 -- The askers of all ranks after each has heard, for each of its queries in order, the answer of the
 -- rank asked.
 pub record HaveHeard {S : Type 0} (T : Talk S) (askers ends : List S) : Type 0 where
   pub size : length ends ≡ length askers
   pub each : (r : ℕ) (s : S) → slice_get askers r ≡ Some s
-      → slice_get ends r ≡ Some (answered T (λ d. slice_index_or askers d s) r)
+      → slice_get ends r ≡ Some (after_answers T (λ d. slice_index_or askers d s) r)

@@ -15,14 +15,14 @@ use Rattle.round_program.specs.Canonical.{end_all, votes_at, vote_sum, InRound}
 use Rattle.sparse_rows.specs.Owners.{places_for}
 use Rattle.least_walks.specs.Tables.{table_of}
 use Rattle.least_walks.specs.declared.vertices.Vertex.{Vertex}
-use Rattle.least_walks.specs.Vertices.{unreached, marked, in_bucket, weight_in, picked}
+use Rattle.least_walks.specs.Vertices.{unreached_vertex, marked_places, in_bucket, weight_in, places_where}
 use Rattle.least_walks.proofs.Members.{has_head}
 use Rattle.least_walks.proofs.Offered.{weighing, none_improved, was_marked}
 use Rattle.app_sssp.specs.SsspRuns.{IsGraph, vertices_begin}
 use Rattle.app_sssp.proofs.Begins.{begin_source, begin_other, begin_len}
 use Rattle.delta_step.specs.declared.phase.Phase.{Phase}
 use Rattle.delta_step.specs.declared.phase.Phase.TheVariants.{First, Find, Light, Heavy}
-use Rattle.delta_step.specs.Deltas.{DeltaState, delta_rules, vote_in, ended_in, finding, sorted_out, activated, finished}
+use Rattle.delta_step.specs.Deltas.{DeltaState, delta_rules, vote_in, ended_in, finding, sorted_out, after_activation, after_last_round}
 use Rattle.delta_step.specs.DeltaRuns.{delta_begins, delta_starts}
 use Rattle.delta_step.proofs.Begins.{first, first_at, light_keeps, heavy_keeps, only_source, pending_found}
 use Rattle.delta_step.proofs.Ends.{over, run_rounds}
@@ -68,15 +68,15 @@ module _ (ranks : ℕ) (m : Sparse) (source width : ℕ) (some : 0 < ranks) (few
 
   -- ---- Votes of a light round
 
-  light_vote : (s : DeltaState) → s.phase ≡ Light → delta_rules.vote s ≡ 1 + length (picked (in_bucket s.width s.bucket) s.vertices)
+  light_vote : (s : DeltaState) → s.phase ≡ Light → delta_rules.vote s ≡ 1 + length (places_where (in_bucket s.width s.bucket) s.vertices)
   light_vote s e = ap (λ p. vote_in p s) e
 
   counted : (n : ℕ) → Knows n → (j : ℕ) (s : DeltaState) → slice_get (full n) j ≡ Some s → (v : ℕ) → v % ranks ≡ j
-      → is_active width (sees n) v ≡ ((get_or s.vertices (v / ranks) unreached).improved && in_bucket s.width s.bucket (get_or s.vertices (v / ranks) unreached))
+      → is_active width (sees n) v ≡ ((get_or s.vertices (v / ranks) unreached_vertex).improved && in_bucket s.width s.bucket (get_or s.vertices (v / ranks) unreached_vertex))
   counted n k j s at v own =
       ap (λ (w : Vertex). w.improved && weight_in width (sees n).bucket w.weight) (at_vertex ranks (full n) j s v at own)
-      ∙ ap (λ w. (get_or s.vertices (v / ranks) unreached).improved && weight_in w (sees n).bucket (get_or s.vertices (v / ranks) unreached).weight) (sym (k.static.wide j s at))
-      ∙ ap (λ b. (get_or s.vertices (v / ranks) unreached).improved && weight_in s.width b (get_or s.vertices (v / ranks) unreached).weight) (sym (k.bucket j s at))
+      ∙ ap (λ w. (get_or s.vertices (v / ranks) unreached_vertex).improved && weight_in w (sees n).bucket (get_or s.vertices (v / ranks) unreached_vertex).weight) (sym (k.static.wide j s at))
+      ∙ ap (λ b. (get_or s.vertices (v / ranks) unreached_vertex).improved && weight_in s.width b (get_or s.vertices (v / ranks) unreached_vertex).weight) (sym (k.bucket j s at))
 
   -- few votes: none is active
   none_active : (n : ℕ) → n < 2 ^ 61 → Knows n → (sees n).phase ≡ Light → cast n ≤ ranks → (v : ℕ) → is_active width (sees n) v ≡ false
@@ -84,17 +84,17 @@ module _ (ranks : ℕ) (m : Sparse) (source width : ℕ) (some : 0 < ranks) (few
       let here : InRound delta_rules ranks n (m.rows ∷ []) (m.rows * (m.rows + 2) + 2) (full n) = full_in n (omega arith) in
       let j : ℕ = v % ranks in
       let s = at_rank n (omega arith) j (mod-lt v some) in
-      let vote : delta_rules.vote s.0 ≡ 1 + length (picked (in_bucket s.0.width s.0.bucket) s.0.vertices) = light_vote s.0 (k.phase j s.0 s.1 ∙ light) in
+      let vote : delta_rules.vote s.0 ≡ 1 + length (places_where (in_bucket s.0.width s.0.bucket) s.0.vertices) = light_vote s.0 (k.phase j s.0 s.1 ∙ light) in
       let more : length (full n) + delta_rules.vote s.0 ≤ sum_by delta_rules.vote (full n) + 1 =
-      sum_more delta_rules.vote (full n) j s.0 (all_from_gets (λ t. 1 ≤ delta_rules.vote t) (full n) (λ i t at. (let o : delta_rules.vote t ≡ 1 + length (picked (in_bucket t.width t.bucket) t.vertices) = light_vote t (k.phase i t at ∙ light) in omega arith))) s.1 in
+      sum_more delta_rules.vote (full n) j s.0 (all_from_gets (λ t. 1 ≤ delta_rules.vote t) (full n) (λ i t at. (let o : delta_rules.vote t ≡ 1 + length (places_where (in_bucket t.width t.bucket) t.vertices) = light_vote t (k.phase i t at ∙ light) in omega arith))) s.1 in
       let size : length (full n) ≡ ranks = here.size in
       let total : min (sum_by delta_rules.vote (full n)) (2 ^ 64 - 1) ≤ ranks = low in
-      let empty : length (picked (in_bucket s.0.width s.0.bucket) s.0.vertices) ≡ 0 = omega arith in
+      let empty : length (places_where (in_bucket s.0.width s.0.bucket) s.0.vertices) ≡ 0 = omega arith in
       elim (cases_Bool (is_active width (sees n) v)) [
         | inr off ↦ off
         | inl on ↦
             (let there = has_pick (in_bucket s.0.width s.0.bucket) s.0.vertices (v / ranks) (sym (counted n k j s.0 s.1 v refl) ∙ on) in
-            absurd (let lo : there.0 < length (picked (in_bucket s.0.width s.0.bucket) s.0.vertices) = there.1 in omega arith))
+            absurd (let lo : there.0 < length (places_where (in_bucket s.0.width s.0.bucket) s.0.vertices) = there.1 in omega arith))
       ]
 
   -- none active: few votes
@@ -103,23 +103,23 @@ module _ (ranks : ℕ) (m : Sparse) (source width : ℕ) (some : 0 < ranks) (few
       let here : InRound delta_rules ranks n (m.rows ∷ []) (m.rows * (m.rows + 2) + 2) (full n) = full_in n (omega arith) in
       let each : All (λ s. delta_rules.vote s ≤ 1) (full n) =
       all_from_gets (λ s. delta_rules.vote s ≤ 1) (full n) (λ j s at.
-      let vote : delta_rules.vote s ≡ 1 + length (picked (in_bucket s.width s.bucket) s.vertices) = light_vote s (k.phase j s at ∙ light) in
-      let empty : length (picked (in_bucket s.width s.bucket) s.vertices) ≡ 0 = no_picks j s at (low_rank ranks m source width some few positive narrow g source_in n (omega arith) j s at) (picked (in_bucket s.width s.bucket) s.vertices) refl in
+      let vote : delta_rules.vote s ≡ 1 + length (places_where (in_bucket s.width s.bucket) s.vertices) = light_vote s (k.phase j s at ∙ light) in
+      let empty : length (places_where (in_bucket s.width s.bucket) s.vertices) ≡ 0 = no_picks j s at (low_rank ranks m source width some few positive narrow g source_in n (omega arith) j s at) (places_where (in_bucket s.width s.bucket) s.vertices) refl in
       omega arith) in
       let sum : sum_by delta_rules.vote (full n) ≤ length (full n) * 1 = sum_by-le delta_rules.vote 1 (full n) each in
       let size : length (full n) ≡ ranks = here.size in
       let total : cast n ≡ min (sum_by delta_rules.vote (full n)) (2 ^ 64 - 1) = refl in
       omega arith
     where
-      no_picks : (j : ℕ) (s : DeltaState) → slice_get (full n) j ≡ Some s → j < ranks → (ps : List ℕ) → picked (in_bucket s.width s.bucket) s.vertices ≡ ps → length ps ≡ 0
+      no_picks : (j : ℕ) (s : DeltaState) → slice_get (full n) j ≡ Some s → j < ranks → (ps : List ℕ) → places_where (in_bucket s.width s.bucket) s.vertices ≡ ps → length ps ≡ 0
       no_picks j s at low [] e = refl
       no_picks j s at low (p ∷ ps) e =
-          let on : ((get_or s.vertices p unreached).improved && in_bucket s.width s.bucket (get_or s.vertices p unreached)) ≡ true =
+          let on : ((get_or s.vertices p unreached_vertex).improved && in_bucket s.width s.bucket (get_or s.vertices p unreached_vertex)) ≡ true =
           was_pick (in_bucket s.width s.bucket) s.vertices p (subst (λ qs. Contains qs p) (sym e) (has_head p ps)) in
           let v : ℕ = p * ranks + j in
           let is : is_active width (sees n) v ≡ true =
           counted n k j s at v (mod-mul-add p ranks j low)
-          ∙ ap (λ q. (get_or s.vertices q unreached).improved && in_bucket s.width s.bucket (get_or s.vertices q unreached)) (div-mul-add p ranks j low) ∙ on in
+          ∙ ap (λ q. (get_or s.vertices q unreached_vertex).improved && in_bucket s.width s.bucket (get_or s.vertices q unreached_vertex)) (div-mul-add p ranks j low) ∙ on in
           absurd (false≢true (sym (none v) ∙ is))
 
   -- some vertex is active exactly where there are more votes than ranks
@@ -174,11 +174,11 @@ module _ (ranks : ℕ) (m : Sparse) (source width : ℕ) (some : 0 < ranks) (few
   step_at n l k Heavy is = to_find ranks m source width some few positive narrow g source_in n l (heavy_finds n l k is)
   step_at n l k Light is =
       let not_heavy : (sees n).phase ≢ Heavy = λ e. (let no' : Light ≡ Heavy = sym is ∙ e in cc) in
-      let ends : (b : Bool) → some_active m width (sees n) ≡ b → (j : ℕ) (s : DeltaState) → slice_get (full n) j ≡ Some s → delta_rules.ended s (vote_sum delta_rules (full n)) ≡ cond b (activated s) (finished s) =
+      let ends : (b : Bool) → some_active m width (sees n) ≡ b → (j : ℕ) (s : DeltaState) → slice_get (full n) j ≡ Some s → delta_rules.ended s (vote_sum delta_rules (full n)) ≡ cond b (after_activation s) (after_last_round s) =
       λ b e j s at.
       ap (λ p. ended_in p s (vote_sum delta_rules (full n))) (k.phase j s at ∙ is)
-      ∙ ap (λ c. cond (nat_lt c (vote_sum delta_rules (full n))) (activated s) (finished s)) ((full_in n (omega arith)).each j s at).all_ranks
-      ∙ ap (λ c. cond c (activated s) (finished s)) (more_votes n l k is ∙ e) in
+      ∙ ap (λ c. cond (nat_lt c (vote_sum delta_rules (full n))) (after_activation s) (after_last_round s)) ((full_in n (omega arith)).each j s at).all_ranks
+      ∙ ap (λ c. cond c (after_activation s) (after_last_round s)) (more_votes n l k is ∙ e) in
       elim (cases_Bool (some_active m width (sees n))) [
         | inl on ↦ subst (λ b. Steps n (next_phase Light b)) (sym on) (to_light ranks m source width some few positive narrow g source_in n l k not_heavy (ends true on))
         | inr off ↦ subst (λ b. Steps n (next_phase Light b)) (sym off) (to_heavy ranks m source width some few positive narrow g source_in n l k not_heavy (ends false off))
@@ -217,22 +217,22 @@ module _ (ranks : ℕ) (m : Sparse) (source width : ℕ) (some : 0 < ranks) (few
         inside = λ v w is. subst (λ u. u < m.rows) (sym (only_source ranks m source width some positive narrow g source_in v w is).0) source_in;
       }
 
-  vertex_first : (v : ℕ) → vertex_at ranks (full 0) v ≡ get_or (vertices_begin ranks m.rows source (v % ranks)) (v / ranks) unreached
+  vertex_first : (v : ℕ) → vertex_at ranks (full 0) v ≡ get_or (vertices_begin ranks m.rows source (v % ranks)) (v / ranks) unreached_vertex
   vertex_first v = at_vertex ranks (full 0) (v % ranks) (first ranks m source width (v % ranks)) v (first_at ranks m source width (v % ranks) some positive narrow g (mod-lt v some)) refl
 
-  first_vertex : (v : ℕ) → vertex_at ranks (full 0) v ≡ cond (v == source) (weighing 0) unreached
+  first_vertex : (v : ℕ) → vertex_at ranks (full 0) v ≡ cond (v == source) (weighing 0) unreached_vertex
   first_vertex v =
       elim (cases_eq v source) [
         | inl same ↦
-            ap (vertex_at ranks (full 0)) same ∙ vertex_first source ∙ begin_source ranks m.rows source some source_in ∙ sym (ap (λ b. cond b (weighing 0) unreached) (eq-eqb v source same))
-        | inr other ↦ vertex_first v ∙ begin_other ranks m.rows source v some other ∙ sym (ap (λ b. cond b (weighing 0) unreached) (ne_eqb v source other))
+            ap (vertex_at ranks (full 0)) same ∙ vertex_first source ∙ begin_source ranks m.rows source some source_in ∙ sym (ap (λ b. cond b (weighing 0) unreached_vertex) (eq-eqb v source same))
+        | inr other ↦ vertex_first v ∙ begin_other ranks m.rows source v some other ∙ sym (ap (λ b. cond b (weighing 0) unreached_vertex) (ne_eqb v source other))
       ]
 
-  weight_first : (b : Bool) → (cond b (weighing 0) unreached).weight ≡ (if b then Some 0 else None)
+  weight_first : (b : Bool) → (cond b (weighing 0) unreached_vertex).weight ≡ (if b then Some 0 else None)
   weight_first true = refl
   weight_first false = refl
 
-  mark_first : (b : Bool) → (cond b (weighing 0) unreached).improved ≡ b
+  mark_first : (b : Bool) → (cond b (weighing 0) unreached_vertex).improved ≡ b
   mark_first true = refl
   mark_first false = refl
 
@@ -251,7 +251,7 @@ module _ (ranks : ℕ) (m : Sparse) (source width : ℕ) (some : 0 < ranks) (few
   none_pending n l phase none v =
       let j : ℕ = v % ranks in
       let s = at_rank n l j (mod-lt v some) in
-      let vote : delta_rules.vote s.0 ≡ length (marked s.0.vertices) = ap (λ p. vote_in p s.0) (phase j s.0 s.1) in
+      let vote : delta_rules.vote s.0 ≡ length (marked_places s.0.vertices) = ap (λ p. vote_in p s.0) (phase j s.0 s.1) in
       let total : sum_by delta_rules.vote (full n) ≡ 0 = (let t : min (sum_by delta_rules.vote (full n)) (2 ^ 64 - 1) ≡ 0 = none in omega arith) in
       let one : delta_rules.vote (get_or (full n) j s.0) ≤ sum_by delta_rules.vote (full n) = get_or-le-sum_by delta_rules.vote (full n) j s.0 (within (full n) j s.0 s.1) in
       let mine : delta_rules.vote s.0 ≤ sum_by delta_rules.vote (full n) = subst (λ t. delta_rules.vote t ≤ sum_by delta_rules.vote (full n)) (get_or_from_slice_get (full n) j s.0 s.0 s.1) one in
@@ -265,17 +265,17 @@ module _ (ranks : ℕ) (m : Sparse) (source width : ℕ) (some : 0 < ranks) (few
         | inr z ↦ absurd (more (let e : min (sum_by delta_rules.vote (full n)) (2 ^ 64 - 1) ≡ 0 = omega arith in e))
       ] in
       let s = sum_some delta_rules.vote (full n) total in
-      let vote : delta_rules.vote s.1 ≡ length (marked s.1.vertices) = ap (λ p. vote_in p s.1) (k.phase s.0 s.1 s.2 ∙ phase) in
+      let vote : delta_rules.vote s.1 ≡ length (marked_places s.1.vertices) = ap (λ p. vote_in p s.1) (k.phase s.0 s.1 s.2 ∙ phase) in
       let voting : 0 < delta_rules.vote s.1 = s.3 in
-      one_of s.0 s.1 s.2 (low_rank ranks m source width some few positive narrow g source_in n (omega arith) s.0 s.1 s.2) (marked s.1.vertices) refl (omega arith)
+      one_of s.0 s.1 s.2 (low_rank ranks m source width some few positive narrow g source_in n (omega arith) s.0 s.1 s.2) (marked_places s.1.vertices) refl (omega arith)
     where
-      one_of : (j : ℕ) (s : DeltaState) → slice_get (full n) j ≡ Some s → j < ranks → (ps : List ℕ) → marked s.vertices ≡ ps → 0 < length ps → (v : ℕ) × ((sees n).pending v ≡ true)
+      one_of : (j : ℕ) (s : DeltaState) → slice_get (full n) j ≡ Some s → j < ranks → (ps : List ℕ) → marked_places s.vertices ≡ ps → 0 < length ps → (v : ℕ) × ((sees n).pending v ≡ true)
       one_of j s at low [] e up = absurd (omega arith)
       one_of j s at low (p ∷ ps) e up =
           let q = was_marked 0 s.vertices p (subst (λ qs. Contains qs p) (sym e) (has_head p ps)) in (
             q.0 * ranks + j,
             ap (λ (w : Vertex). w.improved) (at_vertex ranks (full n) j s (q.0 * ranks + j) at (mod-mul-add q.0 ranks j low))
-                ∙ ap (λ c. (get_or s.vertices c unreached).improved) (div-mul-add q.0 ranks j low) ∙ q.3,
+                ∙ ap (λ c. (get_or s.vertices c unreached_vertex).improved) (div-mul-add q.0 ranks j low) ∙ q.3,
           )
 
   -- and so one is active
@@ -323,14 +323,14 @@ module _ (ranks : ℕ) (m : Sparse) (source width : ℕ) (some : 0 < ranks) (few
   vote_on n l k Heavy is r s at = refl
   vote_on n l k Find is r s at =
       let low : r < ranks = low_rank ranks m source width some few positive narrow g source_in (suc n) (omega arith) r s at in
-      sym (length-map (marked s.vertices) (vertex_in ranks r))
+      sym (length-map (marked_places s.vertices) (vertex_in ranks r))
       ∙ ap (λ ps. length (map (vertex_in ranks r) ps)) (marks ranks m source width some few positive narrow g source_in (suc n) (omega arith) r s at (size_is ranks m source width some few positive narrow g source_in (suc n) (omega arith) k.static r s at))
       ∙ ap length (own_by_place ranks r m.rows (sees (suc n)).pending low (pending_in ranks m source width some few positive narrow g source_in (suc n) k))
   vote_on n l k Light is r s at =
       let low : r < ranks = low_rank ranks m source width some few positive narrow g source_in (suc n) (omega arith) r s at in
       let active : ℕ → Bool = is_active width (sees (suc n)) in
       ap (λ c. 1 + c)
-      (sym (length-map (picked (in_bucket s.width s.bucket) s.vertices) (vertex_in ranks r))
+      (sym (length-map (places_where (in_bucket s.width s.bucket) s.vertices) (vertex_in ranks r))
       ∙ ap (λ ps. length (map (vertex_in ranks r) ps)) (picked_is ranks m source width some few positive narrow g source_in (suc n) (omega arith) k r s at)
       ∙ ap length (own_by_place ranks r m.rows active low (active_in ranks m source width some few positive narrow g source_in (suc n) k)))
 

@@ -15,11 +15,11 @@ use Rattle.sparse_rows.specs.Owners.{places_for}
 use Rattle.sparse_rows.proofs.Deals.{filter_filter}
 use Rattle.sparse_rows.proofs.Gathering.{row_of}
 use Rattle.least_walks.specs.declared.vertices.Vertex.{Vertex}
-use Rattle.least_walks.specs.Tables.{edge_of, in_range, is_kept, edges_at, table_of, offers_at, offers_from, offers as offers_by_place}
-use Rattle.least_walks.specs.Vertices.{unreached}
+use Rattle.least_walks.specs.Tables.{edge_of, in_range, is_kept, edges_at, table_of, offers_at, offers_from, offers_by_place}
+use Rattle.least_walks.specs.Vertices.{unreached_vertex}
 use Rattle.least_walks.proofs.Members.{none_in, has_cases}
 use Rattle.app_sssp.proofs.Stages.{word_is}
-use Rattle.round_tables.specs.Sssp.{offered}
+use Rattle.round_tables.specs.Sssp.{vertex_offers}
 use Rattle.round_tables.specs.Delta.{is_light}
 use Rattle.round_tables.proofs.SsspLists.{filter_on, flat_on, was_in_range, vertex_in, own_vertices, IsLight, offers_are}
 
@@ -80,20 +80,20 @@ wanted_edges ranks r p low high wanted cells small same =
 
 pub offers_by_vertex : (ranks r rows low high : ℕ) (cells : List Triple) (vs : List Vertex) (places : List ℕ) (found : ℕ → Option ℕ) (test : ℕ → Bool) (wanted : Triple → Bool) → r < ranks
     → All IsLight cells → All (λ t. in_range low high t ≡ wanted t) cells
-    → ((p : ℕ) → (get_or vs p unreached).weight ≡ found (vertex_in ranks r p)) → ((v w : ℕ) → found v ≡ Some w → w ≤ 2 ^ 60)
+    → ((p : ℕ) → (get_or vs p unreached_vertex).weight ≡ found (vertex_in ranks r p)) → ((v w : ℕ) → found v ≡ Some w → w ≤ 2 ^ 60)
     → places ≡ filter (λ p. test (vertex_in ranks r p)) (range_with_len 0 (places_for ranks rows)) → ((v : ℕ) → test v ≡ true → v < rows)
     → offers_by_place (table_of ranks (places_for ranks rows) low high (dealt (row_of ranks) r cells)) vs places
-    ≡ flat_map (λ i. offered ranks (found i) (filter (λ t. eqb t.i i && wanted t) cells)) (dealt (λ i. i % ranks) r (filter test (range_with_len 0 rows)))
+    ≡ flat_map (λ i. vertex_offers ranks (found i) (filter (λ t. eqb t.i i && wanted t) cells)) (dealt (λ i. i % ranks) r (filter test (range_with_len 0 rows)))
 offers_by_vertex ranks r rows low high cells vs places found test wanted small light same weights few is inside =
     ap (offers_by_place (table_of ranks (places_for ranks rows) low high (dealt (row_of ranks) r cells)) vs) is
-    ∙ flat_on (offers_at (table_of ranks (places_for ranks rows) low high (dealt (row_of ranks) r cells)) vs) (λ p. offered ranks (found (vertex_in ranks r p)) (filter (λ t. eqb t.i (vertex_in ranks r p) && wanted t) cells)) (filter (λ p. test (vertex_in ranks r p)) (range_with_len 0 (places_for ranks rows))) (All-filter (λ p. test (vertex_in ranks r p)) (λ p. offers_at (table_of ranks (places_for ranks rows) low high (dealt (row_of ranks) r cells)) vs p ≡ offered ranks (found (vertex_in ranks r p)) (filter (λ t. eqb t.i (vertex_in ranks r p) && wanted t) cells)) (range_with_len 0 (places_for ranks rows)) (λ k d l. one (get_or (range_with_len 0 (places_for ranks rows)) k d) (below k d l)))
-    ∙ sym (flat_map-map (λ i. offered ranks (found i) (filter (λ t. eqb t.i i && wanted t) cells)) (vertex_in ranks r) (filter (λ p. test (vertex_in ranks r p)) (range_with_len 0 (places_for ranks rows))))
-    ∙ ap (flat_map (λ i. offered ranks (found i) (filter (λ t. eqb t.i i && wanted t) cells))) (own_vertices ranks r rows test small inside)
+    ∙ flat_on (offers_at (table_of ranks (places_for ranks rows) low high (dealt (row_of ranks) r cells)) vs) (λ p. vertex_offers ranks (found (vertex_in ranks r p)) (filter (λ t. eqb t.i (vertex_in ranks r p) && wanted t) cells)) (filter (λ p. test (vertex_in ranks r p)) (range_with_len 0 (places_for ranks rows))) (All-filter (λ p. test (vertex_in ranks r p)) (λ p. offers_at (table_of ranks (places_for ranks rows) low high (dealt (row_of ranks) r cells)) vs p ≡ vertex_offers ranks (found (vertex_in ranks r p)) (filter (λ t. eqb t.i (vertex_in ranks r p) && wanted t) cells)) (range_with_len 0 (places_for ranks rows)) (λ k d l. one (get_or (range_with_len 0 (places_for ranks rows)) k d) (below k d l)))
+    ∙ sym (flat_map-map (λ i. vertex_offers ranks (found i) (filter (λ t. eqb t.i i && wanted t) cells)) (vertex_in ranks r) (filter (λ p. test (vertex_in ranks r p)) (range_with_len 0 (places_for ranks rows))))
+    ∙ ap (flat_map (λ i. vertex_offers ranks (found i) (filter (λ t. eqb t.i i && wanted t) cells))) (own_vertices ranks r rows test small inside)
   where
     below : (k d : ℕ) → k < length (range_with_len 0 (places_for ranks rows)) → get_or (range_with_len 0 (places_for ranks rows)) k d < places_for ranks rows
     below k d l = was_in_range (places_for ranks rows) (get_or (range_with_len 0 (places_for ranks rows)) k d) (k, l, get_or_default (range_with_len 0 (places_for ranks rows)) k (get_or (range_with_len 0 (places_for ranks rows)) k d) d l)
 
-    one : (p : ℕ) → p < places_for ranks rows → offers_at (table_of ranks (places_for ranks rows) low high (dealt (row_of ranks) r cells)) vs p ≡ offered ranks (found (vertex_in ranks r p)) (filter (λ t. eqb t.i (vertex_in ranks r p) && wanted t) cells)
+    one : (p : ℕ) → p < places_for ranks rows → offers_at (table_of ranks (places_for ranks rows) low high (dealt (row_of ranks) r cells)) vs p ≡ vertex_offers ranks (found (vertex_in ranks r p)) (filter (λ t. eqb t.i (vertex_in ranks r p) && wanted t) cells)
     one p room =
         ap₂ (λ (o : Option ℕ) es. offers_from o es) (weights p)
         (get_or-map-range_with_len (edges_at ranks low high (dealt (row_of ranks) r cells)) 0 (places_for ranks rows) p p [] room (omega arith)

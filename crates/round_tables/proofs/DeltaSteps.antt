@@ -11,7 +11,7 @@ use Rattle.bale_items.specs.declared.triple.Triple.{Triple}
 use Rattle.list_laws.proofs.Lists.{find, within, get_map, got_map}
 use Rattle.list_laws.proofs.Sums.{total_same}
 use Rattle.mtx_text.specs.Sparse.{Sparse}
-use Rattle.mtx_text.specs.Cells.{gathered}
+use Rattle.mtx_text.specs.Cells.{gathered_cells}
 use Rattle.round_program.specs.Canonical.{end_all, vote_sum, InRound}
 use Rattle.round_program.proofs.Members.{in_round}
 use Rattle.sparse_rows.specs.Owners.{places_for}
@@ -19,15 +19,15 @@ use Rattle.sparse_rows.proofs.Deals.{filter_filter}
 use Rattle.sparse_rows.proofs.Gathering.{gathered_dealt, gathered_moves}
 use Rattle.least_walks.specs.declared.table.Edge.{Edge}
 use Rattle.least_walks.specs.declared.vertices.Vertex.{Vertex}
-use Rattle.least_walks.specs.Tables.{table_of, offers as offers_by_place}
-use Rattle.least_walks.specs.Vertices.{unreached, lesser, least_marked, marked, in_bucket, weight_in, picked, calm_if}
+use Rattle.least_walks.specs.Tables.{table_of, offers_by_place}
+use Rattle.least_walks.specs.Vertices.{unreached_vertex, lesser, least_marked, marked_places, in_bucket, weight_in, places_where, calm_if}
 use Rattle.least_walks.proofs.Marks.{picks_all}
 use Rattle.app_sssp.specs.SsspRuns.{IsGraph}
 use Rattle.app_sssp.proofs.Rounds.{Stage}
 use Rattle.app_sssp.proofs.Begins.{graph_edges, own_edges}
 use Rattle.delta_step.specs.declared.phase.Phase.{Phase}
 use Rattle.delta_step.specs.declared.phase.Phase.TheVariants.{First, Find, Light, Heavy}
-use Rattle.delta_step.specs.Deltas.{DeltaState, delta_rules, activated, finished, ascending, announced, bucket_of}
+use Rattle.delta_step.specs.Deltas.{DeltaState, delta_rules, after_activation, after_last_round, ascending, announced_items, bucket_of}
 use Rattle.delta_step.specs.laws.DeltaLaws.{delta_laws}
 use Rattle.delta_step.specs.DeltaRuns.{delta_starts}
 use Rattle.delta_step.proofs.Begins.{starts_in_round}
@@ -110,10 +110,10 @@ module _ (ranks : ℕ) (m : Sparse) (source width : ℕ) (some : 0 < ranks) (few
 
   -- the edges of a rank
   abbrev pub light_of : ℕ → List (List Edge)
-  light_of j = table_of ranks (places_for ranks m.rows) 0 width (gathered (own_edges ranks j m.entries))
+  light_of j = table_of ranks (places_for ranks m.rows) 0 width (gathered_cells (own_edges ranks j m.entries))
 
   abbrev pub heavy_of : ℕ → List (List Edge)
-  heavy_of j = table_of ranks (places_for ranks m.rows) (width + 1) (2 ^ 64 - 1) (gathered (own_edges ranks j m.entries))
+  heavy_of j = table_of ranks (places_for ranks m.rows) (width + 1) (2 ^ 64 - 1) (gathered_cells (own_edges ranks j m.entries))
 
   -- what is known as round n is over, of any after the first
   pub record Known (n : ℕ) : Type 0 where
@@ -151,15 +151,15 @@ module _ (ranks : ℕ) (m : Sparse) (source width : ℕ) (some : 0 < ranks) (few
 
   -- ---- A rank's places and its vertices
 
-  small_edges : All IsLight (gathered m.entries)
+  small_edges : All IsLight (gathered_cells m.entries)
   small_edges =
-      All-permutation IsLight m.entries (gathered m.entries) (gathered_moves m.entries g.matrix.once)
+      All-permutation IsLight m.entries (gathered_cells m.entries) (gathered_moves m.entries g.matrix.once)
       (λ k d l. record { plain = (graph_edges m g).plain k d l; light = (graph_edges m g).light k d l })
 
-  vertex_is : (n : ℕ) → n < 2 ^ 62 → (j : ℕ) (s : DeltaState) → slice_get (all n) j ≡ Some s → (p : ℕ) → get_or s.vertices p unreached ≡ vertex_at ranks (all n) (vertex_in ranks j p)
+  vertex_is : (n : ℕ) → n < 2 ^ 62 → (j : ℕ) (s : DeltaState) → slice_get (all n) j ≡ Some s → (p : ℕ) → get_or s.vertices p unreached_vertex ≡ vertex_at ranks (all n) (vertex_in ranks j p)
   vertex_is n l j s at p =
       let low : j < ranks = low_rank n l j s at in
-      ap (λ q. get_or s.vertices q unreached) (sym (div-mul-add p ranks j low)) ∙ sym (at_vertex ranks (all n) j s (vertex_in ranks j p) at (mod-mul-add p ranks j low))
+      ap (λ q. get_or s.vertices q unreached_vertex) (sym (div-mul-add p ranks j low)) ∙ sym (at_vertex ranks (all n) j s (vertex_in ranks j p) at (mod-mul-add p ranks j low))
 
   pub size_is : (n : ℕ) → n < 2 ^ 62 → Static m.entries m.rows width ranks (all n) → (j : ℕ) (s : DeltaState) → slice_get (all n) j ≡ Some s → length s.vertices ≡ places_for ranks m.rows
   size_is n l static j s at =
@@ -167,7 +167,7 @@ module _ (ranks : ℕ) (m : Sparse) (source width : ℕ) (some : 0 < ranks) (few
       member.valid.places ∙ ap (λ p. places_for p s.rows) member.all_ranks ∙ ap (places_for ranks) (static.size j s at)
 
   pub marks : (n : ℕ) → n < 2 ^ 62 → (j : ℕ) (s : DeltaState) → slice_get (all n) j ≡ Some s → length s.vertices ≡ places_for ranks m.rows
-      → marked s.vertices ≡ filter (λ p. (look n).pending (vertex_in ranks j p)) (range_with_len 0 (places_for ranks m.rows))
+      → marked_places s.vertices ≡ filter (λ p. (look n).pending (vertex_in ranks j p)) (range_with_len 0 (places_for ranks m.rows))
   marks n l j s at size =
       marks_are (λ p. (look n).pending (vertex_in ranks j p)) 0 s.vertices (λ i inside.
       ap (λ q. (look n).pending (vertex_in ranks j q)) (let z : 0 + i ≡ i = omega arith in z) ∙ sym (ap (λ (x : Vertex). x.improved) (vertex_is n l j s at i)))
@@ -190,18 +190,18 @@ module _ (ranks : ℕ) (m : Sparse) (source width : ℕ) (some : 0 < ranks) (few
   test_of s = in_bucket s.width s.bucket
 
   active_is : (n : ℕ) → n < 2 ^ 62 → Known n → (j : ℕ) (s : DeltaState) → slice_get (all n) j ≡ Some s → (p : ℕ)
-      → ((look n).pending (vertex_in ranks j p) && test_of s (get_or s.vertices p unreached)) ≡ is_active width (look n) (vertex_in ranks j p)
+      → ((look n).pending (vertex_in ranks j p) && test_of s (get_or s.vertices p unreached_vertex)) ≡ is_active width (look n) (vertex_in ranks j p)
   active_is n l k j s at p =
-      ap (λ w. (look n).pending (vertex_in ranks j p) && weight_in w s.bucket (get_or s.vertices p unreached).weight) (k.static.wide j s at)
-      ∙ ap (λ b. (look n).pending (vertex_in ranks j p) && weight_in width b (get_or s.vertices p unreached).weight) (k.bucket j s at)
+      ap (λ w. (look n).pending (vertex_in ranks j p) && weight_in w s.bucket (get_or s.vertices p unreached_vertex).weight) (k.static.wide j s at)
+      ∙ ap (λ b. (look n).pending (vertex_in ranks j p) && weight_in width b (get_or s.vertices p unreached_vertex).weight) (k.bucket j s at)
       ∙ ap (λ (x : Vertex). (look n).pending (vertex_in ranks j p) && weight_in width (look n).bucket x.weight) (vertex_is n l j s at p)
 
   pub picked_is : (n : ℕ) → n < 2 ^ 62 → Known n → (j : ℕ) (s : DeltaState) → slice_get (all n) j ≡ Some s
-      → picked (test_of s) s.vertices ≡ filter (λ p. is_active width (look n) (vertex_in ranks j p)) (range_with_len 0 (places_for ranks m.rows))
+      → places_where (test_of s) s.vertices ≡ filter (λ p. is_active width (look n) (vertex_in ranks j p)) (range_with_len 0 (places_for ranks m.rows))
   picked_is n l k j s at =
       sym (picks_all (test_of s) s.vertices)
-      ∙ ap (filter (λ q. test_of s (get_or s.vertices q unreached))) (marks n l j s at (size_is n l k.static j s at))
-      ∙ filter_filter (λ q. test_of s (get_or s.vertices q unreached)) (λ p. (look n).pending (vertex_in ranks j p)) (range_with_len 0 (places_for ranks m.rows))
+      ∙ ap (filter (λ q. test_of s (get_or s.vertices q unreached_vertex))) (marks n l j s at (size_is n l k.static j s at))
+      ∙ filter_filter (λ q. test_of s (get_or s.vertices q unreached_vertex)) (λ p. (look n).pending (vertex_in ranks j p)) (range_with_len 0 (places_for ranks m.rows))
       ∙ filter_agree _ _ (active_is n l k j s at) (range_with_len 0 (places_for ranks m.rows))
 
   pub pending_in : (n : ℕ) → Known n → (v : ℕ) → (look n).pending v ≡ true → v < m.rows
@@ -211,18 +211,18 @@ module _ (ranks : ℕ) (m : Sparse) (source width : ℕ) (some : 0 < ranks) (few
   active_in n k v is = pending_in n k v (and_parts ((look n).pending v) (weight_in width (look n).bucket ((look n).found v)) is).0
 
   -- a rank keeps its edges
-  kept_lit : (s u : DeltaState) (vs : List Vertex) (j : ℕ) → s ≡ record (activated u) { vertices = vs } → u.light ≡ light_of j → u.heavy ≡ heavy_of j → (s.light ≡ light_of j) × (s.heavy ≡ heavy_of j)
+  kept_lit : (s u : DeltaState) (vs : List Vertex) (j : ℕ) → s ≡ record (after_activation u) { vertices = vs } → u.light ≡ light_of j → u.heavy ≡ heavy_of j → (s.light ≡ light_of j) × (s.heavy ≡ heavy_of j)
   kept_lit s u vs j is a b = (ap (λ (x : DeltaState). x.light) is ∙ a, ap (λ (x : DeltaState). x.heavy) is ∙ b)
 
-  lit_sends : (n : ℕ) → n < 2 ^ 61 → Known n → (j : ℕ) (s : DeltaState) → slice_get (all n) j ≡ Some s → (activated s).outgoing ≡ line_in Light ranks m width (look n) j
+  lit_sends : (n : ℕ) → n < 2 ^ 61 → Known n → (j : ℕ) (s : DeltaState) → slice_get (all n) j ≡ Some s → (after_activation s).outgoing ≡ line_in Light ranks m width (look n) j
   lit_sends n l k j s at =
-      ap (λ ts. offers_by_place ts (map (calm_if (test_of s)) s.vertices) (picked (test_of s) s.vertices)) (k.light j s at ∙ ap (table_of ranks (places_for ranks m.rows) 0 width) (gathered_dealt ranks j m.entries g.matrix.once))
-      ∙ offers_by_vertex ranks j m.rows 0 width (gathered m.entries) (map (calm_if (test_of s)) s.vertices) (picked (test_of s) s.vertices) (look n).found (is_active width (look n)) (is_light width)
-      (low_rank n (omega arith) j s at) small_edges (λ i d lo. light_range width (get_or (gathered m.entries) i d) (small_edges i d lo))
-      (λ p. ap (λ (x : Vertex). x.weight) (calm_at (test_of s) s.vertices p refl) ∙ calm_weight (test_of s) (get_or s.vertices p unreached) ∙ ap (λ (x : Vertex). x.weight) (vertex_is n (omega arith) j s at p))
+      ap (λ ts. offers_by_place ts (map (calm_if (test_of s)) s.vertices) (places_where (test_of s) s.vertices)) (k.light j s at ∙ ap (table_of ranks (places_for ranks m.rows) 0 width) (gathered_dealt ranks j m.entries g.matrix.once))
+      ∙ offers_by_vertex ranks j m.rows 0 width (gathered_cells m.entries) (map (calm_if (test_of s)) s.vertices) (places_where (test_of s) s.vertices) (look n).found (is_active width (look n)) (is_light width)
+      (low_rank n (omega arith) j s at) small_edges (λ i d lo. light_range width (get_or (gathered_cells m.entries) i d) (small_edges i d lo))
+      (λ p. ap (λ (x : Vertex). x.weight) (calm_at (test_of s) s.vertices p refl) ∙ calm_weight (test_of s) (get_or s.vertices p unreached_vertex) ∙ ap (λ (x : Vertex). x.weight) (vertex_is n (omega arith) j s at p))
       (low_weights (stage n).found k.bound) (picked_is n (omega arith) k j s at) (active_in n k)
 
-  pub to_light : (n : ℕ) → n < 2 ^ 61 → Known n → (look n).phase ≢ Heavy → ((j : ℕ) (s : DeltaState) → slice_get (all n) j ≡ Some s → delta_rules.ended s (vote_sum delta_rules (all n)) ≡ activated s) → Stepped n Light
+  pub to_light : (n : ℕ) → n < 2 ^ 61 → Known n → (look n).phase ≢ Heavy → ((j : ℕ) (s : DeltaState) → slice_get (all n) j ≡ Some s → delta_rules.ended s (vote_sum delta_rules (all n)) ≡ after_activation s) → Stepped n Light
   to_light n l k not_heavy becomes =
       let b : ℕ = (look n).bucket in
       let now : InRound delta_rules ranks n shape most (all n) = all_in n (omega arith) in
@@ -259,7 +259,7 @@ module _ (ranks : ℕ) (m : Sparse) (source width : ℕ) (some : 0 < ranks) (few
               settled = λ v. sym (open' v);
               improves = to_improves m.entries (light_sent width b (stage n)) (calmed_stage width b (stage n)) (look (suc n)) round;
             };
-        sent = sent_from n activated (line_in Light ranks m width (look n)) becomes (lit_sends n l k);
+        sent = sent_from n after_activation (line_in Light ranks m width (look n)) becomes (lit_sends n l k);
       }
 
   -- ---- Heavy rounds
@@ -273,19 +273,19 @@ module _ (ranks : ℕ) (m : Sparse) (source width : ℕ) (some : 0 < ranks) (few
       sym (at_open ranks (all n) j s (vertex_in ranks j p) at (mod-mul-add p ranks j low) ∙ ap (λ q. list_any (eqb q) s.settled) (div-mul-add p ranks j low)))
       (range_with_len 0 (places_for ranks m.rows))
 
-  kept_heavy : (s u : DeltaState) (vs : List Vertex) (j b : ℕ) → s ≡ record (finished u) { vertices = vs } → u.light ≡ light_of j → u.heavy ≡ heavy_of j → u.bucket ≡ b
+  kept_heavy : (s u : DeltaState) (vs : List Vertex) (j b : ℕ) → s ≡ record (after_last_round u) { vertices = vs } → u.light ≡ light_of j → u.heavy ≡ heavy_of j → u.bucket ≡ b
       → (s.light ≡ light_of j) × (s.heavy ≡ heavy_of j) × (s.bucket ≡ b)
   kept_heavy s u vs j b is l h e = (ap (λ (x : DeltaState). x.light) is ∙ l, ap (λ (x : DeltaState). x.heavy) is ∙ h, ap (λ (x : DeltaState). x.bucket) is ∙ e)
 
-  heavy_sends : (n : ℕ) → n < 2 ^ 61 → Known n → (look n).phase ≢ Heavy → (j : ℕ) (s : DeltaState) → slice_get (all n) j ≡ Some s → (finished s).outgoing ≡ line_in Heavy ranks m width (look n) j
+  heavy_sends : (n : ℕ) → n < 2 ^ 61 → Known n → (look n).phase ≢ Heavy → (j : ℕ) (s : DeltaState) → slice_get (all n) j ≡ Some s → (after_last_round s).outgoing ≡ line_in Heavy ranks m width (look n) j
   heavy_sends n l k not_heavy j s at =
       ap (λ ts. offers_by_place ts s.vertices (ascending (length s.vertices) s.settled)) (k.heavy j s at ∙ ap (table_of ranks (places_for ranks m.rows) (width + 1) (2 ^ 64 - 1)) (gathered_dealt ranks j m.entries g.matrix.once))
-      ∙ offers_by_vertex ranks j m.rows (width + 1) (2 ^ 64 - 1) (gathered m.entries) s.vertices (ascending (length s.vertices) s.settled) (look n).found (look n).settled (λ t. not (is_light width t))
-      (low_rank n (omega arith) j s at) small_edges (λ i d lo. heavy_range width (get_or (gathered m.entries) i d) (small_edges i d lo))
+      ∙ offers_by_vertex ranks j m.rows (width + 1) (2 ^ 64 - 1) (gathered_cells m.entries) s.vertices (ascending (length s.vertices) s.settled) (look n).found (look n).settled (λ t. not (is_light width t))
+      (low_rank n (omega arith) j s at) small_edges (λ i d lo. heavy_range width (get_or (gathered_cells m.entries) i d) (small_edges i d lo))
       (λ p. ap (λ (x : Vertex). x.weight) (vertex_is n (omega arith) j s at p))
       (low_weights (stage n).found k.bound) (settled_is n (omega arith) k j s at) (k.settled_in not_heavy)
 
-  pub to_heavy : (n : ℕ) → n < 2 ^ 61 → Known n → (look n).phase ≢ Heavy → ((j : ℕ) (s : DeltaState) → slice_get (all n) j ≡ Some s → delta_rules.ended s (vote_sum delta_rules (all n)) ≡ finished s) → Stepped n Heavy
+  pub to_heavy : (n : ℕ) → n < 2 ^ 61 → Known n → (look n).phase ≢ Heavy → ((j : ℕ) (s : DeltaState) → slice_get (all n) j ≡ Some s → delta_rules.ended s (vote_sum delta_rules (all n)) ≡ after_last_round s) → Stepped n Heavy
   to_heavy n l k not_heavy becomes =
       let now : InRound delta_rules ranks n shape most (all n) = all_in n (omega arith) in
       let next : InRound delta_rules ranks (suc n) shape most (begun n) = next_in n (omega arith) in
@@ -311,7 +311,7 @@ module _ (ranks : ℕ) (m : Sparse) (source width : ℕ) (some : 0 < ranks) (few
             };
         phase = phase;
         changes = to_improves m.entries (heavy_sent width (open_of ranks (all n))) (stage n) (look (suc n)) round;
-        sent = sent_from n finished (line_in Heavy ranks m width (look n)) becomes (heavy_sends n l k not_heavy);
+        sent = sent_from n after_last_round (line_in Heavy ranks m width (look n)) becomes (heavy_sends n l k not_heavy);
       }
 
   -- ---- Find rounds
@@ -331,7 +331,7 @@ module _ (ranks : ℕ) (m : Sparse) (source width : ℕ) (some : 0 < ranks) (few
   least_is : (n : ℕ) → n < 2 ^ 62 → (h : ToFind n) → (j : ℕ) (s : DeltaState) → slice_get (all n) j ≡ Some s → least_marked s.vertices ≡ least_pending ranks m (look n) j
   least_is n l h j s at =
       let own : List ℕ = filter (λ p. (look n).pending (vertex_in ranks j p)) (range_with_len 0 (places_for ranks m.rows)) in
-      fold_on (λ w p. lesser w (get_or s.vertices p unreached).weight) (λ w p. lesser w ((look n).found (vertex_in ranks j p))) None (marked s.vertices)
+      fold_on (λ w p. lesser w (get_or s.vertices p unreached_vertex).weight) (λ w p. lesser w ((look n).found (vertex_in ranks j p))) None (marked_places s.vertices)
       (λ w p. ap (λ (x : Vertex). lesser w x.weight) (vertex_is n l j s at p))
       ∙ ap (fold (λ w p. lesser w ((look n).found (vertex_in ranks j p))) None) (marks n l j s at (h.size j s at))
       ∙ sym (fold_map (λ w v. lesser w ((look n).found v)) (vertex_in ranks j) None own)
@@ -352,10 +352,10 @@ module _ (ranks : ℕ) (m : Sparse) (source width : ℕ) (some : 0 < ranks) (few
       told : (t : DeltaState) → IsFinding width t → t.ranks ≡ ranks → t.vertices ≡ s.vertices → least_marked s.vertices ≡ least_pending ranks m (look n) j → t.outgoing ≡ line_in Find ranks m width (look n) j
       told t is all_ranks stays least =
           is.outgoing
-          ∙ ap (λ c. announced c (bucket_of t.width (least_marked t.vertices))) all_ranks
-          ∙ ap (λ w. announced ranks (bucket_of w (least_marked t.vertices))) is.wide
-          ∙ ap (λ vs. announced ranks (bucket_of width (least_marked vs))) stays
-          ∙ ap (λ o. announced ranks (bucket_of width o)) least
+          ∙ ap (λ c. announced_items c (bucket_of t.width (least_marked t.vertices))) all_ranks
+          ∙ ap (λ w. announced_items ranks (bucket_of w (least_marked t.vertices))) is.wide
+          ∙ ap (λ vs. announced_items ranks (bucket_of width (least_marked vs))) stays
+          ∙ ap (λ o. announced_items ranks (bucket_of width o)) least
 
   -- an active vertex is one of the graph
   one_active : (n : ℕ) → Weighed (stage n) → ((v k : ℕ) → (stage n).found v ≡ Some k → v < m.rows) → (u : ℕ) → is_active width (look n) u ≡ true → some_active m width (look n) ≡ true
@@ -420,5 +420,5 @@ module _ (ranks : ℕ) (m : Sparse) (source width : ℕ) (some : 0 < ranks) (few
           let j : ℕ = v % ranks in
           let s = rank_at n (omega arith) j (mod-lt v some) in
           at_vertex ranks (begun n) j (delta_rules.ended s.0 (vote_sum delta_rules (all n))) v (get_map (λ s. delta_rules.ended s (vote_sum delta_rules (all n))) (all n) j s.0 s.1) refl
-          ∙ ap (λ vs. get_or vs (v / ranks) unreached) (h.stays j s.0 s.1)
+          ∙ ap (λ vs. get_or vs (v / ranks) unreached_vertex) (h.stays j s.0 s.1)
           ∙ sym (at_vertex ranks (all n) j s.0 v s.1 refl)

@@ -15,15 +15,15 @@ use Rattle.std.proofs.lemmas.Option.{get_or_from_slice_get}
 use Rattle.bale_items.specs.declared.Item.{Item}
 use Rattle.list_laws.proofs.Lists.{find, within, got_map, all_from_gets}
 use Rattle.mtx_text.specs.Sparse.{Sparse}
-use Rattle.mtx_text.specs.Cells.{gathered}
+use Rattle.mtx_text.specs.Cells.{gathered_cells}
 use Rattle.round_program.specs.Canonical.{states_at, votes_at, vote_sum, HasRounds, EndsWithin, InRound}
 use Rattle.sparse_rows.specs.Deals.{dealt}
 use Rattle.sparse_rows.specs.Owners.{places_for}
 use Rattle.sparse_rows.proofs.Deals.{filter_none}
 use Rattle.sparse_rows.proofs.Gathering.{gathered_dealt, gathered_moves}
 use Rattle.least_walks.specs.declared.vertices.Vertex.{Vertex}
-use Rattle.least_walks.specs.Tables.{edge_of, is_kept, offers_at, offers_from, offers as offers_by_place}
-use Rattle.least_walks.specs.Vertices.{unreached, marked, calm}
+use Rattle.least_walks.specs.Tables.{edge_of, is_kept, offers_at, offers_from, offers_by_place}
+use Rattle.least_walks.specs.Vertices.{unreached_vertex, marked_places, calm}
 use Rattle.least_walks.proofs.Marks.{marked_below}
 use Rattle.least_walks.proofs.Members.{none_in, has_filtered}
 use Rattle.least_walks.proofs.Offered.{none_improved, none_counted, calm_at}
@@ -33,7 +33,7 @@ use Rattle.app_sssp.proofs.Stages.{vertex_at, at_vertex}
 use Rattle.app_sssp.proofs.Begins.{graph_edges, own_edges, has_place}
 use Rattle.app_sssp.proofs.Ends.{run_ends, when_over}
 use Rattle.sparse_rows.specs.Emits.{Emit}
-use Rattle.round_tables.specs.Sssp.{SsspRounds, HasSsspRounds, to_rows, improves, improved_with, offered, offers}
+use Rattle.round_tables.specs.Sssp.{SsspRounds, HasSsspRounds, to_rows, improves, improved_with, vertex_offers, offers}
 use Rattle.round_tables.specs.Tables.{IsSsspTable, sssp_line, sssp_vote}
 use Rattle.round_tables.specs.Follows.{HasTable}
 use Rattle.round_tables.proofs.Votes.{vote_each}
@@ -59,19 +59,19 @@ module _ (ranks : ℕ) (m : Sparse) (source : ℕ) (some : 0 < ranks) (g : IsGra
 
   -- ---- What is offered
 
-  light : All IsLight (gathered m.entries)
+  light : All IsLight (gathered_cells m.entries)
   light =
-      All-permutation IsLight m.entries (gathered m.entries) (gathered_moves m.entries g.matrix.once)
+      All-permutation IsLight m.entries (gathered_cells m.entries) (gathered_moves m.entries g.matrix.once)
       (λ k d l. record { plain = (graph_edges m g).plain k d l; light = (graph_edges m g).light k d l })
 
   -- what a vertex offers
   abbrev told : ℕ → ℕ → List (ℕ × Item)
-  told k i = offered ranks (weights k i) (filter (λ t. t.i == i) (gathered m.entries))
+  told k i = vertex_offers ranks (weights k i) (filter (λ t. t.i == i) (gathered_cells m.entries))
 
-  vertex_is : (k : ℕ) → k ≤ 16384 → (r : ℕ) (u : SsspState) → slice_get (all k) r ≡ Some u → (p : ℕ) → get_or u.vertices p unreached ≡ vertex_at ranks (all k) (vertex_in ranks r p)
+  vertex_is : (k : ℕ) → k ≤ 16384 → (r : ℕ) (u : SsspState) → slice_get (all k) r ≡ Some u → (p : ℕ) → get_or u.vertices p unreached_vertex ≡ vertex_at ranks (all k) (vertex_in ranks r p)
   vertex_is k l r u here p =
       let low : r < ranks = subst (λ n. r < n) (in_all k (omega arith)).size (within (all k) r u here) in
-      ap (λ q. get_or u.vertices q unreached) (sym (div-mul-add p ranks r low)) ∙ sym (at_vertex ranks (all k) r u (vertex_in ranks r p) here (mod-mul-add p ranks r low))
+      ap (λ q. get_or u.vertices q unreached_vertex) (sym (div-mul-add p ranks r low)) ∙ sym (at_vertex ranks (all k) r u (vertex_in ranks r p) here (mod-mul-add p ranks r low))
 
   size_is : (k : ℕ) → k ≤ 16384 → (r : ℕ) (u : SsspState) → slice_get (all k) r ≡ Some u → length u.vertices ≡ places_for ranks m.rows
   size_is k l r u here =
@@ -84,20 +84,20 @@ module _ (ranks : ℕ) (m : Sparse) (source : ℕ) (some : 0 < ranks) (g : IsGra
       let low : r < ranks = subst (λ n. r < n) (in_all k (omega arith)).size (within (all k) r u here) in
       let h : ℕ = vertex_in ranks r p in
       let room : p < places_for ranks m.rows = subst (λ n. p < n) (size_is k l r u here) inside in
-      let weight : (get_or (map calm u.vertices) p unreached).weight ≡ weights k h = ap (λ (x : Vertex). x.weight) (calm_at u.vertices p) ∙ ap (λ (x : Vertex). x.weight) (vertex_is k l r u here p) in
-      let edges : get_or (table_after u) p [] ≡ map (edge_of ranks) (filter (λ t. t.i == h) (gathered m.entries)) =
+      let weight : (get_or (map calm u.vertices) p unreached_vertex).weight ≡ weights k h = ap (λ (x : Vertex). x.weight) (calm_at u.vertices p) ∙ ap (λ (x : Vertex). x.weight) (vertex_is k l r u here p) in
+      let edges : get_or (table_after u) p [] ≡ map (edge_of ranks) (filter (λ t. t.i == h) (gathered_cells m.entries)) =
       ap (λ ts. get_or ts p []) (table_is ranks m source some g source_in k (omega arith) r u here)
-      ∙ has_place ranks (places_for ranks m.rows) (gathered (own_edges ranks r m.entries)) p room
+      ∙ has_place ranks (places_for ranks m.rows) (gathered_cells (own_edges ranks r m.entries)) p room
       ∙ ap (λ ts. map (edge_of ranks) (filter (is_kept ranks 0 (2 ^ 64 - 1) p) ts)) (gathered_dealt ranks r m.entries g.matrix.once)
-      ∙ ap (map (edge_of ranks)) (own_edges_are ranks r p (gathered m.entries) low light) in
+      ∙ ap (map (edge_of ranks)) (own_edges_are ranks r p (gathered_cells m.entries) low light) in
       ap₂ (λ (o : Option ℕ) es. offers_from o es) weight edges
-      ∙ offers_are ranks (weights k h) (filter (λ t. t.i == h) (gathered m.entries)) (small ranks m source some g source_in k l h) (All-filter (λ t. t.i == h) IsLight (gathered m.entries) light)
+      ∙ offers_are ranks (weights k h) (filter (λ t. t.i == h) (gathered_cells m.entries)) (small ranks m source some g source_in k l h) (All-filter (λ t. t.i == h) IsLight (gathered_cells m.entries) light)
 
   -- own vertices that improve with k edges
-  own_improved : (k : ℕ) → k ≤ 16384 → (r : ℕ) (u : SsspState) → slice_get (all k) r ≡ Some u → map (vertex_in ranks r) (marked u.vertices) ≡ dealt (λ i. i % ranks) r (improved_with m weights k)
+  own_improved : (k : ℕ) → k ≤ 16384 → (r : ℕ) (u : SsspState) → slice_get (all k) r ≡ Some u → map (vertex_in ranks r) (marked_places u.vertices) ≡ dealt (λ i. i % ranks) r (improved_with m weights k)
   own_improved k l r u here =
       let low : r < ranks = subst (λ n. r < n) (in_all k (omega arith)).size (within (all k) r u here) in
-      let marks : marked u.vertices ≡ filter (λ p. improves weights k (vertex_in ranks r p)) (range_with_len 0 (places_for ranks m.rows)) =
+      let marks : marked_places u.vertices ≡ filter (λ p. improves weights k (vertex_in ranks r p)) (range_with_len 0 (places_for ranks m.rows)) =
       marks_are (λ p. improves weights k (vertex_in ranks r p)) 0 u.vertices (λ i inside.
       ap (λ j. improves weights k (vertex_in ranks r j)) (let z : 0 + i ≡ i = omega arith in z)
       ∙ sym (fresh_is ranks m source some g source_in k (omega arith) (vertex_in ranks r i))
@@ -106,11 +106,11 @@ module _ (ranks : ℕ) (m : Sparse) (source : ℕ) (some : 0 < ranks) (g : IsGra
       ap (map (vertex_in ranks r)) marks
       ∙ own_vertices ranks r m.rows (improves weights k) low (λ v is. fresh_in ranks m source some g source_in k (omega arith) v (fresh_is ranks m source some g source_in k (omega arith) v ∙ is))
 
-  sent : (k : ℕ) → k ≤ 16384 → (r : ℕ) (u : SsspState) → slice_get (all k) r ≡ Some u → offers_by_place (table_after u) (map calm u.vertices) (marked u.vertices) ≡ offers ranks m weights k r
+  sent : (k : ℕ) → k ≤ 16384 → (r : ℕ) (u : SsspState) → slice_get (all k) r ≡ Some u → offers_by_place (table_after u) (map calm u.vertices) (marked_places u.vertices) ≡ offers ranks m weights k r
   sent k l r u here =
-      flat_on (offers_at (table_after u) (map calm u.vertices)) (λ p. told k (vertex_in ranks r p)) (marked u.vertices)
-      (λ i d lo. one_place k l r u here (get_or (marked u.vertices) i d) (let below : get_or (marked u.vertices) i d < 0 + length u.vertices = marked_below 0 u.vertices i d lo in omega arith))
-      ∙ sym (flat_map-map (told k) (vertex_in ranks r) (marked u.vertices))
+      flat_on (offers_at (table_after u) (map calm u.vertices)) (λ p. told k (vertex_in ranks r p)) (marked_places u.vertices)
+      (λ i d lo. one_place k l r u here (get_or (marked_places u.vertices) i d) (let below : get_or (marked_places u.vertices) i d < 0 + length u.vertices = marked_below 0 u.vertices i d lo in omega arith))
+      ∙ sym (flat_map-map (told k) (vertex_in ranks r) (marked_places u.vertices))
       ∙ ap (flat_map (told k)) (own_improved k l r u here)
 
   offers_sent : (k : ℕ) → k ≤ 16384 → (r : ℕ) (s : SsspState) → slice_get (states_at sssp_rules starts (suc k)) r ≡ Some s → s.outgoing ≡ offers ranks m weights k r
@@ -120,14 +120,14 @@ module _ (ranks : ℕ) (m : Sparse) (source : ℕ) (some : 0 < ranks) (g : IsGra
 
   -- ---- Where votes are cast
 
-  vote_later : (s : SsspState) → s.round ≢ 0 → sssp_rules.vote s ≡ length (marked s.vertices)
-  vote_later s n = ap (λ b. cond b 0 (length (marked s.vertices))) (ne_eqb s.round 0 n)
+  vote_later : (s : SsspState) → s.round ≢ 0 → sssp_rules.vote s ≡ length (marked_places s.vertices)
+  vote_later s n = ap (λ b. cond b 0 (length (marked_places s.vertices))) (ne_eqb s.round 0 n)
 
   vote_is : (k : ℕ) → k ≤ 16384 → (r : ℕ) (u : SsspState) → slice_get (all k) r ≡ Some u → sssp_rules.vote u ≡ sssp_vote ranks m weights k r
-  vote_is zero l r u here = ap (λ b. cond b 0 (length (marked u.vertices))) (eq-eqb u.round 0 ((in_all 0 (omega arith)).each r u here).same_round)
+  vote_is zero l r u here = ap (λ b. cond b 0 (length (marked_places u.vertices))) (eq-eqb u.round 0 ((in_all 0 (omega arith)).each r u here).same_round)
   vote_is (suc k) l r u here =
       let round : u.round ≡ suc k = ((in_all (suc k) (omega arith)).each r u here).same_round in
-      vote_later u (λ z. absurd (omega arith)) ∙ sym (length-map (marked u.vertices) (vertex_in ranks r)) ∙ ap length (own_improved (suc k) l r u here)
+      vote_later u (λ z. absurd (omega arith)) ∙ sym (length-map (marked_places u.vertices) (vertex_in ranks r)) ∙ ap length (own_improved (suc k) l r u here)
 
   none_voted : (k : ℕ) → 1 ≤ k → k ≤ 16384 → votes_at sssp_rules starts k ≡ 0 → (v : ℕ) → fresh k v ≡ false
   none_voted k late l none v =
@@ -139,7 +139,7 @@ module _ (ranks : ℕ) (m : Sparse) (source : ℕ) (some : 0 < ranks) (g : IsGra
       let is : get_or (all k) r s.0 ≡ s.0 = get_or_from_slice_get (all k) r s.0 s.0 s.1 in
       let mine : sssp_rules.vote s.0 ≤ sum_by sssp_rules.vote (all k) = subst (λ t. sssp_rules.vote t ≤ sum_by sssp_rules.vote (all k)) is one in
       let round : s.0.round ≡ k = (here.each r s.0 s.1).same_round in
-      let marks : length (marked s.0.vertices) ≡ 0 = sym (vote_later s.0 (λ z. absurd (omega arith))) ∙ (let e : sssp_rules.vote s.0 ≡ 0 = omega (arith, mine, total) in e) in
+      let marks : length (marked_places s.0.vertices) ≡ 0 = sym (vote_later s.0 (λ z. absurd (omega arith))) ∙ (let e : sssp_rules.vote s.0 ≡ 0 = omega (arith, mine, total) in e) in
       ap (λ (w : Vertex). w.improved) (at_vertex ranks (all k) r s.0 v s.1 refl) ∙ none_improved 0 s.0.vertices marks (v / ranks)
 
   none_left : (k : ℕ) → 1 ≤ k → k ≤ 16384 → ((v : ℕ) → fresh k v ≡ false) → votes_at sssp_rules starts k ≡ 0
@@ -148,7 +148,7 @@ module _ (ranks : ℕ) (m : Sparse) (source : ℕ) (some : 0 < ranks) (g : IsGra
       let each : All (λ s. sssp_rules.vote s ≤ 0) (all k) =
       all_from_gets (λ s. sssp_rules.vote s ≤ 0) (all k) (λ r s there.
       let round : s.round ≡ k = (here.each r s there).same_round in
-      let marks : length (marked s.vertices) ≡ 0 = none_counted 0 s.vertices (λ p. ap (λ (w : Vertex). w.improved) (vertex_is k l r s there p) ∙ calm' (vertex_in ranks r p)) in
+      let marks : length (marked_places s.vertices) ≡ 0 = none_counted 0 s.vertices (λ p. ap (λ (w : Vertex). w.improved) (vertex_is k l r s there p) ∙ calm' (vertex_in ranks r p)) in
       let vote : sssp_rules.vote s ≡ 0 = vote_later s (λ z. absurd (omega arith)) ∙ marks in
       omega (arith, vote)) in
       let total : sum_by sssp_rules.vote (all k) ≤ length (all k) * 0 = sum_by-le sssp_rules.vote 0 (all k) each in

@@ -8,7 +8,7 @@ use Rattle.std.proofs.lemmas.Option.{same_Some}
 use Rattle.bale_items.specs.declared.triple.Triple.{Triple}
 use Rattle.list_laws.proofs.Lists.{find, within, get_once}
 use Rattle.mtx_text.specs.Sparse.{Sparse}
-use Rattle.mtx_text.specs.Cells.{gathered}
+use Rattle.mtx_text.specs.Cells.{gathered_cells}
 use Rattle.round_program.specs.Canonical.{absorbed_round, states_at, vote_sum, InRound}
 use Rattle.round_program.proofs.Members.{in_round, absorbed_in}
 use Rattle.sparse_rows.specs.Owners.{places_for}
@@ -16,7 +16,7 @@ use Rattle.least_walks.specs.declared.table.Edge.{Edge}
 use Rattle.least_walks.specs.declared.vertices.Vertex.{Vertex}
 use Rattle.least_walks.specs.Walks.{IsWalk, weight_of, AtMost}
 use Rattle.least_walks.specs.Tables.{table_of}
-use Rattle.least_walks.specs.Vertices.{unreached}
+use Rattle.least_walks.specs.Vertices.{unreached_vertex}
 use Rattle.least_walks.proofs.Offered.{weighing}
 use Rattle.least_walks.proofs.Settled.{cost, walk_push, weight_push}
 use Rattle.app_sssp.specs.Sssps.{SsspState, sssp_rules, table_after}
@@ -72,13 +72,13 @@ module _ (ranks : ℕ) (m : Sparse) (source : ℕ) (some : 0 < ranks) (g : IsGra
 
   -- ---- The start
 
-  vertex_first : (v : ℕ) → vertex_at ranks (over 0) v ≡ get_or (vertices_begin ranks m.rows source (v % ranks)) (v / ranks) unreached
+  vertex_first : (v : ℕ) → vertex_at ranks (over 0) v ≡ get_or (vertices_begin ranks m.rows source (v % ranks)) (v / ranks) unreached_vertex
   vertex_first v = at_vertex ranks (over 0) (v % ranks) (first ranks m source (v % ranks)) v (first_at ranks m source (v % ranks) some g (mod-lt v some)) refl
 
   at_source : vertex_at ranks (over 0) source ≡ weighing 0
   at_source = vertex_first source ∙ begin_source ranks m.rows source some source_in
 
-  at_other : (v : ℕ) → v ≢ source → vertex_at ranks (over 0) v ≡ unreached
+  at_other : (v : ℕ) → v ≢ source → vertex_at ranks (over 0) v ≡ unreached_vertex
   at_other v d = vertex_first v ∙ begin_other ranks m.rows source v some d
 
   -- ---- The least weights
@@ -124,7 +124,7 @@ module _ (ranks : ℕ) (m : Sparse) (source : ℕ) (some : 0 < ranks) (g : IsGra
             let here : vertex_at ranks (over 0) v ≡ weighing 0 = ap (vertex_at ranks (over 0)) same ∙ at_source in
             ap (λ (x : Vertex). x.improved) here ∙ sym (ap (λ (x : Vertex). falls None x.weight) here)
         | inr other ↦
-            let here : vertex_at ranks (over 0) v ≡ unreached = at_other v other in
+            let here : vertex_at ranks (over 0) v ≡ unreached_vertex = at_other v other in
             ap (λ (x : Vertex). x.improved) here ∙ sym (ap (λ (x : Vertex). falls None x.weight) here)
       ]
   fresh_is (suc k) l v =
@@ -155,10 +155,10 @@ module _ (ranks : ℕ) (m : Sparse) (source : ℕ) (some : 0 < ranks) (g : IsGra
   -- ---- The edges that a rank keeps
 
   abbrev pub edges_of : ℕ → List (List Edge)
-  edges_of r = table_of ranks (places_for ranks m.rows) 0 (2 ^ 64 - 1) (gathered (own_edges ranks r m.entries))
+  edges_of r = table_of ranks (places_for ranks m.rows) 0 (2 ^ 64 - 1) (gathered_cells (own_edges ranks r m.entries))
 
   first_table : (r : ℕ) → table_after (first ranks m source r) ≡ edges_of r
-  first_table r = ap (λ n. table_of ranks n 0 (2 ^ 64 - 1) (gathered (own_edges ranks r m.entries))) (begin_len ranks m.rows source r)
+  first_table r = ap (λ n. table_of ranks n 0 (2 ^ 64 - 1) (gathered_cells (own_edges ranks r m.entries))) (begin_len ranks m.rows source r)
 
   table_stays : (s : SsspState) (votes : ℕ) (vs : List Vertex) → table_after (record (sssp_rules.ended s votes) { vertices = vs }) ≡ table_after s
   table_stays s votes vs =

@@ -18,12 +18,12 @@ use Rattle.sparse_rows.proofs.Gathering.{row_of, pairs_filter, pairs_map}
 use Rattle.sparse_rows.proofs.Places.{place_below}
 use Rattle.least_walks.specs.declared.vertices.Vertex.{Vertex}
 use Rattle.least_walks.specs.Tables.{edge_of, in_range, is_kept, offer, offers_from}
-use Rattle.least_walks.specs.Vertices.{unreached, marked_from}
+use Rattle.least_walks.specs.Vertices.{unreached_vertex, marked_from}
 use Rattle.least_walks.proofs.Members.{has_filtered, was_filtered, has_mapped, was_mapped}
 use Rattle.app_sssp.proofs.Stages.{sum_is, word_is}
 use Rattle.app_topo.proofs.Counting.{counted, found_by}
 use Rattle.app_topo.proofs.TopoReady.{Less, range_up, rising_same}
-use Rattle.round_tables.specs.Sssp.{offered}
+use Rattle.round_tables.specs.Sssp.{vertex_offers}
 
 -- ---- Lists
 
@@ -50,7 +50,7 @@ was_in_range n i h =
     omega arith
 
 -- a list of marks as a filter of places
-pub marks_are : (f : ℕ → Bool) (k : ℕ) (vs : List Vertex) → ((i : ℕ) → i < length vs → f (k + i) ≡ (get_or vs i unreached).improved) → marked_from k vs ≡ filter f (range_with_len k (length vs))
+pub marks_are : (f : ℕ → Bool) (k : ℕ) (vs : List Vertex) → ((i : ℕ) → i < length vs → f (k + i) ≡ (get_or vs i unreached_vertex).improved) → marked_from k vs ≡ filter f (range_with_len k (length vs))
 marks_are f k [] h = refl
 marks_are f k (v ∷ vs) h =
     let here : f k ≡ v.improved = ap f (let z : k ≡ k + 0 = omega arith in z) ∙ h 0 (omega arith) in
@@ -145,7 +145,7 @@ own_edges_are ranks r p cells low h =
 
 -- what is offered along them
 pub offers_are : (ranks : ℕ) (o : Option ℕ) (cells : List Triple) → ((w : ℕ) → o ≡ Some w → w ≤ 2 ^ 60) → All IsLight cells
-    → offers_from o (map (edge_of ranks) cells) ≡ offered ranks o cells
+    → offers_from o (map (edge_of ranks) cells) ≡ vertex_offers ranks o cells
 offers_are ranks None cells low h = refl
 offers_are ranks (Some w) cells low h =
     map-map (offer w) (edge_of ranks) cells

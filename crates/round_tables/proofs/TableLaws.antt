@@ -13,7 +13,7 @@ use Rattle.app_histo_ig.proofs.HistoTable.{histo}
 use Rattle.app_histo_ig.proofs.IgTable.{ig, ig_sums}
 use Rattle.app_permute.specs.Permutes.{permute_rules}
 use Rattle.app_permute.specs.PermuteRuns.{permute_begins}
-use Rattle.app_permute.specs.PermuteTable.{to_rows, to_columns, to_new_rows}
+use Rattle.app_permute.specs.PermuteTable.{permute_to_rows, to_columns, to_new_rows}
 use Rattle.app_permute.specs.Transposes.{transpose_rules}
 use Rattle.app_permute.specs.TransposeRuns.{transpose_begins}
 use Rattle.app_permute.specs.TransposeTable.{turned_entries}
@@ -39,7 +39,7 @@ table_laws =
       sums = λ ranks m. follows_one sums_rules ranks (sums_begins ranks m) (values ranks m) (λ s. refl) (ig_sums ranks m).rounds (ig_sums ranks m).values_sent;
       permute = λ ranks m p q some is hp hq.
           let t = permute ranks m p q some is hp hq in
-          follows_three permute_rules ranks (permute_begins ranks m p q) (to_rows ranks m) (to_columns ranks m p) (to_new_rows ranks m p q) (λ s. refl) t.rounds t.rows_sent t.columns_sent t.new_rows_sent;
+          follows_three permute_rules ranks (permute_begins ranks m p q) (permute_to_rows ranks m) (to_columns ranks m p) (to_new_rows ranks m p q) (λ s. refl) t.rounds t.rows_sent t.columns_sent t.new_rows_sent;
       transpose = λ ranks m. follows_one transpose_rules ranks (transpose_begins ranks m) (turned_entries ranks m) (λ s. refl) (transpose ranks m).rounds (transpose ranks m).entries_sent;
       topo = λ ranks m some square is. topo_table ranks m some square is;
       sssp = λ ranks m source some g source_in. sssp_table ranks m source some g source_in;

@@ -17,10 +17,9 @@ use Rattle.round_program.proofs.Members.{in_round}
 use Rattle.sparse_rows.specs.Deals.{dealt}
 use Rattle.sparse_rows.specs.Emits.{Emit}
 use Rattle.sparse_rows.proofs.Deals.{filter_filter}
-use Rattle.sparse_rows.proofs.EveryEntry.{every_owned}
 use Rattle.sparse_rows.proofs.Starts.{made_at, made_from}
 use Rattle.app_topo.specs.Levels.{Claim, col_claims}
-use Rattle.app_topo.specs.Topos.{TopoState, topo_rules, number_at, entered, claimed_by, fallen}
+use Rattle.app_topo.specs.Topos.{TopoState, topo_rules, number_at, after_entry, claimed_by, after_fall}
 use Rattle.app_topo.specs.TopoRuns.{topo_begins, topo_starts}
 use Rattle.app_topo.specs.TopoTable.{HasTopoRounds, entries_told, level_at, rows_claim, columns_fall}
 use Rattle.app_topo.specs.laws.TopoLaws.{topo_laws}
@@ -31,7 +30,7 @@ use Rattle.app_topo.proofs.TopoTable.{topo}
 use Rattle.app_topo.proofs.TopoTables.{table, table_at, added_all, share, IsFor, added_total, came_share}
 use Rattle.app_topo.proofs.TopoStates.{claims, next, claim_row, claim_column, claim_item, claiming}
 use Rattle.app_topo.proofs.TopoClaims.{claims_all, each_claimed, every, one_each, claims_short, col_few, come_claims, next_inside}
-use Rattle.app_topo.proofs.TopoClaimRound.{all_claiming, IsClaiming}
+use Rattle.app_topo.proofs.TopoClaimRound.{all_claiming, IsClaiming, claims_absorbed}
 use Rattle.app_topo.proofs.TopoRun.{at_claims}
 use Rattle.round_tables.specs.Tables.{Table, IsTopoTable, columns_claimed, topo_sends, topo_vote}
 use Rattle.round_tables.specs.Follows.{FollowsTable, HasTable, Vote}
@@ -203,15 +202,15 @@ module _ (ranks r n : ℕ) (low : r < ranks) where
 
 keeps_fresh : (s : TopoState) (from : ℕ) (x : Item) → s.round % 2 ≡ 0 → ((topo_rules.absorbed s from x).fresh ≡ s.fresh) × ((topo_rules.absorbed s from x).round ≡ s.round)
 keeps_fresh s from x even =
-    let is : topo_rules.absorbed s from x ≡ cond (eqb s.round 0) (entered s x) (fallen s x) =
-    ap (λ b. cond (eqb s.round 0) (entered s x) (cond b (claimed_by s x) (fallen s x))) (ne_eqb (s.round % 2) 1 (λ o. absurd (omega arith))) in
+    let is : topo_rules.absorbed s from x ≡ cond (eqb s.round 0) (after_entry s x) (after_fall s x) =
+    ap (λ b. cond (eqb s.round 0) (after_entry s x) (cond b (claimed_by s x) (after_fall s x))) (ne_eqb (s.round % 2) 1 (λ o. absurd (omega arith))) in
     (ap (λ (t : TopoState). t.fresh) is ∙ fresh_in (eqb s.round 0), ap (λ (t : TopoState). t.round) is ∙ round_in (eqb s.round 0))
   where
-    fresh_in : (b : Bool) → (cond b (entered s x) (fallen s x)).fresh ≡ s.fresh
+    fresh_in : (b : Bool) → (cond b (after_entry s x) (after_fall s x)).fresh ≡ s.fresh
     fresh_in true = refl
     fresh_in false = refl
 
-    round_in : (b : Bool) → (cond b (entered s x) (fallen s x)).round ≡ s.round
+    round_in : (b : Bool) → (cond b (after_entry s x) (after_fall s x)).round ≡ s.round
     round_in true = refl
     round_in false = refl
 
@@ -290,16 +289,6 @@ module _ (ranks : ℕ) (m : Sparse) (some : 0 < ranks) (square : m.rows ≡ m.co
       ap length (filter_agree (first_for ranks r (λ j. col_claims j (claims m t)) (come_claims ranks m t r)) (λ j. nat_lt 0 (col_claims j (next m t)) && eqb (j % ranks) r) (own_first t r) (range_with_len 0 m.rows)
       ∙ sym (filter_filter (λ j. eqb (j % ranks) r) (λ j. nat_lt 0 (col_claims j (next m t))) (range_with_len 0 m.rows)))
 
-  -- what a rank has absorbed in an odd round
-  claims_absorbed : (t r : ℕ) → r < ranks → IsClaiming ranks m t → slice_get (absorbed_round topo_rules (all_claiming ranks m t)) r ≡ Some (claims_all (claiming ranks m t r) (come_claims ranks m t r))
-  claims_absorbed t r low begun =
-      let odd : (2 * t + 1) % 2 ≡ 1 = omega arith in
-      every_owned topo_rules topo_laws ranks (2 * t + 1) (m.rows ∷ []) (2 * m.rows + 2) (all_claiming ranks m t) (claim_row ranks) (claim_column ranks) claim_item (next m t)
-      begun (λ k d l. mod-lt _ some)
-      (λ f u here. ap topo_rules.emissions (sym (made_from (claiming ranks m t) ranks f u here).1))
-      r (claiming ranks m t r) (made_at (claiming ranks m t) ranks r low)
-      ∙ ap Some (each_claimed (claiming ranks m t r) (come_claims ranks m t r) (λ z. absurd (omega arith)) odd)
-
   few_come : (t r : ℕ) → length (come_claims ranks m t r) ≤ m.rows
   few_come t r =
       let size : length (come_claims ranks m t r) ≡ length (dealt (claim_column ranks) r (next m t)) = length-map (dealt (claim_column ranks) r (next m t)) (λ c. (claim_row ranks c, claim_item c)) in
@@ -328,7 +317,7 @@ module _ (ranks : ℕ) (m : Sparse) (some : 0 < ranks) (square : m.rows ≡ m.co
       let before : states_at topo_rules starts (2 * t + 1) ≡ all_claiming ranks m t = at_claims ranks m t some square is small in
       let begun : IsClaiming ranks m t = subst (InRound topo_rules ranks (2 * t + 1) (m.rows ∷ []) (2 * m.rows + 2)) before (in_it (2 * t + 1) (omega arith)) in
       let same : s ≡ claims_all (claiming ranks m t r) (come_claims ranks m t r) =
-      get_once (absorbed_round topo_rules (all_claiming ranks m t)) r s _ (ap (λ ss. slice_get (absorbed_round topo_rules ss) r) (sym before) ∙ at) (claims_absorbed t r low begun) in
+      get_once (absorbed_round topo_rules (all_claiming ranks m t)) r s _ (ap (λ ss. slice_get (absorbed_round topo_rules ss) r) (sym before) ∙ at) (claims_absorbed ranks m t r some low begun) in
       let all : TopoState = claims_all (claiming ranks m t r) (come_claims ranks m t r) in
       let counted : all.fresh ≡ 0 + claimed_once ranks r m.rows (λ j. col_claims j (claims m t)) (come_claims ranks m t r) =
       fresh_is ranks r m.rows low (λ j. col_claims j (claims m t)) (claiming ranks m t r) (come_claims ranks m t r) refl refl (come_for t r) (λ j. omega (arith, col_few m t j)) (omega arith) in

@@ -6,7 +6,7 @@ use Rattle.std.specs.List.{filter, flat_map, fold, list_any, range_with_len}
 use Rattle.bale_items.specs.declared.Item.{Item}
 use Rattle.bale_items.specs.declared.triple.Triple.{Triple}
 use Rattle.mtx_text.specs.Sparse.{Sparse}
-use Rattle.mtx_text.specs.Cells.{gathered}
+use Rattle.mtx_text.specs.Cells.{gathered_cells}
 use Rattle.round_program.specs.Canonical.{HasRounds}
 use Rattle.sparse_rows.specs.Deals.{dealt}
 use Rattle.least_walks.specs.Vertices.{is_better, lesser, weight_in}
@@ -17,7 +17,7 @@ use Rattle.delta_step.specs.declared.phase.Phase.TheVariants.{First, Find, Light
 use Rattle.delta_step.specs.Deltas.{delta_rules, bucket_of}
 use Rattle.delta_step.specs.DeltaRuns.{delta_starts}
 use Rattle.sparse_rows.specs.Emits.{item, Emit}
-use Rattle.round_tables.specs.Sssp.{to_rows, offered}
+use Rattle.round_tables.specs.Sssp.{to_rows, vertex_offers}
 
 -- What all ranks together know as a round is over.
 pub record Look : Type 0 where
@@ -118,7 +118,7 @@ least_pending ranks m x r = fold (λ w v. lesser w (x.found v)) None (own_vertic
 -- (j, w + v, 0)
 abbrev pub offers : ℕ → Sparse → (ℕ → Option ℕ) → (ℕ → Bool) → (Triple → Bool) → ℕ → List (ℕ × Item)
 offers ranks m found test wanted r =
-    flat_map (λ i. offered ranks (found i) (filter (λ t. t.i == i && wanted t) (gathered m.entries)))
+    flat_map (λ i. vertex_offers ranks (found i) (filter (λ t. t.i == i && wanted t) (gathered_cells m.entries)))
     (own_vertices ranks m test r)
 
 -- What a rank emits in a round of each kind.

@@ -6,7 +6,7 @@ use Rattle.bale_items.specs.declared.Item.{Item}
 use Rattle.bale_items.specs.declared.triple.Triple.{Triple}
 use Rattle.bale_items.specs.Bits.{twos_complement}
 use Rattle.mtx_text.specs.Sparse.{Sparse}
-use Rattle.mtx_text.specs.Cells.{gathered}
+use Rattle.mtx_text.specs.Cells.{gathered_cells}
 use Rattle.round_program.specs.Canonical.{HasRounds}
 use Rattle.sparse_rows.specs.Deals.{dealt}
 use Rattle.sparse_rows.specs.Owners.{own_entries}
@@ -52,9 +52,9 @@ improved_with m found k = filter (improves found k) (range_with_len 0 m.rows)
 -- What a vertex of a weight offers along edges: to the owner of each edge's end, the end and the
 -- sum of the weights.
 -- offered 2 (Some 5) ((1,2,2)) = (2,7,0) to rank 0
-abbrev pub offered : ℕ → Option ℕ → List Triple → List (ℕ × Item)
-offered ranks None edges = []
-offered ranks (Some w) edges = map (λ t. (t.j % ranks, item t.j (w + nat_abs t.v) 0)) edges
+abbrev pub vertex_offers : ℕ → Option ℕ → List Triple → List (ℕ × Item)
+vertex_offers ranks None edges = []
+vertex_offers ranks (Some w) edges = map (λ t. (t.j % ranks, item t.j (w + nat_abs t.v) 0)) edges
 
 -- Round k + 1: what the own vertices that improve with k edges offer.
 -- for each own vertex i that improves with k edges, ascending, of weight w, and each edge (i,j,v)
@@ -63,7 +63,7 @@ offered ranks (Some w) edges = map (λ t. (t.j % ranks, item t.j (w + nat_abs t.
 -- 0, in round 2 rank 1 emits (2,5,0) to rank 0, and in round 3 no rank emits anything
 abbrev pub offers : ℕ → Sparse → (ℕ → ℕ → Option ℕ) → ℕ → ℕ → List (ℕ × Item)
 offers ranks m found k r =
-    flat_map (λ i. offered ranks (found k i) (filter (λ t. t.i == i) (gathered m.entries)))
+    flat_map (λ i. vertex_offers ranks (found k i) (filter (λ t. t.i == i) (gathered_cells m.entries)))
     (dealt (λ i. i % ranks) r (improved_with m found k))
 
 -- sssp tells the entries in round 0. Then it has a round for each number of edges with which some

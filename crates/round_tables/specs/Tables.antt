@@ -7,7 +7,7 @@ use Rattle.mtx_text.specs.Sparse.{Sparse}
 use Rattle.sparse_rows.specs.Deals.{dealt}
 use Rattle.app_histo_ig.specs.HistoTable.{ones}
 use Rattle.app_histo_ig.specs.IgTable.{values, queries, replies}
-use Rattle.app_permute.specs.PermuteTable.{to_rows, to_columns, to_new_rows}
+use Rattle.app_permute.specs.PermuteTable.{permute_to_rows, to_columns, to_new_rows}
 use Rattle.app_permute.specs.TransposeTable.{turned_entries}
 use Rattle.app_topo.specs.Levels.{col_claims}
 use Rattle.app_topo.specs.TopoTable.{entries_told, level_at, rows_claim, columns_fall}
@@ -21,16 +21,16 @@ use Rattle.round_tables.specs.Delta.{Look, is_active, some_active, next_of, Chan
 pub record Table : Type 0 where
   -- how many rounds there are
   pub rounds : ℕ
-  -- what a rank sends in a round, in order: the rank that each item goes to, and the item
+  -- line n r: what rank r sends in round n, in order: the rank that each item goes to, and the item
   pub line : ℕ → ℕ → List (ℕ × Item)
-  -- a rank's vote on a round
+  -- vote n r: the vote of rank r on round n
   pub vote : ℕ → ℕ → ℕ
 
 -- One round, after which nobody votes for another.
 abbrev pub one_round : (ℕ → List (ℕ × Item)) → Table
 one_round line = record { rounds = 1; line = λ n. line; vote = λ n r. 0 }
 
--- Three rounds, whose votes don't count.
+-- Three rounds, whose votes don't count: their number alone says that they go on.
 abbrev pub one_of_three : {X : Type 0} → X → X → X → ℕ → X
 one_of_three a b c zero = a
 one_of_three a b c (suc zero) = b
@@ -52,7 +52,7 @@ abbrev pub sums_table : ℕ → Sparse → Table
 sums_table ranks m = one_round (values ranks m)
 
 abbrev pub permute_table : ℕ → Sparse → List ℕ → List ℕ → Table
-permute_table ranks m p q = three_rounds (to_rows ranks m) (to_columns ranks m p) (to_new_rows ranks m p q)
+permute_table ranks m p q = three_rounds (permute_to_rows ranks m) (to_columns ranks m p) (to_new_rows ranks m p q)
 
 abbrev pub transpose_table : ℕ → Sparse → Table
 transpose_table ranks m = one_round (turned_entries ranks m)
@@ -68,20 +68,24 @@ abbrev pub columns_claimed : ℕ → Sparse → ℕ → ℕ → List ℕ
 columns_claimed ranks m t r =
     dealt (λ j. j % ranks) r (filter (λ j. nat_lt 0 (col_claims j (level_at m t))) (range_with_len 0 m.rows))
 
--- Round 0: the entries are told; round 2t + 1: the rows of level t claim; round 2t + 2: the columns
--- that they claimed fall.
+-- Round 0: entries go to the owners of their rows and columns; round 2t + 1: each row of level t
+-- claims its column; round 2t + 2: the owners of rows learn that a column with an entry there is
+-- claimed. The third number of an item is its kind: 0 for (row, column) to the row's owner, 1 and 2
+-- for (column, row) to the column's owner, 3 for (row, column) to the row's owner.
 abbrev pub topo_sends : ℕ → Sparse → ℕ → ℕ → List (ℕ × Item)
 topo_sends ranks m n =
     if n == 0 then entries_told ranks m
     else if n % 2 == 1 then rows_claim ranks m (n / 2) else columns_fall ranks m (n / 2 - 1)
 
--- In round 2t + 1 a rank votes how many of its columns were claimed; in all others 0.
+-- In round 2t + 1 a rank votes how many of its columns were claimed. Votes of even rounds are 0 and
+-- end nothing: the run ends after the first odd round whose votes sum to 0, which is that of the
+-- first empty level.
 abbrev pub topo_vote : ℕ → Sparse → ℕ → ℕ → ℕ
 topo_vote ranks m n r = if n % 2 == 1 then length (columns_claimed ranks m (n / 2) r) else 0
 
--- topo has 2l + 2 rounds, where l levels have rows.
--- of (0,0), (0,1), (1,1), with levels 0 and 1: six rounds, with votes in rounds 1 and 3, and none
--- in round 5, which is the last
+-- topo has 2l + 2 rounds, where l is the number of levels that aren't empty.
+-- of (0,0), (0,1), (1,1), with levels 0 and 1: six rounds, with votes above 0 in rounds 1 and 3;
+-- round 5, whose votes are all 0, is the last
 pub record IsTopoTable (ranks : ℕ) (m : Sparse) (t : Table) : Type 0 where
   pub levels : ℕ
   pub some : (k : ℕ) → k < levels → level_at m k ≢ []
@@ -92,7 +96,7 @@ pub record IsTopoTable (ranks : ℕ) (m : Sparse) (t : Table) : Type 0 where
 
 -- Round 0: the entries are told; round k + 1: the vertices that improved with k edges offer.
 abbrev pub sssp_line : ℕ → Sparse → (ℕ → ℕ → Option ℕ) → ℕ → ℕ → List (ℕ × Item)
-sssp_line ranks m found zero = to_rows ranks m
+sssp_line ranks m found zero = permute_to_rows ranks m
 sssp_line ranks m found (suc k) = offers ranks m found k
 
 -- In round k from 1 on a rank votes how many of its vertices improved with k edges.
@@ -115,7 +119,7 @@ pub record IsSsspTable (ranks : ℕ) (m : Sparse) (source : ℕ) (t : Table) : T
 
 -- Round 0: the entries are told; then each round sends what the look after the round before gives.
 abbrev pub delta_line : ℕ → Sparse → ℕ → (ℕ → Look) → ℕ → ℕ → List (ℕ × Item)
-delta_line ranks m width look zero = to_rows ranks m
+delta_line ranks m width look zero = permute_to_rows ranks m
 delta_line ranks m width look (suc n) = line_in (next_of m width (look n)) ranks m width (look n)
 
 -- A rank's vote on a round of each kind: on a find round how many of its vertices are pending, on a

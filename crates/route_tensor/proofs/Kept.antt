@@ -9,7 +9,7 @@ use Rattle.std.proofs.lemmas.List.{take-take, length-take}
 use Rattle.route_tensor.specs.Grid.{ranks, IsGrid}
 use Rattle.bale_items.specs.declared.item.Tag.{Tag}
 use Rattle.route_tensor.specs.declared.grid.GridError.TheVariants.{Order, ZeroDim, TooManyRanks}
-use Rattle.route_tensor.specs.Kept.{IsKept, dims_kept}
+use Rattle.route_tensor.specs.GridNumbers.{IsKeptGrid, dims_kept}
 use Rattle.route_tensor.specs.Refusal.{refusal}
 use Rattle.route_tensor.specs.Tag.{digit, rank_of, tag_rank, IsFair}
 use Rattle.route_tensor.proofs.Tags.{tag_rank_below}
@@ -65,19 +65,19 @@ ranks_padded (suc (suc zero)) n1 n2 n3 k = rw (k.third (omega arith)) (sym (mul_
 ranks_padded (suc (suc (suc zero))) n1 n2 n3 k = ap (λ m. n1 * (n2 * m)) (mul-one n3) ∙ sym (mul_assoc n1 n2 n3)
 ranks_padded (suc (suc (suc (suc h)))) n1 n2 n3 k = absurd (omega (arith, k.few))
 
-pub ranks_kept : (hops n1 n2 n3 : ℕ) → IsKept hops n1 n2 n3 → ranks (dims_kept hops n1 n2 n3) ≡ n1 * n2 * n3
+pub ranks_kept : (hops n1 n2 n3 : ℕ) → IsKeptGrid hops n1 n2 n3 → ranks (dims_kept hops n1 n2 n3) ≡ n1 * n2 * n3
 ranks_kept hops n1 n2 n3 k =
     let some : 1 ≤ hops = omega (arith, k.grid.some, length-take hops (n1 ∷ n2 ∷ n3 ∷ [])) in
     ranks_padded hops n1 n2 n3 (record { some = some; few = k.few; second = k.second; third = k.third })
 
-positive_kept : (hops n1 n2 n3 : ℕ) → IsKept hops n1 n2 n3 → (0 < n1) × (0 < n2) × (0 < n3)
+positive_kept : (hops n1 n2 n3 : ℕ) → IsKeptGrid hops n1 n2 n3 → (0 < n1) × (0 < n2) × (0 < n3)
 positive_kept zero n1 n2 n3 k = absurd (omega (arith, k.grid.some))
 positive_kept (suc zero) n1 n2 n3 k = (k.grid.positive 0 0 (omega arith), omega (arith, k.second (omega arith)), omega (arith, k.third (omega arith)))
 positive_kept (suc (suc zero)) n1 n2 n3 k = (k.grid.positive 0 0 (omega arith), k.grid.positive 1 0 (omega arith), omega (arith, k.third (omega arith)))
 positive_kept (suc (suc (suc zero))) n1 n2 n3 k = (k.grid.positive 0 0 (omega arith), k.grid.positive 1 0 (omega arith), k.grid.positive 2 0 (omega arith))
 positive_kept (suc (suc (suc (suc h)))) n1 n2 n3 k = absurd (omega (arith, k.few))
 
-pub bounds_kept : (hops n1 n2 n3 : ℕ) → IsKept hops n1 n2 n3 → Bounds n1 n2 n3
+pub bounds_kept : (hops n1 n2 n3 : ℕ) → IsKeptGrid hops n1 n2 n3 → Bounds n1 n2 n3
 bounds_kept hops n1 n2 n3 k =
     let p = positive_kept hops n1 n2 n3 k in
     bounds_of n1 n2 n3 p.0 p.1 p.2 (subst (λ m. m ≤ 64) (ranks_kept hops n1 n2 n3 k) k.grid.small)
@@ -112,7 +112,7 @@ strides_kept hops n1 n2 n3 h dims e l =
     }
 
 -- a tag's digits as the coordinates of a rank
-pub rank_of_kept : (hops n1 n2 n3 : ℕ) (tag : Tag) → IsKept hops n1 n2 n3 → ((i : ℕ) → hops < i → digit tag i ≡ 0) →
+pub rank_of_kept : (hops n1 n2 n3 : ℕ) (tag : Tag) → IsKeptGrid hops n1 n2 n3 → ((i : ℕ) → hops < i → digit tag i ≡ 0) →
     tag_rank (dims_kept hops n1 n2 n3) tag ≡ tag.d1 + n1 * (tag.d2 + n2 * tag.d3)
 unfolding rank_of digit
 rank_of_kept zero n1 n2 n3 tag k past = absurd (omega (arith, k.grid.some))
@@ -222,7 +222,7 @@ refusal_order dims e = cond-true _ _ _ (elim e as (λ _. (eqb (length dims) 0 ||
 positive_three : (n1 n2 n3 : ℕ) → 0 < n1 → 0 < n2 → 0 < n3 → All (λ n. 0 < n) (n1 ∷ n2 ∷ n3 ∷ [])
 positive_three n1 n2 n3 a b c = All-cons (λ n. 0 < n) n1 (n2 ∷ n3 ∷ []) a (All-cons (λ n. 0 < n) n2 (n3 ∷ []) b (All-cons (λ n. 0 < n) n3 [] c (All-nil (λ n. 0 < n))))
 
-pub kept_made : (hops n1 n2 n3 : ℕ) → IsPadded hops n1 n2 n3 → 0 < n1 * n2 * n3 → n1 * n2 * n3 ≤ 64 → IsKept hops n1 n2 n3
+pub kept_made : (hops n1 n2 n3 : ℕ) → IsPadded hops n1 n2 n3 → 0 < n1 * n2 * n3 → n1 * n2 * n3 ≤ 64 → IsKeptGrid hops n1 n2 n3
 kept_made hops n1 n2 n3 k z e =
     let some = some_three n1 n2 n3 z in
     let dims = dims_kept hops n1 n2 n3 in
@@ -244,7 +244,7 @@ pub record TagParts (n1 n2 : ℕ) (dims : List ℕ) (tag : Tag) : Type 0 where
   pub value : tag.d1 + n1 * (tag.d2 + n2 * tag.d3) ≡ tag_rank dims tag
   pub rank : tag.d1 + n1 * (tag.d2 + n2 * tag.d3) < ranks dims
 
-parts_of : (hops n1 n2 n3 h : ℕ) (tag : Tag) → IsKept hops n1 n2 n3 → IsFair (dims_kept hops n1 n2 n3) h tag → TagParts n1 n2 (dims_kept hops n1 n2 n3) tag
+parts_of : (hops n1 n2 n3 h : ℕ) (tag : Tag) → IsKeptGrid hops n1 n2 n3 → IsFair (dims_kept hops n1 n2 n3) h tag → TagParts n1 n2 (dims_kept hops n1 n2 n3) tag
 parts_of hops n1 n2 n3 h tag k f =
     let dims = dims_kept hops n1 n2 n3 in
     let x = tag.d2 + n2 * tag.d3 in
@@ -256,7 +256,7 @@ parts_of hops n1 n2 n3 h tag k f =
     let all : tag.d1 + n1 * x < 64 = omega (arith, v, r, k.grid.small) in
     record { product = omega arith; inner = omega arith; outer = omega arith; whole = all; value = sym v; rank = omega arith }
 
-pub tag_parts : (hops n1 n2 n3 h : ℕ) (dims : List ℕ) (tag : Tag) → IsKept hops n1 n2 n3 → dims_kept hops n1 n2 n3 ≡ dims → IsFair dims h tag → TagParts n1 n2 dims tag
+pub tag_parts : (hops n1 n2 n3 h : ℕ) (dims : List ℕ) (tag : Tag) → IsKeptGrid hops n1 n2 n3 → dims_kept hops n1 n2 n3 ≡ dims → IsFair dims h tag → TagParts n1 n2 dims tag
 tag_parts hops n1 n2 n3 h dims tag k e f = subst (λ ds. TagParts n1 n2 ds tag) e (parts_of hops n1 n2 n3 h tag k (subst (λ ds. IsFair ds h tag) (sym e) f))
 
 -- a list of one to three numbers is that of its numbers, with 1 for those that are not there

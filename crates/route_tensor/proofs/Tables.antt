@@ -8,7 +8,7 @@ use Rattle.route_tensor.specs.Link.{links}
 use Rattle.route_tensor.specs.Ends.{sender_at, reader_at}
 use Rattle.route_tensor.specs.Neighbour.{hop_to, neighbour, out_index, in_index}
 use Rattle.route_tensor.specs.Tag.{IsFair, tag_rank, sender_of}
-use Rattle.route_tensor.specs.Routes.{Site, first_step, about, IsTable}
+use Rattle.route_tensor.specs.Routes.{Site, first_step, about, IsRankTable}
 use Rattle.route_tensor.proofs.Coordinates.{place_below}
 use Rattle.route_tensor.proofs.Neighbours.{out_stands, in_stands, to_neighbour, hop_to_has}
 use Rattle.route_tensor.proofs.Links.{sum_take_le, sum_small, before_more, coord_in}
@@ -20,8 +20,8 @@ site dims r = record { dims = dims; rank = r }
 
 -- the tables of the rank that contracts see
 pub table_of : (s : Site) (dims : List ℕ) (r first_dim : ℕ) (firsts : List Onward) (neighbours : List Neighbour) (numbers : List ℕ) →
-    site dims r ≡ s → IsTable dims r first_dim firsts neighbours numbers → IsTable s.dims s.rank first_dim firsts neighbours numbers
-table_of s dims r first_dim firsts neighbours numbers e t = subst (λ x. IsTable x.dims x.rank first_dim firsts neighbours numbers) e t
+    site dims r ≡ s → IsRankTable dims r first_dim firsts neighbours numbers → IsRankTable s.dims s.rank first_dim firsts neighbours numbers
+table_of s dims r first_dim firsts neighbours numbers e t = subst (λ x. IsRankTable x.dims x.rank first_dim firsts neighbours numbers) e t
 
 -- the number that stands for a link that starts here
 pub record Number (dims : List ℕ) (x i : ℕ) : Type 0 where
@@ -30,14 +30,14 @@ pub record Number (dims : List ℕ) (x i : ℕ) : Type 0 where
   pub hop : hop_to dims x ≡ hop_to dims i
 
 pub number_to_at : (dims : List ℕ) (r first_dim : ℕ) (firsts : List Onward) (neighbours : List Neighbour) (numbers : List ℕ) (l x : ℕ) →
-    IsTable dims r first_dim firsts neighbours numbers → l < links dims → sender_at dims l ≡ r → x ≡ get_or numbers l x → Number dims x (out_index dims l)
+    IsRankTable dims r first_dim firsts neighbours numbers → l < links dims → sender_at dims l ≡ r → x ≡ get_or numbers l x → Number dims x (out_index dims l)
 number_to_at dims r first_dim firsts neighbours numbers l x t q e f =
     let s = out_stands dims r l t.grid q e in
     let v : x ≡ out_index dims l = f ∙ ap (λ m. get_or numbers m x) (sym s.number) ∙ t.number_to (out_index dims l) x s.below in
     record { value = v; below = omega (arith, v, s.below); hop = ap (hop_to dims) v }
 
 pub number_from_at : (dims : List ℕ) (r first_dim : ℕ) (firsts : List Onward) (neighbours : List Neighbour) (numbers : List ℕ) (l x : ℕ) →
-    IsTable dims r first_dim firsts neighbours numbers → l < links dims → reader_at dims l ≡ r → x ≡ get_or numbers l x → Number dims x (in_index dims l)
+    IsRankTable dims r first_dim firsts neighbours numbers → l < links dims → reader_at dims l ≡ r → x ≡ get_or numbers l x → Number dims x (in_index dims l)
 number_from_at dims r first_dim firsts neighbours numbers l x t q e f =
     let s = in_stands dims r l t.grid q e in
     let v : x ≡ in_index dims l = f ∙ ap (λ m. get_or numbers m x) (sym s.number) ∙ t.number_from (in_index dims l) x s.below in
@@ -50,7 +50,7 @@ pub record Sender (dims : List ℕ) (r first_dim i : ℕ) (n : Neighbour) (tag :
   pub small : n.high + tag.d1 + first_dim * tag.d2 < 64
 
 pub sender_by_table : (dims : List ℕ) (r first_dim : ℕ) (firsts : List Onward) (neighbours : List Neighbour) (numbers : List ℕ) (i : ℕ) (n : Neighbour) (tag : Tag) →
-    IsTable dims r first_dim firsts neighbours numbers → i < sum dims → hop_to dims i ≡ length dims → IsFair dims (length dims) tag → n ≡ get_or neighbours i n → Sender dims r first_dim i n tag
+    IsRankTable dims r first_dim firsts neighbours numbers → i < sum dims → hop_to dims i ≡ length dims → IsFair dims (length dims) tag → n ≡ get_or neighbours i n → Sender dims r first_dim i n tag
 sender_by_table dims r first_dim firsts neighbours numbers i n tag t q e f m =
     let g = t.grid in
     let same : n ≡ about dims r i = m ∙ t.each_neighbour i n (omega (arith, t.all_neighbours, q)) in
@@ -68,7 +68,7 @@ pub record HopOf (dims : List ℕ) (n : Neighbour) : Type 0 where
   pub last : n.hop ≤ length dims
 
 pub hop_of_table : (dims : List ℕ) (r first_dim : ℕ) (firsts : List Onward) (neighbours : List Neighbour) (numbers : List ℕ) (i : ℕ) (n : Neighbour) →
-    IsTable dims r first_dim firsts neighbours numbers → i < sum dims → n ≡ get_or neighbours i n → HopOf dims n
+    IsRankTable dims r first_dim firsts neighbours numbers → i < sum dims → n ≡ get_or neighbours i n → HopOf dims n
 hop_of_table dims r first_dim firsts neighbours numbers i n t q m =
     let same : n ≡ about dims r i = m ∙ t.each_neighbour i n (omega (arith, t.all_neighbours, q)) in
     let k = hop_to_has dims i q in
@@ -77,7 +77,7 @@ hop_of_table dims r first_dim firsts neighbours numbers i n t q m =
 
 -- the number of the first neighbour on the next hop
 pub next_small : (dims : List ℕ) (r first_dim : ℕ) (firsts : List Onward) (neighbours : List Neighbour) (numbers : List ℕ) (i : ℕ) (n : Neighbour) →
-    IsTable dims r first_dim firsts neighbours numbers → i < sum dims → n ≡ get_or neighbours i n → n.next ≤ 66
+    IsRankTable dims r first_dim firsts neighbours numbers → i < sum dims → n ≡ get_or neighbours i n → n.next ≤ 66
 next_small dims r first_dim firsts neighbours numbers i n t q m =
     let same : n ≡ about dims r i = m ∙ t.each_neighbour i n (omega (arith, t.all_neighbours, q)) in
     omega (arith, ap (λ x. x.next) same, sum_take_le dims (hop_to dims i + 1 - 1), sum_small dims t.grid)
@@ -96,6 +96,6 @@ first_step_is dims r d x g e = subst (FirstStep dims) (sym e) (record {
 })
 
 pub first_of_table : (dims : List ℕ) (r first_dim : ℕ) (firsts : List Onward) (neighbours : List Neighbour) (numbers : List ℕ) (d : ℕ) (x : Onward) →
-    IsTable dims r first_dim firsts neighbours numbers → d < ranks dims → x ≡ get_or firsts d x → FirstStep dims x
+    IsRankTable dims r first_dim firsts neighbours numbers → d < ranks dims → x ≡ get_or firsts d x → FirstStep dims x
 first_of_table dims r first_dim firsts neighbours numbers d x t q m =
     first_step_is dims r d x t.grid (m ∙ t.each_first d x (omega (arith, t.all_firsts, q)))

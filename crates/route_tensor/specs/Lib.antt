@@ -4,6 +4,6 @@ pub mod Link
 pub mod Ends
 pub mod Tag
 pub mod Pair
-pub mod Kept
+pub mod GridNumbers
 pub mod Neighbour
 pub mod Routes

@@ -45,7 +45,7 @@ passed_on n tag = record {
 }
 
 -- The tables of a rank say what the grid's calls say.
-pub record IsTable (dims : List ℕ) (r first_dim : ℕ) (firsts : List Onward) (neighbours : List Neighbour)
+pub record IsRankTable (dims : List ℕ) (r first_dim : ℕ) (firsts : List Onward) (neighbours : List Neighbour)
     (numbers : List ℕ) : Type 0 where
   pub grid : IsGrid dims
   pub within : r < ranks dims

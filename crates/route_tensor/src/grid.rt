@@ -7,7 +7,7 @@ ghost use Rattle.std.specs.Prelude.{◌≡◌, ℕ, ◌+◌, ◌-◌, ◌*◌, �
 ghost use Rattle.std.specs.List.{slice_index_or};
 ghost use Rattle.std.specs.Result.{result_err};
 ghost use Rattle.route_tensor.specs.Grid.{ranks, dim, coord, place, IsGrid};
-ghost use Rattle.route_tensor.specs.Kept.{dims_kept};
+ghost use Rattle.route_tensor.specs.GridNumbers.{dims_kept};
 ghost use Rattle.route_tensor.specs.Refusal.{refusal};
 ghost use Rattle.route_tensor.specs.Link.{links, IsLink};
 
@@ -39,14 +39,14 @@ pub struct Grid {
 impl Model for Grid {
     ghost use Rattle.std.specs.Prelude.{ℕ, List, length};
     ghost use Rattle.std.specs.List.{slice_index_or};
-    ghost use Rattle.route_tensor.specs.Kept.{IsKept, dims_kept};
-    ghost use Rattle.route_tensor.specs.Kept.Laws.{inverse_of_kept};
+    ghost use Rattle.route_tensor.specs.GridNumbers.{IsKeptGrid, dims_kept};
+    ghost use Rattle.route_tensor.specs.GridNumbers.Laws.{inverse_of_kept};
 
     ghost Value = { List ℕ };
 
     ghost view = { λ g. dims_kept g.hops g.n1 g.n2 g.n3 };
 
-    ghost invariant = { λ g. IsKept g.hops g.n1 g.n2 g.n3 };
+    ghost invariant = { λ g. IsKeptGrid g.hops g.n1 g.n2 g.n3 };
 
     ghost inverse = { λ dims. record {
       hops = length dims;

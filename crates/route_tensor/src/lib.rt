@@ -18,7 +18,7 @@
 //!
 //! The definitions, in the order in which to read them: `Grid` (ranks and coordinates), `Link` and
 //! `Ends` (links and their numbers), `Neighbour`, `Pair` (the way from one rank to another), `Tag`,
-//! `Routes`, `Refusal`. `Kept` is a grid as the code keeps it.
+//! `Routes`, `Refusal`. `GridNumbers` is a grid as the code keeps it.
 #![tactic(auto)]
 
 mod grid;

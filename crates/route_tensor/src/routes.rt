@@ -94,13 +94,13 @@ pub struct Routes {
 }
 
 impl Model for Routes {
-    ghost use Rattle.route_tensor.specs.Routes.{Site, IsTable, IsStamped};
+    ghost use Rattle.route_tensor.specs.Routes.{Site, IsRankTable, IsStamped};
 
     ghost Value = { Site };
 
     ghost view = { λ t. record { dims = t.grid; rank = t.rank } };
 
-    ghost invariant = { λ t. IsTable t.grid t.rank t.first_dim t.firsts.items t.neighbours.items t.numbers.items
+    ghost invariant = { λ t. IsRankTable t.grid t.rank t.first_dim t.firsts.items t.neighbours.items t.numbers.items
         × IsStamped t.grid t.rank t.stamps.items };
 }
 

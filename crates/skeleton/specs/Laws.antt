@@ -4,7 +4,7 @@ use Rattle.std.proofs.lemmas.Bool.Decides.{nat_tests}
 use Rattle.std.proofs.lemmas.List.Elements.{All-nil}
 use Rattle.bale_items.specs.declared.Item.{Item}
 use Rattle.reductions.specs.declared.reduced.Reduction.TheVariants.{Least}
-use Rattle.reductions.specs.Reductions.{reduced}
+use Rattle.reductions.specs.Reductions.{after_item}
 use Rattle.reductions.proofs.Cells.{reduced_comm, reduced_len, vote_low}
 use Rattle.round_program.specs.Laws.{Laws, SameRound, IsItem}
 use Rattle.skeleton.specs.State.{State, IsState, rules, may_be_sent}
@@ -17,7 +17,7 @@ within (n ∷ (c ∷ cs)) ranks round to from x h = absurd (cc)
 
 keeps : (s : State) (f : ℕ) (x : Item) → IsState s → SameRound rules s (rules.absorbed s f x)
 keeps s f x v =
-    let len : length (reduced Least s.cells x.a x.b).cells ≡ length s.cells.cells = reduced_len Least s.cells x.a x.b in
+    let len : length (after_item Least s.cells x.a x.b).cells ≡ length s.cells.cells = reduced_len Least s.cells x.a x.b in
     record {
       valid =
           record {

@@ -4,7 +4,7 @@ use Rattle.std.specs.List.{range_with_len}
 use Rattle.bale_items.specs.declared.Item.{Item}
 use Rattle.bale_items.specs.declared.triple.Triple.{Triple}
 use Rattle.mtx_text.specs.Sparse.{Sparse}
-use Rattle.reductions.specs.Reductions.{begun}
+use Rattle.reductions.specs.Reductions.{at_round_begin}
 use Rattle.sparse_rows.specs.Deals.{dealt}
 use Rattle.skeleton.specs.State.{State}
 
@@ -21,7 +21,7 @@ begins ranks m rank =
       ranks = ranks;
       round = 0;
       sends = map (send_of ranks) (dealt (λ t. t.i % ranks) rank m.entries);
-      cells = begun (replicate m.cols m.rows);
+      cells = at_round_begin (replicate m.cols m.rows);
     }
 
 -- All ranks as they begin.

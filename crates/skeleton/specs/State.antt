@@ -4,7 +4,7 @@ use Rattle.std.specs.Prelude.{[], ◌∷◌, length}
 use Rattle.std.specs.List.{All}
 use Rattle.bale_items.specs.declared.Item.{Item}
 use Rattle.reductions.specs.declared.reduced.Reduction.TheVariants.{Least}
-use Rattle.reductions.specs.Reductions.{ReducedState, begun, reduced, vote_of}
+use Rattle.reductions.specs.Reductions.{ReducedState, at_round_begin, after_item, vote_of}
 use Rattle.round_program.specs.Rules.{Rules}
 use Rattle.round_program.specs.Laws.{is_item}
 
@@ -41,8 +41,8 @@ rules =
       most = λ s. 1;
       emissions = λ s. s.sends;
       may_be_sent = may_be_sent;
-      absorbed = λ s from x. record s { cells = reduced Least s.cells x.a x.b };
+      absorbed = λ s from x. record s { cells = after_item Least s.cells x.a x.b };
       vote = λ s. vote_of s.cells;
       goes_on = λ shape round votes. false;
-      ended = λ s votes. record s { round = min (s.round + 1) (2 ^ 64 - 1); sends = []; cells = begun s.cells.cells };
+      ended = λ s votes. record s { round = min (s.round + 1) (2 ^ 64 - 1); sends = []; cells = at_round_begin s.cells.cells };
     }

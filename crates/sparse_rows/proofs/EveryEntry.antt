@@ -9,7 +9,7 @@ use Rattle.bale_items.specs.declared.Item.{Item}
 use Rattle.list_laws.proofs.Lists.{find, within, all_head, all_tail}
 use Rattle.round_program.specs.Rules.{Rules}
 use Rattle.round_program.specs.Laws.{Laws}
-use Rattle.round_program.specs.Canonical.{items_of, emitted, emitted_of, absorbed_round, InRound}
+use Rattle.round_program.specs.Canonical.{items_of, emissions_to, emitted_of, absorbed_round, InRound}
 use Rattle.round_program.specs.Orders.{absorb_each}
 use Rattle.round_program.proofs.Orders.{canonical_order}
 use Rattle.sparse_rows.specs.Deals.{dealt}
@@ -47,7 +47,7 @@ came_from from to item r f xs =
 -- what each rank emits to each is what is theirs of the list: then so is what each absorbs
 pub every_entry : {S X : Type 0} (R : Rules S) → Laws R → (p n : ℕ) (shape : List ℕ) (most : ℕ) (ss : List S) (from to : X → ℕ) (item : X → Item) (xs : List X)
     → InRound R p n shape most ss → All (λ x. from x < p) xs
-    → ((f r : ℕ) (s : S) → r < p → slice_get ss f ≡ Some s → emitted R s r ≡ map item (dealt to r (dealt from f xs)))
+    → ((f r : ℕ) (s : S) → r < p → slice_get ss f ≡ Some s → emissions_to R s r ≡ map item (dealt to r (dealt from f xs)))
     → (r : ℕ) (s : S) → slice_get ss r ≡ Some s
     → slice_get (absorbed_round R ss) r ≡ Some (absorb_each R s (came_to from to item r xs))
 every_entry R laws p n shape most ss from to item xs all low sends r s at =

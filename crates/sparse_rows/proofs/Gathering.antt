@@ -13,7 +13,7 @@ use Rattle.bale_items.specs.declared.Item.{Item}
 use Rattle.bale_items.specs.declared.triple.Triple.{Triple}
 use Rattle.mtx_text.specs.Sparse.{SamePlace}
 use Rattle.mtx_text.specs.Maps.{is_at, value_at}
-use Rattle.mtx_text.specs.Cells.{is_before, InOrder, raised, raised_all, gathered}
+use Rattle.mtx_text.specs.Cells.{is_before, InOrder, with_value_raised, raised_all, gathered_cells}
 use Rattle.mtx_text.proofs.PlaceOrder.{pairs_head, pairs_tail, pairs_cons, pairs_none, place_cases, not_same}
 use Rattle.mtx_text.proofs.Raised.{at_parts, lifted, most, value_raised, raised_first, raised_later, same_cells}
 use Rattle.mtx_text.proofs.Gathered.{gathered_permutes, gathered_push, gathered_ordered, gathered_itself}
@@ -52,7 +52,7 @@ ordered_differ cells h = λ i j d l m same.
 
 -- ---- The same triples
 
-raised_moves : (t : Triple) (cells : List Triple) → All (Differ t) cells → IsPermutation (t ∷ cells) (raised t cells)
+raised_moves : (t : Triple) (cells : List Triple) → All (Differ t) cells → IsPermutation (t ∷ cells) (with_value_raised t cells)
 raised_moves t [] h = IsPermutation-refl (t ∷ [])
 raised_moves t (c ∷ cells) h =
     elim (place_cases t c) [
@@ -61,22 +61,22 @@ raised_moves t (c ∷ cells) h =
         | inl same ↦ absurd (All-head (Differ t) c cells h (record { row = same.0; col = same.1 }))
         | inr later ↦
             subst (IsPermutation (t ∷ c ∷ cells)) (sym (raised_later t c cells later))
-            (IsPermutation-trans (t ∷ c ∷ cells) (c ∷ t ∷ cells) (c ∷ raised t cells)
+            (IsPermutation-trans (t ∷ c ∷ cells) (c ∷ t ∷ cells) (c ∷ with_value_raised t cells)
             (IsPermutation-sym (c ∷ t ∷ cells) (t ∷ c ∷ cells) (IsPermutation-middle (c ∷ []) t cells))
-            (IsPermutation-cons c (t ∷ cells) (raised t cells) (raised_moves t cells (All-tail (Differ t) c cells h))))
+            (IsPermutation-cons c (t ∷ cells) (with_value_raised t cells) (raised_moves t cells (All-tail (Differ t) c cells h))))
       ]
     ]
 
-pub gathered_cons : (t : Triple) (ts : List Triple) → gathered (t ∷ ts) ≡ raised t (gathered ts)
+pub gathered_cons : (t : Triple) (ts : List Triple) → gathered_cells (t ∷ ts) ≡ with_value_raised t (gathered_cells ts)
 gathered_cons t ts = gathered_permutes (ts ++ t ∷ []) (t ∷ ts) (IsPermutation-to_front ts t) ∙ gathered_push ts t
 
-pub gathered_moves : (ts : List Triple) → AllPairs Differ ts → IsPermutation ts (gathered ts)
+pub gathered_moves : (ts : List Triple) → AllPairs Differ ts → IsPermutation ts (gathered_cells ts)
 gathered_moves [] h = IsPermutation-refl []
 gathered_moves (t ∷ ts) h =
-    let rest : IsPermutation ts (gathered ts) = gathered_moves ts (pairs_tail Differ t ts h) in
+    let rest : IsPermutation ts (gathered_cells ts) = gathered_moves ts (pairs_tail Differ t ts h) in
     subst (IsPermutation (t ∷ ts)) (sym (gathered_cons t ts))
-    (IsPermutation-trans (t ∷ ts) (t ∷ gathered ts) (raised t (gathered ts)) (IsPermutation-cons t ts (gathered ts) rest)
-    (raised_moves t (gathered ts) (All-permutation (Differ t) ts (gathered ts) rest (pairs_head Differ t ts h))))
+    (IsPermutation-trans (t ∷ ts) (t ∷ gathered_cells ts) (with_value_raised t (gathered_cells ts)) (IsPermutation-cons t ts (gathered_cells ts) rest)
+    (raised_moves t (gathered_cells ts) (All-permutation (Differ t) ts (gathered_cells ts) rest (pairs_head Differ t ts h))))
 
 -- ---- The same values
 
@@ -101,11 +101,11 @@ lifted_first i j t ts h =
           ∙ ap (λ b. cond b (Some t.v) (value_at ts i j)) (sym away)
     ]
 
-pub value_gathered : (ts : List Triple) (i j : ℕ) → AllPairs Differ ts → value_at (gathered ts) i j ≡ value_at ts i j
+pub value_gathered : (ts : List Triple) (i j : ℕ) → AllPairs Differ ts → value_at (gathered_cells ts) i j ≡ value_at ts i j
 value_gathered [] i j h = refl
 value_gathered (t ∷ ts) i j h =
     ap (λ cells. value_at cells i j) (gathered_cons t ts)
-    ∙ value_raised i j t (gathered ts) (gathered_ordered ts)
+    ∙ value_raised i j t (gathered_cells ts) (gathered_ordered ts)
     ∙ ap (lifted i j t) (value_gathered ts i j (pairs_tail Differ t ts h))
     ∙ lifted_first i j t ts (pairs_head Differ t ts h)
 
@@ -146,20 +146,20 @@ value_dealt n r i j (t ∷ ts) =
           ∙ rest ∙ ap (λ o. cond (eqb (i % n) r) o None) (sym skip)
     ]
 
-pub gathered_dealt : (n r : ℕ) (ts : List Triple) → AllPairs Differ ts → gathered (dealt (row_of n) r ts) ≡ dealt (row_of n) r (gathered ts)
+pub gathered_dealt : (n r : ℕ) (ts : List Triple) → AllPairs Differ ts → gathered_cells (dealt (row_of n) r ts) ≡ dealt (row_of n) r (gathered_cells ts)
 gathered_dealt n r ts h =
     let mine : List Triple = dealt (row_of n) r ts in
-    same_cells (gathered mine) (dealt (row_of n) r (gathered ts)) (gathered_ordered mine)
-    (pairs_filter (λ s t. is_before s t ≡ true) (λ t. eqb (row_of n t) r) (gathered ts) (gathered_ordered ts))
+    same_cells (gathered_cells mine) (dealt (row_of n) r (gathered_cells ts)) (gathered_ordered mine)
+    (pairs_filter (λ s t. is_before s t ≡ true) (λ t. eqb (row_of n t) r) (gathered_cells ts) (gathered_ordered ts))
     (λ i j.
     value_gathered mine i j (pairs_filter Differ (λ t. eqb (row_of n t) r) ts h)
     ∙ value_dealt n r i j ts
     ∙ ap (λ o. cond (eqb (i % n) r) o None) (sym (value_gathered ts i j h))
-    ∙ sym (value_dealt n r i j (gathered ts)))
+    ∙ sym (value_dealt n r i j (gathered_cells ts)))
 
 -- and the parts of all ranks together are the whole
 pub parts_gathered : (n : ℕ) (cells : List Triple) → InOrder cells → All (λ t. row_of n t < n) cells
-    → gathered (flat_map (λ r. dealt (row_of n) r cells) (range_with_len 0 n)) ≡ cells
+    → gathered_cells (flat_map (λ r. dealt (row_of n) r cells) (range_with_len 0 n)) ≡ cells
 parts_gathered n cells h low =
     gathered_permutes cells (flat_map (λ r. dealt (row_of n) r cells) (range_with_len 0 n)) (hands_together n (row_of n) cells low) ∙ gathered_itself cells h
 
@@ -187,13 +187,13 @@ landed {X} from item image kept n r xs same =
     ∙ sym (dealt_map (row_of n) r image xs)
 
 -- the parts of one rank more
-pub parts_more : (n r : ℕ) (cells old new part : List Triple) → old ≡ gathered (flat_map (λ r. dealt (row_of n) r cells) (range_with_len 0 r))
-    → part ≡ dealt (row_of n) r cells → new ≡ raised_all old part → new ≡ gathered (flat_map (λ r. dealt (row_of n) r cells) (range_with_len 0 (r + 1)))
+pub parts_more : (n r : ℕ) (cells old new part : List Triple) → old ≡ gathered_cells (flat_map (λ r. dealt (row_of n) r cells) (range_with_len 0 r))
+    → part ≡ dealt (row_of n) r cells → new ≡ raised_all old part → new ≡ gathered_cells (flat_map (λ r. dealt (row_of n) r cells) (range_with_len 0 (r + 1)))
 parts_more n r cells old new part so_far is one =
     let parts : List ℕ → List Triple = flat_map (λ r. dealt (row_of n) r cells) in
     let more : parts (range_with_len 0 (r + 1)) ≡ parts (range_with_len 0 r) ++ dealt (row_of n) r cells =
     ap parts (range_more r)
     ∙ flat_map-append (λ r. dealt (row_of n) r cells) (range_with_len 0 r) (r ∷ [])
     ∙ ap (λ ys. parts (range_with_len 0 r) ++ ys) (append-nil (dealt (row_of n) r cells)) in
-    one ∙ ap (λ os. raised_all os part) so_far ∙ ap (raised_all (gathered (parts (range_with_len 0 r)))) is
-    ∙ sym (ap gathered more ∙ fold-append (λ cells t. raised t cells) [] (parts (range_with_len 0 r)) (dealt (row_of n) r cells))
+    one ∙ ap (λ os. raised_all os part) so_far ∙ ap (raised_all (gathered_cells (parts (range_with_len 0 r)))) is
+    ∙ sym (ap gathered_cells more ∙ fold-append (λ cells t. with_value_raised t cells) [] (parts (range_with_len 0 r)) (dealt (row_of n) r cells))

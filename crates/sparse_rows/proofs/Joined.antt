@@ -9,7 +9,7 @@ use Rattle.bale_items.specs.declared.triple.Triple.{Triple}
 use Rattle.mtx_text.specs.declared.kind.Kind.{Kind}
 use Rattle.mtx_text.specs.Sparse.{IsEntry}
 use Rattle.mtx_text.specs.Maps.{is_at, value_at}
-use Rattle.mtx_text.specs.Cells.{InOrder, raised, raised_all, together, sparse}
+use Rattle.mtx_text.specs.Cells.{InOrder, with_value_raised, raised_all, together, sparse}
 use Rattle.mtx_text.proofs.Gathered.{gathered_itself, gathered_all, value_both, most_of, most_nothing}
 use Rattle.mtx_text.proofs.OfCells.{greater_entry}
 use Rattle.mtx_text.proofs.Raised.{at_parts, value_later}
@@ -27,7 +27,7 @@ other_row n r i j (c ∷ cells) h d =
 value_first_map : (i j : ℕ) (cells : List Triple) (maps : List (List Triple)) → InOrder cells
     → value_at (together (cells ∷ maps)) i j ≡ most_of (value_at cells i j) (value_at (together maps) i j)
 value_first_map i j cells maps h =
-    ap (λ ts. value_at ts i j) (fold-append (λ cells t. raised t cells) [] cells (flat_map (λ cells. cells) maps))
+    ap (λ ts. value_at ts i j) (fold-append (λ cells t. with_value_raised t cells) [] cells (flat_map (λ cells. cells) maps))
     ∙ ap (λ ts. value_at (raised_all ts (flat_map (λ cells. cells) maps)) i j) (gathered_itself cells h)
     ∙ value_both i j cells (flat_map (λ cells. cells) maps) h
 

@@ -12,7 +12,7 @@ use Rattle.sparse_rows.proofs.Turns.{part_is, parts_count}
 use Rattle.sparse_rows.specs.Owners.{Numbered, own_entries}
 use Rattle.list_laws.proofs.Lists.{find, within, get_once, got_map, same_reads, all_head, all_tail}
 use Rattle.round_program.specs.Rules.{Rules}
-use Rattle.round_program.specs.Canonical.{absorbed_round, round_of, vote_sum, InRound, Member}
+use Rattle.round_program.specs.Canonical.{absorbed_round, after_whole_round, vote_sum, InRound, Member}
 
 -- the rank at each place
 pub made_at : {S : Type 0} (f : ℕ → S) (p r : ℕ) → r < p → slice_get (map f (range_with_len 0 p)) r ≡ Some (f r)
@@ -68,14 +68,14 @@ part_below ranks r ts parts low is = subst (λ n. r < n) (sym (ap length is ∙ 
 -- a round that takes each program made from its rank to another made from its rank
 pub round_made : {S : Type 0} (R : Rules S) (p : ℕ) (f g : ℕ → S)
     → ((r : ℕ) (votes : ℕ) → r < p → (t : S) → slice_get (absorbed_round R (map f (range_with_len 0 p))) r ≡ Some t → R.ended t votes ≡ g r)
-    → round_of R (map f (range_with_len 0 p)) ≡ map g (range_with_len 0 p)
+    → after_whole_round R (map f (range_with_len 0 p)) ≡ map g (range_with_len 0 p)
 round_made {S} R p f g made =
     let ss : List S = map f (range_with_len 0 p) in
     let votes : ℕ = vote_sum R (absorbed_round R ss) in
-    let size : length (round_of R ss) ≡ p =
+    let size : length (after_whole_round R ss) ≡ p =
     length-map (absorbed_round R ss) (λ s. R.ended s votes) ∙ length-map ss _ ∙ length-map-range_with_len f 0 p in
-    same_reads (round_of R ss) (map g (range_with_len 0 p)) (size ∙ sym (length-map-range_with_len g 0 p)) (λ r x at.
-    let low : r < p = subst (λ n. r < n) size (within (round_of R ss) r x at) in
+    same_reads (after_whole_round R ss) (map g (range_with_len 0 p)) (size ∙ sym (length-map-range_with_len g 0 p)) (λ r x at.
+    let low : r < p = subst (λ n. r < n) size (within (after_whole_round R ss) r x at) in
     let from = got_map (λ s. R.ended s votes) (absorbed_round R ss) r x at in
     made_at g p r low ∙ ap Some (sym (made r votes low from.0 from.1) ∙ from.2))
 

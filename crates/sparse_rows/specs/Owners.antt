@@ -9,8 +9,8 @@ abbrev pub Numbered : Type 0
 Numbered = ℕ × Triple
 
 -- The entries of a matrix, each with its number from 0.
-abbrev pub numbered : List Triple → List Numbered
-numbered entries = enumerate_from 0 entries
+abbrev pub with_numbers : List Triple → List Numbered
+with_numbers entries = enumerate_from 0 entries
 
 -- Entry number e belongs to rank e mod ranks.
 abbrev pub entry_owner : ℕ → Numbered → ℕ
@@ -28,7 +28,7 @@ column_owner ranks e = e.1.j % ranks
 -- own_entries ranks rank entries = those with entry_owner = rank
 -- Of 4 entries on 2 ranks, rank 1 has entries 1 and 3.
 abbrev pub own_entries : ℕ → ℕ → List Triple → List Numbered
-own_entries ranks rank entries = dealt (entry_owner ranks) rank (numbered entries)
+own_entries ranks rank entries = dealt (entry_owner ranks) rank (with_numbers entries)
 
 -- How many places a rank keeps for its rows or columns: number x stands at x div ranks.
 -- 7 columns on 2 ranks: 4 places on each.

@@ -10,3 +10,5 @@ mod cell_tests;
 mod reading_tests;
 #[cfg(test)]
 mod stream_tests;
+#[cfg(test)]
+mod thread_tests;

@@ -4,11 +4,11 @@ use Rattle.std.specs.List.{All}
 use Rattle.std.proofs.lemmas.List.Elements.{All-get_or, All-nil, All-cons}
 use Rattle.bale_items.specs.declared.item.Tag.{Tag}
 use Rattle.bale_items.specs.declared.item.Entry.{Entry}
-use Rattle.item_buffer.specs.Contents.{Contents, Shipped, shipped, blank}
+use Rattle.item_buffer.specs.Contents.{Contents, Shipped, as_shipped, blank}
 use Rattle.route_tensor.specs.Grid.{dim, IsGrid}
 use Rattle.route_tensor.specs.Tag.{digit, IsFair}
 use Rattle.route_tensor.specs.Ends.{hop_at}
-use Rattle.port_bank.specs.Logs.{Logs, lasts, added}
+use Rattle.port_bank.specs.Logs.{Logs, lasts, with_parcel}
 use Rattle.port_bank.specs.Relay.{HasFairTags, RelayLaw}
 use Rattle.port_bank.proofs.Segments.{lasts-append, lasts_first}
 use Rattle.port_bank.proofs.Closing.{law_nothing}
@@ -45,14 +45,14 @@ filled old new e false is pushed full =
 
 -- the law after a post of that parcel on the first hop
 pub first_posted : (dims : List ℕ) (r : ℕ) (sent got : Logs) (l : ℕ) (p : Contents) (e : Entry) → IsGrid dims → hop_at dims l ≡ 1 → p ≡ record (blank 0) { untaken = e ∷ [] } → e.tag ≡ no_digits
-    → RelayLaw dims r sent got → RelayLaw dims r (added sent l (shipped p)) got
+    → RelayLaw dims r sent got → RelayLaw dims r (with_parcel sent l (as_shipped p)) got
 first_posted dims r sent got l p e g first is tag law =
     let P : Entry → Type 0 = λ x. IsFair dims 1 x.tag in
-    let fair : HasFairTags dims 1 (shipped p) = subst (All P) (sym (ap (λ (c : Contents). c.untaken) is)) (All-cons P e [] (subst (IsFair dims 1) (sym tag) (no_digits_fair dims 1 g)) (All-nil P)) in
-    law_posted dims r sent got l (shipped p) g law (may_post_first dims r sent got l (shipped p) g first fair)
+    let fair : HasFairTags dims 1 (as_shipped p) = subst (All P) (sym (ap (λ (c : Contents). c.untaken) is)) (All-cons P e [] (subst (IsFair dims 1) (sym tag) (no_digits_fair dims 1 g)) (All-nil P)) in
+    law_posted dims r sent got l (as_shipped p) g law (may_post_first dims r sent got l (as_shipped p) g first fair)
 
 -- no epoch has ended after a parcel that isn't the last of its epoch
-pub none_ended : (logs logs' : Logs) (l : ℕ) (p : Shipped) → logs' ≡ added logs l p → p.last ≡ false → ((m : ℕ) → lasts (logs m) ≡ 0) → (m : ℕ) → lasts (logs' m) ≡ 0
+pub none_ended : (logs logs' : Logs) (l : ℕ) (p : Shipped) → logs' ≡ with_parcel logs l p → p.last ≡ false → ((m : ℕ) → lasts (logs m) ≡ 0) → (m : ℕ) → lasts (logs' m) ≡ 0
 none_ended logs logs' l p more open' none m =
     let here : lasts (logs m ++ p ∷ []) ≡ 0 = lasts-append (logs m) (p ∷ []) ∙ (ap (λ n. lasts (logs m) + n) (lasts_first p [] false open') ∙ omega (arith, none m)) in
     ap (λ (f : Logs). lasts (f m)) more

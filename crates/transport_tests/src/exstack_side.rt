@@ -2,7 +2,7 @@
 ghost use Rattle.std.specs.Prelude.{◌≡◌};
 ghost use Rattle.item_buffer.specs.Capacity.{IsCap};
 ghost use Rattle.exstack.specs.State.{may_proceed, may_exchange};
-ghost use Rattle.exstack.specs.Parts.{IsAtPort, KeepsPort, StaysWithRank};
+ghost use Rattle.exstack.specs.Parts.{IsStackAtPort, StackKeepsPort, StackStaysWithRank};
 
 use bale_items::{Item, NoMemory};
 use exstack::{Exstack, Poll, Proceed, Stage};
@@ -61,14 +61,14 @@ pub(crate) struct Side<const CAP: usize> {
 impl<const CAP: usize> Side<CAP> {
     ghost use Rattle.std.specs.Prelude.{◌<◌, true, length, IfOk};
     ghost use Rattle.route_tensor.specs.Grid.{ranks};
-    ghost use Rattle.transport_tests.specs.Exstacks.{StartsOut};
+    ghost use Rattle.transport_tests.specs.Exstacks.{StackStartsOut};
     ghost use Rattle.exstack.specs.Standing.{IsStack};
 
     pub(crate) fn new(alloc: Global, grid: &Grid, rank: u32) -> Result<Self, NoMemory>
         requires cap { IsCap CAP }
         requires one_hop { length grid.now ≡ 1 }
         requires rank { rank < ranks grid.now }
-        ensures starts { IfOk result (λ s. StartsOut CAP grid.now rank s.stack) }
+        ensures starts { IfOk result (λ s. StackStartsOut CAP grid.now rank s.stack) }
     {
         let stack = Exstack::new(alloc, grid, rank)?;
         stack.known();
@@ -86,9 +86,9 @@ impl<const CAP: usize> Side<CAP> {
         port: &mut P,
         call: Call,
     ) -> Result<Answer, NoMemory>
-        requires at_port { IsAtPort P.Port self.old.stack port.old }
+        requires at_port { IsStackAtPort P.Port self.old.stack port.old }
         ensures standing { IsStack CAP self.new.stack }
-        ensures keeps { KeepsPort P.Port self.old.stack self.new.stack port.old port.new }
+        ensures keeps { StackKeepsPort P.Port self.old.stack self.new.stack port.old port.new }
     {
         let stage = self.stack.stage();
         match call {
@@ -122,7 +122,7 @@ impl<const CAP: usize> Side<CAP> {
 
     /// Makes a call that needs no port.
     fn make_alone(&mut self, call: Call) -> Answer
-        ensures stays { StaysWithRank self.old.stack self.new.stack }
+        ensures stays { StackStaysWithRank self.old.stack self.new.stack }
     {
         let stage = self.stack.stage();
         match call {
@@ -147,7 +147,7 @@ impl<const CAP: usize> Side<CAP> {
     }
 
     fn pop_all(&mut self) -> Answer
-        ensures { StaysWithRank self.old.stack self.new.stack }
+        ensures { StackStaysWithRank self.old.stack self.new.stack }
     {
         let Some(sender) = self.stack.next_sender() else {
             return Answer::Popped(None);

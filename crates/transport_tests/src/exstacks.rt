@@ -21,13 +21,13 @@ pub(crate) struct Exstacks<const CAP: usize> {
 impl<const CAP: usize> Model for Exstacks<CAP> {
     ghost use Rattle.std.specs.Prelude.{◌≡◌, ◌∷◌, ℕ, [], length, slice_index_or};
     ghost use Rattle.port_bank.specs.Plain.{sent_of, got_of};
-    ghost use Rattle.exstack.specs.Law.{AgreeTogether};
+    ghost use Rattle.exstack.specs.Law.{StacksAgree};
 
     ghost Value = { ℕ };
 
     ghost view = { λ a. length a.sides.items };
 
-    ghost invariant = { λ a. (a.bank.dims ≡ length a.sides.items ∷ []) × ((d : _) → AgreeTogether
+    ghost invariant = { λ a. (a.bank.dims ≡ length a.sides.items ∷ []) × ((d : _) → StacksAgree
         (length a.sides.items) CAP a.bank.slots (λ r. (slice_index_or a.sides.items r d).stack)
         (sent_of a.bank) (got_of a.bank)) };
 }

@@ -50,6 +50,7 @@ fn count(mut rank: Rank<Count>) -> Result<Vec<u64>, Error> {
             counts[place as usize] += 1;
         }
         if progress.is_complete() {
+            eprintln!("rank {}: {:?}", rank.number(), rank.statistics());
             return Ok(counts);
         }
         thread::yield_now();

@@ -27,11 +27,13 @@ pub enum Error {
     Taken,
     /// `reset`, but 2^63 epochs are over and no number is left for another.
     LastEpoch,
+    /// Fewer items are there to be viewed than are to be pulled.
+    NotLent,
 }
 
 /// Each error, the answer of `bale.h` that it stands for, and its text. A rank or a group of this
 /// crate always has a live handle, so -7 (no handle) and -9 (a handle made twice) never come.
-const ERRORS: [(Error, i64, &str); 9] = [
+const ERRORS: [(Error, i64, &str); 10] = [
     // answers: checks/answers writes these lines
     (Error::NoMemory, -1, "no memory"),
     (Error::NotBegun, -2, "the epoch has not begun"),
@@ -42,6 +44,7 @@ const ERRORS: [(Error, i64, &str); 9] = [
     (Error::BadNumbers, -8, "no grid, no capacity or no number of slots"),
     (Error::Taken, -10, "the rank was made before"),
     (Error::LastEpoch, -11, "no number is left for another epoch"),
+    (Error::NotLent, -12, "a view lends fewer items"),
     // end of answers
 ];
 
@@ -83,8 +86,8 @@ mod tests {
     }
 
     #[test]
-    #[should_panic(expected = "another version: it answered -12")]
+    #[should_panic(expected = "another version: it answered -13")]
     fn an_unknown_answer_is_no_success() {
-        let _ = checked(-12);
+        let _ = checked(-13);
     }
 }

@@ -1,5 +1,5 @@
 //! What `c/bale.h` declares.
-use crate::Item;
+use crate::{Entry, Item, Statistics};
 use std::ffi::{c_char, c_void};
 
 /// Aligned, so that the handles of two threads share no cache line.
@@ -14,6 +14,14 @@ impl Handle {
     pub fn empty() -> Box<Handle> {
         Box::new(Handle { at: std::ptr::null_mut(), live: false })
     }
+}
+
+/// What a view lends. It begins as an address that can be read, and no entry.
+#[repr(C)]
+pub struct Lent {
+    pub entries: *const Entry,
+    pub count: usize,
+    pub from: u32,
 }
 
 extern "C" {
@@ -46,8 +54,11 @@ extern "C" {
         from: *mut u32,
         nfrom: usize,
     ) -> i64;
+    pub fn bale_lend(rank: *mut Handle, lent: *mut Lent) -> i32;
+    pub fn bale_pulled(rank: *mut Handle, count: usize) -> i32;
     pub fn bale_ranks(rank: *mut Handle) -> u32;
     pub fn bale_phase(rank: *mut Handle) -> i32;
+    pub fn bale_statistics(rank: *mut Handle, statistics: *mut Statistics) -> i32;
     pub fn bale_rank_free(rank: *mut Handle) -> i32;
     pub fn bale_group_free(group: *mut Handle) -> i32;
     pub fn bale_version() -> *const c_char;

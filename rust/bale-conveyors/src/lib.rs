@@ -88,7 +88,7 @@ mod rank;
 
 pub use error::Error;
 pub use group::Group;
-pub use rank::{Drain, Phase, Progress, Pushed, Rank, Unpushed};
+pub use rank::{Drain, Phase, Progress, Pushed, Rank, Statistics, Unpushed, View};
 
 /// An item as it travels: three words, whose meaning is the program's own.
 #[repr(C)]
@@ -111,6 +111,22 @@ impl From<[u64; 3]> for Item {
 impl From<Item> for [u64; 3] {
     fn from(item: Item) -> [u64; 3] {
         [item.a, item.b, item.c]
+    }
+}
+
+/// An item in the buffer in which it came: what [`Rank::view`] lends.
+#[repr(C)]
+#[derive(Clone, Copy, Debug)]
+pub struct Entry {
+    way: [u8; 3],
+    item: Item,
+}
+
+impl Entry {
+    /// The item.
+    #[must_use]
+    pub fn item(&self) -> &Item {
+        &self.item
     }
 }
 

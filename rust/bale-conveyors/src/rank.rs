@@ -1,6 +1,6 @@
 //! The rank: one side of the exchange.
-use crate::{error::checked, ffi, ffi::Handle, Error, Item};
-use std::{fmt, iter::FusedIterator, marker::PhantomData};
+use crate::{error::checked, ffi, ffi::Handle, Entry, Error, Item};
+use std::{fmt, iter::FusedIterator, marker::PhantomData, ptr::NonNull, slice};
 
 /// Whether a push found room. What found none comes back.
 ///
@@ -186,6 +186,23 @@ impl<T: Into<Item> + From<Item>> Rank<T> {
         checked(answer).map(|pulled| pulled as usize)
     }
 
+    /// Lends what the next pulls give, where it came, without a copy: at least one item, all of one
+    /// sender, or `None` if nothing is there now. [`View::take`] pulls the first ones; the others
+    /// stay to be pulled.
+    ///
+    /// # Errors
+    ///
+    /// [`Error::NotBegun`].
+    pub fn view(&mut self) -> Result<Option<View<'_, T>>, Error> {
+        let entries: NonNull<Entry> = NonNull::dangling();
+        let mut lent = ffi::Lent { entries: entries.as_ptr(), count: 0, from: 0 };
+        // SAFETY: as said above; no entry is read at the dangling address.
+        match checked(unsafe { ffi::bale_lend(&mut *self.handle, &mut lent) }.into())? {
+            0 => Ok(Some(View { rank: self, lent })),
+            _ => Ok(None),
+        }
+    }
+
     /// Puts back the item that the latest call pulled, so that the next pull gives it again.
     /// Returns false if the latest call wasn't a [`pull`](Rank::pull) that gave an item.
     pub fn unpull(&mut self) -> bool {
@@ -230,6 +247,14 @@ impl<T: Into<Item> + From<Item>> Rank<T> {
         checked(unsafe { ffi::bale_reset(&mut *self.handle) }.into()).map(drop)
     }
 
+    /// What the rank sent and received so far.
+    pub fn statistics(&mut self) -> Statistics {
+        let mut statistics = Statistics::default();
+        // SAFETY: as said above; the numbers are valid and not shared.
+        unsafe { ffi::bale_statistics(&mut *self.handle, &mut statistics) };
+        statistics
+    }
+
     /// The state of this rank.
     pub fn phase(&mut self) -> Phase {
         // SAFETY: as said above.
@@ -271,6 +296,77 @@ impl<T> Drop for Rank<T> {
     fn drop(&mut self) {
         // SAFETY: the handle is valid and not shared.
         unsafe { ffi::bale_rank_free(&mut *self.handle) };
+    }
+}
+
+/// What a rank sent and received since it was made, in all its epochs, also to itself: see
+/// [`Rank::statistics`].
+///
+/// A buffer is counted when `advance` sends or collects it, with all items in it, also those that
+/// only pass through the rank. Each epoch ends with one last buffer on each link, which may be
+/// empty.
+#[repr(C)]
+#[derive(Clone, Copy, PartialEq, Eq, Hash, Default, Debug)]
+#[non_exhaustive]
+pub struct Statistics {
+    /// Buffers sent.
+    pub buffers_sent: u64,
+    /// The items in them.
+    pub items_sent: u64,
+    /// Buffers received.
+    pub buffers_received: u64,
+    /// The items in them.
+    pub items_received: u64,
+}
+
+/// Items that a rank got and has not pulled, where they came: see [`Rank::view`].
+#[must_use = "nothing is pulled until `take` is called"]
+pub struct View<'a, T> {
+    rank: &'a mut Rank<T>,
+    lent: ffi::Lent,
+}
+
+impl<T: Into<Item> + From<Item>> View<'_, T> {
+    /// The rank that pushed them.
+    #[must_use]
+    pub fn from(&self) -> u32 {
+        self.lent.from
+    }
+
+    /// The entries, in the order in which they were pushed; at least one.
+    #[must_use]
+    pub fn entries(&self) -> &[Entry] {
+        // SAFETY: the rank lent them, and while it is borrowed here no call takes them back: a push
+        // goes to other buffers, and `take` ends the view.
+        unsafe { slice::from_raw_parts(self.lent.entries, self.lent.count) }
+    }
+
+    /// Pushes an item while the view lasts, as [`Rank::push`] does.
+    ///
+    /// # Errors
+    ///
+    /// As of [`Rank::push`].
+    pub fn push(&mut self, item: T, to: u32) -> Result<Pushed<T>, Error> {
+        self.rank.push(item, to)
+    }
+
+    /// Pulls the first `count` of them, and ends the view.
+    ///
+    /// # Errors
+    ///
+    /// [`Error::NotLent`] if there are not so many; nothing is pulled.
+    pub fn take(self, count: usize) -> Result<(), Error> {
+        // SAFETY: the handle is valid and live, and `&mut` keeps other calls away.
+        checked(unsafe { ffi::bale_pulled(&mut *self.rank.handle, count) }.into()).map(drop)
+    }
+}
+
+impl<T> fmt::Debug for View<'_, T> {
+    fn fmt(&self, f: &mut fmt::Formatter<'_>) -> fmt::Result {
+        f.debug_struct("View")
+            .field("from", &self.lent.from)
+            .field("count", &self.lent.count)
+            .finish_non_exhaustive()
     }
 }
 

@@ -1,5 +1,5 @@
 //! Exchanges: what was pushed is what is pulled, in the order of each sender.
-use bale_conveyors::{Error, Group, Item, Pushed, Rank};
+use bale_conveyors::{Error, Group, Item, Pushed, Rank, Statistics};
 use std::{sync::mpsc, thread};
 
 type Words = [u64; 3];
@@ -42,6 +42,26 @@ fn a_full_buffer_gives_the_item_back() {
     assert!(!rank.push([7, 8, 9], 0).unwrap().is_accepted());
     let wanted: Vec<_> = (0..4).map(|k| (0, [k, 0, 0])).collect();
     assert_eq!(finish(&mut [rank]), [wanted]);
+}
+
+#[test]
+fn statistics_count_buffers_and_their_items() {
+    let mut ranks = ranks(2, 4);
+    assert_eq!(ranks[0].statistics(), Statistics::default());
+    for rank in &mut ranks {
+        rank.begin().unwrap();
+    }
+    for k in 0..4 {
+        assert!(ranks[0].push([k, 0, 0], 1).unwrap().is_accepted());
+    }
+    finish(&mut ranks);
+    let (sender, receiver) = (ranks[0].statistics(), ranks[1].statistics());
+    assert_eq!((sender.items_sent, sender.items_received), (4, 0));
+    assert_eq!((receiver.items_sent, receiver.items_received), (0, 4));
+    // One buffer on each link: the last one of the epoch, which to rank 1 has the four items.
+    for counts in [sender, receiver] {
+        assert_eq!((counts.buffers_sent, counts.buffers_received), (2, 2));
+    }
 }
 
 #[test]
@@ -206,4 +226,44 @@ fn items_have_a_type() -> Result<(), Error> {
         }
     }
     panic!("nothing was pulled");
+}
+
+#[test]
+fn a_view_lends_what_came_and_takes_a_part() -> Result<(), Error> {
+    let mut rank = alone(4);
+    for k in 0..4 {
+        assert!(rank.push([k, 0, 0], 0)?.is_accepted());
+    }
+    assert!(rank.view()?.is_none());
+    // The first sends the buffer, and the second collects it.
+    rank.advance(true)?;
+    rank.advance(true)?;
+    let view = rank.view()?.expect("four items came");
+    assert_eq!(view.from(), 0);
+    assert_eq!(view.entries().iter().map(|entry| entry.item().a).collect::<Vec<_>>(), [0, 1, 2, 3]);
+    view.take(3)?;
+    let view = rank.view()?.expect("one is left");
+    assert_eq!(view.entries().len(), 1);
+    assert_eq!(view.take(2), Err(Error::NotLent));
+    assert_eq!(rank.pull()?, Some((0, [3, 0, 0])));
+    Ok(())
+}
+
+#[test]
+fn items_may_be_pushed_while_a_view_lasts() -> Result<(), Error> {
+    let mut rank = alone(4);
+    for k in 0..4 {
+        assert!(rank.push([k, 0, 0], 0)?.is_accepted());
+    }
+    rank.advance(false)?;
+    rank.advance(false)?;
+    let mut view = rank.view()?.expect("four items came");
+    for k in 0..view.entries().len() {
+        let answer = [view.entries()[k].item().a + 10, 0, 0];
+        assert!(view.push(answer, 0)?.is_accepted());
+    }
+    view.take(4)?;
+    let pulled = finish(std::slice::from_mut(&mut rank));
+    assert_eq!(pulled[0].iter().map(|(_, words)| words[0]).collect::<Vec<_>>(), [10, 11, 12, 13]);
+    Ok(())
 }

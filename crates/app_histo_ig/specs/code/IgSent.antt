@@ -24,8 +24,8 @@ sent_of_own round ranks own =
     if round == 0 then map (to_add ranks) own else map (to_ask ranks) (map number_and_column own)
 
 -- and in round 2 the replies
-abbrev pub sent_of : ℕ → ℕ → List Own → List (ℕ × Item) → List (ℕ × Item)
-sent_of round ranks own replies =
+abbrev pub ig_items_sent : ℕ → ℕ → List Own → List (ℕ × Item) → List (ℕ × Item)
+ig_items_sent round ranks own replies =
     if nat_lt round 2 then sent_of_own round ranks own else if round == 2 then replies else []
 
 -- where ranks ask and answer at once: the question for its column, to the column's owner

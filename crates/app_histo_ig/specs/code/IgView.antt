@@ -2,12 +2,12 @@
 use Rattle.std.specs.Prelude.{◌≡◌, ℕ, List, map, length}
 use Rattle.bale_items.specs.declared.Item.{Item}
 use Rattle.app_histo_ig.specs.declared.ig.Ig.TheInside.{Inside}
-use Rattle.app_histo_ig.specs.Igs.{IgState, IsIg, replies_from}
-use Rattle.app_histo_ig.specs.code.IgSent.{number_and_column, sent_of}
+use Rattle.app_histo_ig.specs.Igs.{IgState, IsIg, ig_replies_from}
+use Rattle.app_histo_ig.specs.code.IgSent.{number_and_column, ig_items_sent}
 
 -- the replies to all queries that came
-abbrev pub replies_of : Inside → List (ℕ × Item)
-replies_of s = replies_from s.ranks s.sums.items 0 (map (λ l. l.items) s.queries.items)
+abbrev pub all_replies : Inside → List (ℕ × Item)
+all_replies s = ig_replies_from s.ranks s.sums.items 0 (map (λ l. l.items) s.queries.items)
 
 abbrev pub ig_state : Inside → IgState
 ig_state s =
@@ -19,11 +19,11 @@ ig_state s =
       own = map number_and_column s.own.items;
       sums = s.sums.items;
       queries = map (λ l. l.items) s.queries.items;
-      outgoing = sent_of s.round s.ranks s.own.items (replies_of s);
+      outgoing = ig_items_sent s.round s.ranks s.own.items (all_replies s);
       answers = s.answers.items;
     }
 
 -- in round 2 it is known how many replies are sent
 pub record IsIgInside (s : Inside) : Type 0 where
   pub state : IsIg (ig_state s)
-  pub count : s.round ≡ 2 → s.asked ≡ length (replies_of s)
+  pub count : s.round ≡ 2 → s.asked ≡ length (all_replies s)

@@ -6,8 +6,8 @@ use Rattle.round_program.specs.Talks.{TalkLaws}
 use Rattle.app_histo_ig.specs.Asking.{ig_talk}
 
 -- what stands at a place is a word, and so is the 0 past the end
-pub word_at : (sums : List ℕ) (i : ℕ) → All (λ v. v < 2 ^ 64) sums → get_or sums i 0 < 2 ^ 64
-word_at sums i h = elim (cases_lt i (length sums)) [
+pub is_word_at : (sums : List ℕ) (i : ℕ) → All (λ v. v < 2 ^ 64) sums → get_or sums i 0 < 2 ^ 64
+is_word_at sums i h = elim (cases_lt i (length sums)) [
   | inl low ↦ h i 0 low
   | inr past ↦ subst (λ n. n < 2 ^ 64) (sym (get_or_past sums i 0 past)) (lit< tt)
 ]
@@ -16,7 +16,7 @@ pub ig_talk_laws : TalkLaws ig_talk
 ig_talk_laws =
     record {
       asks = λ s v. v.asks;
-      answers = λ s from question v low word. word_at s.sums (question / s.ranks) v.words;
+      answers = λ s from question v low word. is_word_at s.sums (question / s.ranks) v.words;
       keeps = λ s i reply v low word. record {
         valid = record {
           some = v.some;

@@ -7,7 +7,7 @@ use Rattle.std.proofs.lemmas.Bool.Decides.{nat_tests}
 use Rattle.std.proofs.lemmas.List.Elements.{All-nil, All-map}
 use Rattle.bale_items.specs.declared.Item.{Item}
 use Rattle.round_program.specs.Laws.{Laws, Fits, SameRound, IsItem}
-use Rattle.app_histo_ig.specs.Histos.{HistoState, IsHisto, histo_rules, may_count, to_column, counted_item}
+use Rattle.app_histo_ig.specs.Histos.{HistoState, IsHisto, histo_rules, may_count, to_own_column, counted_item}
 use Rattle.app_histo_ig.specs.laws.OwnerLaws.{risen_comm, risen_len}
 
 pub count_within : (shape : List ℕ) (ranks round to from : ℕ) (x : Item) → may_count shape ranks round to from x ≡ true
@@ -27,13 +27,13 @@ emits s v =
     elim (cases_eq s.round 0) [
       | inl z ↦
           subst (λ b. All (λ e. may_count (s.cols ∷ []) s.ranks s.round e.0 s.rank e.1 ≡ true)
-          (if b then map (to_column s.ranks) s.columns else []))
+          (if b then map (to_own_column s.ranks) s.columns else []))
           (sym (eq-eqb s.round 0 z))
-          (All-map (λ e. may_count (s.cols ∷ []) s.ranks s.round e.0 s.rank e.1 ≡ true) (to_column s.ranks) s.columns
+          (All-map (λ e. may_count (s.cols ∷ []) s.ranks s.round e.0 s.rank e.1 ≡ true) (to_own_column s.ranks) s.columns
           (λ k d l. owner_counts s v (get_or s.columns k d) (v.named k d l) z))
       | inr n ↦
           subst (λ b. All (λ e. may_count (s.cols ∷ []) s.ranks s.round e.0 s.rank e.1 ≡ true)
-          (if b then map (to_column s.ranks) s.columns else []))
+          (if b then map (to_own_column s.ranks) s.columns else []))
           (sym (ne_eqb s.round 0 n))
           (All-nil (λ e. may_count (s.cols ∷ []) s.ranks s.round e.0 s.rank e.1 ≡ true))
     ]

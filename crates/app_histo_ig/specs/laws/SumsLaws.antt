@@ -8,7 +8,7 @@ use Rattle.std.proofs.lemmas.List.Elements.{All-nil}
 use Rattle.bale_items.specs.declared.Item.{Item}
 use Rattle.sparse_rows.proofs.Places.{place_below}
 use Rattle.round_program.specs.Laws.{Laws, Fits, SameRound}
-use Rattle.app_histo_ig.specs.Owners.{risen}
+use Rattle.app_histo_ig.specs.Owners.{with_sum_risen}
 use Rattle.app_histo_ig.specs.laws.OwnerLaws.{risen_comm, risen_len}
 use Rattle.app_histo_ig.specs.Histos.{may_count}
 use Rattle.app_histo_ig.specs.laws.HistoLaws.{count_within}
@@ -30,7 +30,7 @@ emits s v =
     ]
 
 -- sums that rose are sums
-pub risen_valid : (s : SumsState) (x : Item) (sums : List ℕ) → IsSums s → sums ≡ risen s.ranks s.sums x
+pub risen_valid : (s : SumsState) (x : Item) (sums : List ℕ) → IsSums s → sums ≡ with_sum_risen s.ranks s.sums x
     → IsSums (record s { sums = sums })
 risen_valid s x sums v is =
     record {
@@ -44,7 +44,7 @@ risen_valid s x sums v is =
 keeps : (s : SumsState) (f : ℕ) (x : Item) → IsSums s → SameRound sums_rules s (sums_rules.absorbed s f x)
 keeps s f x v =
     record {
-      valid = risen_valid s x (risen s.ranks s.sums x) v refl;
+      valid = risen_valid s x (with_sum_risen s.ranks s.sums x) v refl;
       rank = refl;
       ranks = refl;
       round = refl;
@@ -54,12 +54,12 @@ keeps s f x v =
     }
 
 -- what fits names an own column
-pub record IsPlaced (s : SumsState) (x : Item) : Type 0 where
+pub record IsOwnColumn (s : SumsState) (x : Item) : Type 0 where
   pub some : 0 < s.ranks
   pub small : x.a < 2 ^ 32
   pub place : x.a / s.ranks < length s.sums
 
-pub placed : (s : SumsState) (f : ℕ) (x : Item) → IsSums s → Fits sums_rules s f x → IsPlaced s x
+pub placed : (s : SumsState) (f : ℕ) (x : Item) → IsSums s → Fits sums_rules s f x → IsOwnColumn s x
 placed s f x v e =
     let own : s.rank < s.ranks = v.own in
     let wide : s.cols < 2 ^ 32 = v.wide in

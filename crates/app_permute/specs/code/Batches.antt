@@ -3,14 +3,14 @@ use Rattle.std.specs.Prelude.{ℕ, List, if◌then◌else◌}
 use Rattle.std.specs.List.{fold}
 use Rattle.bale_items.specs.declared.Item.{Item}
 use Rattle.bale_items.specs.declared.triple.Triple.{Triple}
-use Rattle.mtx_text.specs.Cells.{raised}
+use Rattle.mtx_text.specs.Cells.{with_value_raised}
 use Rattle.app_permute.specs.declared.carried.RowOwner.{RowOwner}
-use Rattle.app_permute.specs.Carried.{cell_of, may_cell}
+use Rattle.app_permute.specs.Carried.{item_cell, may_cell}
 
 -- One cell is taken in where the rank owns its row, and else dropped.
 abbrev pub own_raised : RowOwner → List Triple → ℕ → Item → List Triple
 own_raised owner cells from x =
-    if may_cell owner.rows owner.cols owner.ranks owner.rank from x then raised (cell_of x) cells else cells
+    if may_cell owner.rows owner.cols owner.ranks owner.rank from x then with_value_raised (item_cell x) cells else cells
 
 -- All of them, in order.
 -- all_raised of rank 1 of 2: of (0,(3,0,7)), (0,(2,0,9)) the first alone

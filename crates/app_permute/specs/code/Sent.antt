@@ -6,11 +6,11 @@ use Rattle.app_permute.specs.Carried.{cell_item}
 use Rattle.app_permute.specs.Permutes.{new_number}
 
 -- a cell goes to the owner of its column in round 1 of permute, and else to that of its row
-abbrev pub to_owner : ℕ → ℕ → Triple → ℕ × Item
-to_owner round ranks t = ((if round == 1 then t.j else t.i) % ranks, cell_item t)
+abbrev pub to_cell_owner : ℕ → ℕ → Triple → ℕ × Item
+to_cell_owner round ranks t = ((if round == 1 then t.j else t.i) % ranks, cell_item t)
 
-abbrev pub sent_of : ℕ → ℕ → List Triple → List (ℕ × Item)
-sent_of round ranks cells = map (to_owner round ranks) cells
+abbrev pub permute_sent : ℕ → ℕ → List Triple → List (ℕ × Item)
+permute_sent round ranks cells = map (to_cell_owner round ranks) cells
 
 -- after round 0 of permute: a cell with the new number of its row
 abbrev pub with_new_row : ℕ → List ℕ → Triple → Triple

@@ -1,6 +1,6 @@
 -- The state of a rank of transpose, read from the fields.
 use Rattle.app_permute.specs.declared.transpose.Transpose.TheInside.{Inside}
-use Rattle.app_permute.specs.code.Sent.{sent_of}
+use Rattle.app_permute.specs.code.Sent.{permute_sent}
 use Rattle.app_permute.specs.Transposes.{TransposeState}
 
 abbrev pub transpose_state : Inside → TransposeState
@@ -11,6 +11,6 @@ transpose_state s =
       round = s.round;
       rows = s.rows;
       cols = s.cols;
-      outgoing = sent_of 0 s.ranks s.outgoing.items;
+      outgoing = permute_sent 0 s.ranks s.outgoing.items;
       cells = s.cells;
     }

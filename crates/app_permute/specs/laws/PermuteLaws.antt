@@ -15,9 +15,9 @@ use Rattle.mtx_text.proofs.PlaceOrder.{pairs_none}
 use Rattle.mtx_text.proofs.Raised.{greater, raised_comm, raised_ordered}
 use Rattle.mtx_text.proofs.Gathered.{raised_keeps}
 use Rattle.round_program.specs.Laws.{Laws, Fits, SameRound, IsItem, is_item}
-use Rattle.app_permute.specs.Carried.{cell_of}
-use Rattle.app_permute.specs.Permutes.{PermuteState, IsPermuting, IsKept, HasNumbers, permute_rules, may_permute}
-use Rattle.app_permute.specs.Permutes.{kept_as, new_number, to_column, to_row, next_outgoing}
+use Rattle.app_permute.specs.Carried.{item_cell}
+use Rattle.app_permute.specs.Permutes.{PermuteState, IsPermuting, IsKeptCell, HasNumbers, permute_rules, may_permute}
+use Rattle.app_permute.specs.Permutes.{kept_as, new_number, to_column, to_row, permute_next_outgoing}
 
 -- what may be sent, once it is known whether the round is that of the columns
 abbrev pub may_by : Bool → ℕ → ℕ → ℕ → ℕ → ℕ → Item → Bool
@@ -44,8 +44,8 @@ word_low : (w : ℕ) → w < 2 ^ 64 → twos_complement (from_twos_complement w)
 word_low w h = grind (arith, nat_tests)
 
 pub kept_by : (b : Bool) (rows cols ranks to from : ℕ) (x : Item) → may_by b rows cols ranks to from x ≡ true
-    → IsKept (if b then cols else rows) (if b then rows else cols) ranks to
-    (if b then record { i = x.b; j = x.a; v = from_twos_complement x.c } else cell_of x)
+    → IsKeptCell (if b then cols else rows) (if b then rows else cols) ranks to
+    (if b then record { i = x.b; j = x.a; v = from_twos_complement x.c } else item_cell x)
 kept_by true rows cols ranks to from x h =
     record {
       row = grind (arith, nat_tests);
@@ -62,7 +62,7 @@ kept_by false rows cols ranks to from x h =
     }
 
 pub greater_kept : (height width ranks rank : ℕ) (s t : Triple) → s.i ≡ t.i → s.j ≡ t.j
-    → IsKept height width ranks rank s → IsKept height width ranks rank t → IsKept height width ranks rank (greater s t)
+    → IsKeptCell height width ranks rank s → IsKeptCell height width ranks rank t → IsKeptCell height width ranks rank (greater s t)
 greater_kept height width ranks rank s t e f a b =
     record {
       row = a.row;
@@ -88,7 +88,7 @@ keeps s f x v e =
             wide = v.wide;
             row_numbers = v.row_numbers;
             col_numbers = v.col_numbers;
-            kept = raised_keeps (IsKept height width s.ranks s.rank) (greater_kept height width s.ranks s.rank)
+            kept = raised_keeps (IsKeptCell height width s.ranks s.rank) (greater_kept height width s.ranks s.rank)
                 (kept_as s.round x) s.cells (kept_by (s.round == 1) s.rows s.cols s.ranks s.rank f x e) v.kept;
             ordered = raised_ordered (kept_as s.round x) s.cells v.ordered;
             fit = v.fit;
@@ -117,7 +117,7 @@ number_below : (ranks rank n x : ℕ) (news : List ℕ) → HasNumbers ranks ran
 number_below ranks rank n x news h low own = h.below (x / ranks) 0 (h.placed x low own)
 
 column_fits : (rows cols ranks rank : ℕ) (news : List ℕ) (t : Triple) → rank < ranks → rows < 2 ^ 32 → cols < 2 ^ 32
-    → HasNumbers ranks rank rows news → IsKept rows cols ranks rank t
+    → HasNumbers ranks rank rows news → IsKeptCell rows cols ranks rank t
     → may_permute (rows ∷ cols ∷ []) ranks 1 (to_column ranks news t).0 rank (to_column ranks news t).1 ≡ true
 column_fits rows cols ranks rank news t own tall wide h k =
     let new : new_number ranks news t.i < rows = number_below ranks rank rows t.i news h k.row k.own in
@@ -126,7 +126,7 @@ column_fits rows cols ranks rank news t own tall wide h k =
     grind (arith, nat_tests)
 
 row_fits : (rows cols ranks rank : ℕ) (news : List ℕ) (t : Triple) → rank < ranks → rows < 2 ^ 32 → cols < 2 ^ 32
-    → HasNumbers ranks rank cols news → IsKept cols rows ranks rank t
+    → HasNumbers ranks rank cols news → IsKeptCell cols rows ranks rank t
     → may_permute (rows ∷ cols ∷ []) ranks 2 (to_row ranks news t).0 rank (to_row ranks news t).1 ≡ true
 row_fits rows cols ranks rank news t own tall wide h k =
     let new : new_number ranks news t.i < cols = number_below ranks rank cols t.i news h k.row k.own in
@@ -137,15 +137,15 @@ row_fits rows cols ranks rank news t own tall wide h k =
 abbrev FitsIn : PermuteState → ℕ → ℕ × Item → Type 0
 FitsIn s round e = may_permute (s.rows ∷ s.cols ∷ []) s.ranks round e.0 s.rank e.1 ≡ true
 
-pub next_fit : (s : PermuteState) → IsPermuting s → All (FitsIn s (min (s.round + 1) (2 ^ 64 - 1))) (next_outgoing s)
-next_fit s v =
+pub permute_next_fit : (s : PermuteState) → IsPermuting s → All (FitsIn s (min (s.round + 1) (2 ^ 64 - 1))) (permute_next_outgoing s)
+permute_next_fit s v =
     let rows : List (ℕ × Item) = map (to_column s.ranks s.new_rows) s.cells in
     let cols : List (ℕ × Item) = map (to_row s.ranks s.new_cols) s.cells in
     elim (cases_eq s.round 0) [
       | inl z ↦
           let one : min (s.round + 1) (2 ^ 64 - 1) ≡ 1 = omega arith in
-          let in_rows : All (IsKept s.rows s.cols s.ranks s.rank) s.cells =
-          subst (λ b. All (IsKept (if b then s.cols else s.rows) (if b then s.rows else s.cols) s.ranks s.rank) s.cells)
+          let in_rows : All (IsKeptCell s.rows s.cols s.ranks s.rank) s.cells =
+          subst (λ b. All (IsKeptCell (if b then s.cols else s.rows) (if b then s.rows else s.cols) s.ranks s.rank) s.cells)
           (ne_eqb s.round 1 (λ e. absurd (omega arith))) v.kept in
           subst (λ b. All (FitsIn s (min (s.round + 1) (2 ^ 64 - 1)))
           (if b then rows else if s.round == 1 then cols else [])) (sym (eq-eqb s.round 0 z))
@@ -159,9 +159,9 @@ next_fit s v =
           (elim (cases_eq s.round 1) [
             | inl z ↦
                 let two : min (s.round + 1) (2 ^ 64 - 1) ≡ 2 = omega arith in
-                let in_cols : All (IsKept s.cols s.rows s.ranks s.rank) s.cells =
+                let in_cols : All (IsKeptCell s.cols s.rows s.ranks s.rank) s.cells =
                 subst (λ b. All
-                (IsKept (if b then s.cols else s.rows) (if b then s.rows else s.cols) s.ranks s.rank) s.cells)
+                (IsKeptCell (if b then s.cols else s.rows) (if b then s.rows else s.cols) s.ranks s.rank) s.cells)
                 (eq-eqb s.round 1 z) v.kept in
                 subst (λ b. All (FitsIn s (min (s.round + 1) (2 ^ 64 - 1))) (if b then cols else []))
                 (sym (eq-eqb s.round 1 z))
@@ -176,7 +176,7 @@ next_fit s v =
 
 -- and what is kept is kept in the next round
 pub next_kept : (s : PermuteState) → IsPermuting s
-    → All (IsKept (if min (s.round + 1) (2 ^ 64 - 1) == 1 then s.cols else s.rows)
+    → All (IsKeptCell (if min (s.round + 1) (2 ^ 64 - 1) == 1 then s.cols else s.rows)
     (if min (s.round + 1) (2 ^ 64 - 1) == 1 then s.rows else s.cols) s.ranks s.rank)
     (if nat_lt s.round 2 then [] else s.cells)
 next_kept s v =
@@ -184,18 +184,18 @@ next_kept s v =
     elim (cases_lt s.round 2) [
       | inl low ↦
           subst (λ b. All
-          (IsKept (if round == 1 then s.cols else s.rows) (if round == 1 then s.rows else s.cols) s.ranks s.rank)
+          (IsKeptCell (if round == 1 then s.cols else s.rows) (if round == 1 then s.rows else s.cols) s.ranks s.rank)
           (if b then [] else s.cells)) (sym (lt-ltb s.round 2 low))
-          (All-nil (IsKept (if round == 1 then s.cols else s.rows)
+          (All-nil (IsKeptCell (if round == 1 then s.cols else s.rows)
           (if round == 1 then s.rows else s.cols) s.ranks s.rank))
       | inr high ↦
           let now : (s.round == 1) ≡ false = ne_eqb s.round 1 (λ e. absurd (omega arith)) in
           let later : (round == 1) ≡ false = ne_eqb round 1 (λ e. absurd (omega arith)) in
           subst (λ b. All
-          (IsKept (if round == 1 then s.cols else s.rows) (if round == 1 then s.rows else s.cols) s.ranks s.rank)
+          (IsKeptCell (if round == 1 then s.cols else s.rows) (if round == 1 then s.rows else s.cols) s.ranks s.rank)
           (if b then [] else s.cells)) (sym (le-ltb s.round 2 high))
           (subst (λ b. All
-          (IsKept (if b then s.cols else s.rows) (if b then s.rows else s.cols) s.ranks s.rank) s.cells)
+          (IsKeptCell (if b then s.cols else s.rows) (if b then s.rows else s.cols) s.ranks s.rank) s.cells)
           (now ∙ sym later) v.kept)
     ]
 
@@ -221,7 +221,7 @@ permute_laws =
           kept = next_kept s v;
           ordered =
               next_ordered (nat_lt s.round 2) s.cells v.ordered;
-          fit = next_fit s v;
+          fit = permute_next_fit s v;
         };
         rank = refl;
         ranks = refl;

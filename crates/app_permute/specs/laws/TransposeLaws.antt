@@ -5,7 +5,7 @@ use Rattle.std.proofs.lemmas.List.Elements.{All-nil}
 use Rattle.bale_items.specs.declared.Item.{Item}
 use Rattle.mtx_text.proofs.Raised.{raised_comm, raised_ordered}
 use Rattle.round_program.specs.Laws.{Laws, Fits, SameRound, IsItem}
-use Rattle.app_permute.specs.Carried.{cell_of}
+use Rattle.app_permute.specs.Carried.{item_cell}
 use Rattle.app_permute.specs.Transposes.{TransposeState, IsTransposing, transpose_rules, may_transpose}
 
 transpose_within : (shape : List ℕ) (ranks round to from : ℕ) (x : Item)
@@ -24,7 +24,7 @@ keeps s f x v =
         own = v.own;
         tall = v.tall;
         wide = v.wide;
-        ordered = raised_ordered (cell_of x) s.cells v.ordered;
+        ordered = raised_ordered (item_cell x) s.cells v.ordered;
         fit = v.fit;
       };
       rank = refl;
@@ -48,7 +48,7 @@ transpose_laws =
     record {
       emits = λ s v. v.fit;
       commutes = λ s f g x y v d e h. ap (λ c. record s { cells = c })
-          (raised_comm (cell_of y) (cell_of x) s.cells v.ordered);
+          (raised_comm (item_cell y) (item_cell x) s.cells v.ordered);
       keeps = λ s f x v e. keeps s f x v;
       vote_below = λ s v. lit< tt;
       next = λ s votes v l. record {

@@ -12,17 +12,17 @@ use Rattle.std.proofs.lemmas.List.Elements.{All-nil, All-map, All-append, All-fi
 use Rattle.bale_items.specs.declared.Item.{Item}
 use Rattle.bale_items.specs.declared.triple.Triple.{Triple}
 use Rattle.list_laws.proofs.Lists.{changed_comm, changed_len}
-use Rattle.mtx_text.specs.Cells.{InOrder, raised}
+use Rattle.mtx_text.specs.Cells.{InOrder, with_value_raised}
 use Rattle.mtx_text.proofs.Raised.{raised_ordered, raised_comm, greater}
 use Rattle.mtx_text.proofs.Gathered.{raised_keeps}
 use Rattle.round_program.specs.Laws.{Laws, Fits, SameRound, IsItem}
 use Rattle.least_walks.specs.declared.table.Edge.{Edge}
 use Rattle.least_walks.specs.declared.vertices.Vertex.{Vertex}
-use Rattle.least_walks.specs.Tables.{table_of, edges_at, is_kept, edge_of, offers, offers_at, offers_from, offer}
-use Rattle.least_walks.specs.Vertices.{unreached, improve, improved_at, marked, calm}
+use Rattle.least_walks.specs.Tables.{table_of, edges_at, is_kept, edge_of, offers_by_place, offers_at, offers_from, offer}
+use Rattle.least_walks.specs.Vertices.{unreached_vertex, improve, improved_at, marked_places, calm}
 use Rattle.least_walks.proofs.Marks.{improve_comm, marked_count}
 use Rattle.least_walks.proofs.Rows.{table_len}
-use Rattle.app_sssp.specs.Sssps.{SsspState, IsSssp, IsEdge, IsInside, sssp_rules, may_sssp, edge_came, table_after}
+use Rattle.app_sssp.specs.Sssps.{SsspState, IsSssp, IsEdge, IsInsideSquare, sssp_rules, may_sssp, edge_came, table_after}
 
 sssp_within : (shape : List ℕ) (ranks round to from : ℕ) (x : Item) → may_sssp shape ranks round to from x ≡ true
     → (to < ranks) × (from < ranks) × IsItem x
@@ -32,9 +32,9 @@ sssp_within (rows ∷ []) ranks round to from x h =
 sssp_within (rows ∷ (c ∷ cs)) ranks round to from x h = absurd (cc)
 
 -- what comes in round 0 is an edge inside the matrix
-pub came_inside : (rows ranks round to from : ℕ) (x : Item) → may_sssp (rows ∷ []) ranks round to from x ≡ true
-    → round ≡ 0 → IsInside rows (edge_came x)
-came_inside rows ranks round to from x h z = record { row = grind (arith, nat_tests); col = grind (arith, nat_tests) }
+pub sssp_came_inside : (rows ranks round to from : ℕ) (x : Item) → may_sssp (rows ∷ []) ranks round to from x ≡ true
+    → round ≡ 0 → IsInsideSquare rows (edge_came x)
+sssp_came_inside rows ranks round to from x h z = record { row = grind (arith, nat_tests); col = grind (arith, nat_tests) }
 
 -- ---- Absorbs commute
 
@@ -52,7 +52,7 @@ both_later false f g x e = e
 
 pub improved_comm : (p q a b : ℕ) (vs : List Vertex)
     → improved_at p a (improved_at q b vs) ≡ improved_at q b (improved_at p a vs)
-improved_comm p q a b vs = changed_comm vs q p unreached (improve b) (improve a) (λ e v. improve_comm a b v)
+improved_comm p q a b vs = changed_comm vs q p unreached_vertex (improve b) (improve a) (λ e v. improve_comm a b v)
 
 commutes : (s : SsspState) (f g : ℕ) (x y : Item) → IsSssp s
     → sssp_rules.absorbed (sssp_rules.absorbed s f x) g y ≡ sssp_rules.absorbed (sssp_rules.absorbed s g y) f x
@@ -60,7 +60,7 @@ commutes s f g x y v =
     let one : SsspState = sssp_rules.absorbed (sssp_rules.absorbed s f x) g y in
     let two : SsspState = sssp_rules.absorbed (sssp_rules.absorbed s g y) f x in
     let a : one.arriving ≡ two.arriving =
-    both_first (s.round == 0) (raised (edge_came y)) (raised (edge_came x)) s.arriving
+    both_first (s.round == 0) (with_value_raised (edge_came y)) (with_value_raised (edge_came x)) s.arriving
     (raised_comm (edge_came y) (edge_came x) s.arriving v.ordered) in
     let b : one.vertices ≡ two.vertices =
     both_later (s.round == 0) (improved_at (y.a / s.ranks) y.b) (improved_at (x.a / s.ranks) x.b) s.vertices
@@ -71,30 +71,30 @@ commutes s f g x y v =
 -- ---- Absorbs keep a state one of the program
 
 pub improved_len : (p w : ℕ) (vs : List Vertex) → length (improved_at p w vs) ≡ length vs
-improved_len p w vs = changed_len vs p unreached (improve w)
+improved_len p w vs = changed_len vs p unreached_vertex (improve w)
 
 pub len_either : (b : Bool) (p w : ℕ) (vs : List Vertex) → length (if b then vs else improved_at p w vs) ≡ length vs
 len_either true p w vs = refl
 len_either false p w vs = improved_len p w vs
 
-pub greater_inside : (rows : ℕ) (s t : Triple) → s.i ≡ t.i → s.j ≡ t.j → IsInside rows s → IsInside rows t
-    → IsInside rows (greater s t)
+pub greater_inside : (rows : ℕ) (s t : Triple) → s.i ≡ t.i → s.j ≡ t.j → IsInsideSquare rows s → IsInsideSquare rows t
+    → IsInsideSquare rows (greater s t)
 greater_inside rows s t e f a b = record { row = a.row; col = a.col }
 
 arrived_still : (s : SsspState) (f : ℕ) (x : Item) → IsSssp s → Fits sssp_rules s f x
-    → All (IsInside s.rows) (if s.round == 0 then raised (edge_came x) s.arriving else s.arriving)
+    → All (IsInsideSquare s.rows) (if s.round == 0 then with_value_raised (edge_came x) s.arriving else s.arriving)
 arrived_still s f x v e =
     elim (cases_eq s.round 0) [
       | inl z ↦
-          subst (λ b. All (IsInside s.rows) (if b then raised (edge_came x) s.arriving else s.arriving))
+          subst (λ b. All (IsInsideSquare s.rows) (if b then with_value_raised (edge_came x) s.arriving else s.arriving))
           (sym (eq-eqb s.round 0 z))
-          (raised_keeps (IsInside s.rows) (greater_inside s.rows) (edge_came x) s.arriving
-          (came_inside s.rows s.ranks s.round s.rank f x e z) v.arrived)
-      | inr n ↦ subst (λ b. All (IsInside s.rows) (if b then raised (edge_came x) s.arriving else s.arriving))
+          (raised_keeps (IsInsideSquare s.rows) (greater_inside s.rows) (edge_came x) s.arriving
+          (sssp_came_inside s.rows s.ranks s.round s.rank f x e z) v.arrived)
+      | inr n ↦ subst (λ b. All (IsInsideSquare s.rows) (if b then with_value_raised (edge_came x) s.arriving else s.arriving))
           (sym (ne_eqb s.round 0 n)) v.arrived
     ]
 
-ordered_still : (b : Bool) (t : Triple) (ts : List Triple) → InOrder ts → InOrder (if b then raised t ts else ts)
+ordered_still : (b : Bool) (t : Triple) (ts : List Triple) → InOrder ts → InOrder (if b then with_value_raised t ts else ts)
 ordered_still true t ts h = raised_ordered t ts h
 ordered_still false t ts h = h
 
@@ -125,7 +125,7 @@ keeps s f x v e =
 
 -- ---- The end of a round
 
-pub table_edges : (ranks places low high rows : ℕ) (ts : List Triple) → All (IsInside rows) ts
+pub table_edges : (ranks places low high rows : ℕ) (ts : List Triple) → All (IsInsideSquare rows) ts
     → All (All (IsEdge ranks rows)) (table_of ranks places low high ts)
 table_edges ranks places low high rows ts h =
     All-map (All (IsEdge ranks rows)) (edges_at ranks low high ts) (range_with_len 0 places) (λ k d l.
@@ -182,16 +182,16 @@ row_at P table p h = elim (cases_lt p (length table)) [
 
 pub offers_fit : (rows ranks round rank : ℕ) (table : List (List Edge)) (vs : List Vertex) (places : List ℕ)
     → rank < ranks → rows ≤ 16384 → 0 < round → All (All (IsEdge ranks rows)) table
-    → All (Offered rows ranks round rank) (offers table vs places)
+    → All (Offered rows ranks round rank) (offers_by_place table vs places)
 offers_fit rows ranks round rank table vs [] own wide late h = All-nil (Offered rows ranks round rank)
 offers_fit rows ranks round rank table vs (p ∷ ps) own wide late h =
-    All-append (Offered rows ranks round rank) (offers_at table vs p) (offers table vs ps)
-    (offers_from_fit rows ranks round rank (get_or vs p unreached).weight (get_or table p []) own wide late
+    All-append (Offered rows ranks round rank) (offers_at table vs p) (offers_by_place table vs ps)
+    (offers_from_fit rows ranks round rank (get_or vs p unreached_vertex).weight (get_or table p []) own wide late
     (row_at (IsEdge ranks rows) table p h))
     (offers_fit rows ranks round rank table vs ps own wide late h)
 
-pub ended_valid : (s : SsspState) (votes : ℕ) → IsSssp s → IsSssp (sssp_rules.ended s votes)
-ended_valid s votes v =
+pub sssp_ended_valid : (s : SsspState) (votes : ℕ) → IsSssp s → IsSssp (sssp_rules.ended s votes)
+sssp_ended_valid s votes v =
     record {
       own = v.own;
       wide = v.wide;
@@ -201,29 +201,29 @@ ended_valid s votes v =
       rows_kept = λ l. table_after_len s v ∙ sym (length-map s.vertices calm);
       places = length-map s.vertices calm ∙ v.places;
       fit = offers_fit s.rows s.ranks (min (s.round + 1) (2 ^ 64 - 1)) s.rank (table_after s) (map calm s.vertices)
-          (marked s.vertices) v.own v.wide (omega arith) (table_after_edges s v);
+          (marked_places s.vertices) v.own v.wide (omega arith) (table_after_edges s v);
     }
   where
-    arrived_none : (b : Bool) → All (IsInside s.rows) (if b then [] else s.arriving)
-    arrived_none true = All-nil (IsInside s.rows)
+    arrived_none : (b : Bool) → All (IsInsideSquare s.rows) (if b then [] else s.arriving)
+    arrived_none true = All-nil (IsInsideSquare s.rows)
     arrived_none false = v.arrived
 
     ordered_none : (b : Bool) → InOrder (if b then [] else s.arriving)
     ordered_none true = λ i j d l m. absurd (omega arith)
     ordered_none false = v.ordered
 
-few_votes : (s : SsspState) → IsSssp s → (if s.round == 0 then 0 else length (marked s.vertices)) < 2 ^ 32
+few_votes : (s : SsspState) → IsSssp s → (if s.round == 0 then 0 else length (marked_places s.vertices)) < 2 ^ 32
 few_votes s v = either (s.round == 0)
   where
-    few : length (marked s.vertices) < 2 ^ 32
+    few : length (marked_places s.vertices) < 2 ^ 32
     few =
-        let count : length (marked s.vertices) ≤ length s.vertices = marked_count 0 s.vertices in
+        let count : length (marked_places s.vertices) ≤ length s.vertices = marked_count 0 s.vertices in
         let places : length s.vertices ≡ s.rows / s.ranks + 1 = v.places in
         let wide : s.rows ≤ 16384 = v.wide in
         let part : s.rows / s.ranks ≤ s.rows = div-le_self s.rows s.ranks in
         omega arith
 
-    either : (b : Bool) → (if b then 0 else length (marked s.vertices)) < 2 ^ 32
+    either : (b : Bool) → (if b then 0 else length (marked_places s.vertices)) < 2 ^ 32
     either true = lit< tt
     either false = few
 
@@ -235,7 +235,7 @@ sssp_laws =
       keeps = λ s f x v e. keeps s f x v e;
       vote_below = λ s v. few_votes s v;
       next = λ s votes v l. record {
-        valid = ended_valid s votes v;
+        valid = sssp_ended_valid s votes v;
         rank = refl;
         ranks = refl;
         round = refl;

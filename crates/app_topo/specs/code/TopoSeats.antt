@@ -4,7 +4,7 @@ use Rattle.app_topo.specs.declared.seat.Seat.{Seat}
 use Rattle.app_topo.specs.Topos.{TopoState}
 
 -- the seat is that of a state
-pub record IsSeat (seat : Seat) (s : TopoState) : Type 0 where
+pub record IsTopoSeat (seat : Seat) (s : TopoState) : Type 0 where
   pub rank : seat.rank ≡ s.rank
   pub ranks : seat.ranks ≡ s.ranks
   pub size : seat.size ≡ s.size
@@ -12,8 +12,8 @@ pub record IsSeat (seat : Seat) (s : TopoState) : Type 0 where
 
 -- an item is taken in from a seat: the state becomes the one that is made, and what is sent and the
 -- seat stay
-pub record TakesIn {T E : Type 0} (made : TopoState) (seat : Seat) (old new : TopoState)
+pub record TopoTakesIn {T E : Type 0} (made : TopoState) (seat : Seat) (old new : TopoState)
     (result : Result T E) : Type 0 where
   pub ok : OnOk result (new ≡ made)
   pub sent : new.outgoing ≡ old.outgoing
-  pub seated : IsSeat seat new
+  pub seated : IsTopoSeat seat new

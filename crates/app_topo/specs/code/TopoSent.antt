@@ -15,6 +15,6 @@ abbrev pub to_other : ℕ → ℕ → Triple → ℕ × Item
 to_other ranks kind u = (u.j % ranks, record { a = u.j; b = u.i; c = kind })
 
 -- the entries in round 0, then claims and falls in turn
-abbrev pub sent_of : ℕ → ℕ → List Triple → List (ℕ × Item)
-sent_of round ranks kept =
+abbrev pub topo_sent : ℕ → ℕ → List Triple → List (ℕ × Item)
+topo_sent round ranks kept =
     if round == 0 then flat_map (for_both ranks) kept else map (to_other ranks (3 - round % 2)) kept

@@ -1,6 +1,6 @@
 -- The state of a rank of topo, read from the fields.
 use Rattle.app_topo.specs.declared.topo.Topo.TheInside.{Inside}
-use Rattle.app_topo.specs.code.TopoSent.{sent_of}
+use Rattle.app_topo.specs.code.TopoSent.{topo_sent}
 use Rattle.app_topo.specs.Topos.{TopoState}
 
 abbrev pub topo_state : Inside → TopoState
@@ -17,5 +17,5 @@ topo_state s =
       claimed = s.claimed.items;
       fresh = s.fresh;
       came = s.came;
-      outgoing = sent_of s.round s.ranks s.outgoing.items;
+      outgoing = topo_sent s.round s.ranks s.outgoing.items;
     }

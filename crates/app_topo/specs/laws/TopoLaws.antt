@@ -11,20 +11,20 @@ use Rattle.std.proofs.lemmas.List.Elements.{All-nil, All-map, All-filter, All-ap
 use Rattle.bale_items.specs.declared.Item.{Item}
 use Rattle.bale_items.specs.declared.triple.Triple.{Triple}
 use Rattle.list_laws.proofs.Lists.{changed_comm, changed_len}
-use Rattle.mtx_text.specs.Cells.{is_before, InOrder, raised}
+use Rattle.mtx_text.specs.Cells.{is_before, InOrder, with_value_raised}
 use Rattle.mtx_text.proofs.PlaceOrder.{pairs_none}
 use Rattle.mtx_text.proofs.Raised.{raised_comm, raised_ordered}
 use Rattle.mtx_text.proofs.Gathered.{raised_keeps}
 use Rattle.round_program.specs.Laws.{Laws, Fits, SameRound, IsItem, is_item}
 use Rattle.sparse_rows.proofs.Places.{place_own}
-use Rattle.app_topo.specs.Topos.{TopoState, IsTopo, IsInside, topo_rules, may_topo, spot, added, number_at, to_claim}
-use Rattle.app_topo.specs.Topos.{to_fall, own_rows, claims_now, claims_of, falls_of, next_outgoing, entered, claimed_by}
-use Rattle.app_topo.specs.Topos.{fallen}
+use Rattle.app_topo.specs.Topos.{TopoState, IsTopo, AreInside, topo_rules, may_topo, spot, with_rise, number_at, to_claim}
+use Rattle.app_topo.specs.Topos.{to_fall, own_rows, claims_now, claims_of, falls_of, topo_next_outgoing, after_entry, claimed_by}
+use Rattle.app_topo.specs.Topos.{after_fall}
 
 -- ---- What may be sent
 
 -- what an item that fits says
-pub record IsOwn (size ranks rank : ℕ) (x : Item) : Type 0 where
+pub record IsOwnItem (size ranks rank : ℕ) (x : Item) : Type 0 where
   pub a_low : x.a < size
   pub b_low : x.b < size
   pub own : x.a % ranks ≡ rank
@@ -42,40 +42,40 @@ topo_within (size ∷ []) ranks round to from x h =
 topo_within (size ∷ (c ∷ cs)) ranks round to from x h = absurd (cc)
 
 pub own_item : (size ranks round to from : ℕ) (x : Item) → may_topo (size ∷ []) ranks round to from x ≡ true
-    → IsOwn size ranks to x
+    → IsOwnItem size ranks to x
 own_item size ranks round to from x h =
     own_by (if round == 0 then nat_lt x.c 2 else x.c == 3 - round % 2) size ranks to from x h
   where
     own_by : (k : Bool) (size ranks to from : ℕ) (x : Item)
         → (nat_lt from ranks && nat_lt x.a size && nat_lt x.b size && x.a % ranks == to && is_item x && k) ≡ true
-        → IsOwn size ranks to x
+        → IsOwnItem size ranks to x
     own_by k size ranks to from x h =
         record { a_low = grind (arith, nat_tests); b_low = grind (arith, nat_tests); own = grind (arith, nat_tests) }
 
 -- ---- Each absorb keeps the rank in order
 
-pub added_len : (ranks : ℕ) (numbers : List ℕ) (x b : ℕ) → length (added ranks numbers x b) ≡ length numbers
+pub added_len : (ranks : ℕ) (numbers : List ℕ) (x b : ℕ) → length (with_rise ranks numbers x b) ≡ length numbers
 added_len ranks numbers x b = changed_len numbers (x / ranks) 0 (λ v. (v + b) % 2 ^ 64)
 
-pub raised_in : (size : ℕ) (t : Triple) (cells : List Triple) → IsInside size t → All (IsInside size) cells
-    → All (IsInside size) (raised t cells)
-raised_in size t cells h all = raised_keeps (IsInside size) (λ s u e f a b. a) t cells h all
+pub raised_in : (size : ℕ) (t : Triple) (cells : List Triple) → AreInside size t → All (AreInside size) cells
+    → All (AreInside size) (with_value_raised t cells)
+raised_in size t cells h all = raised_keeps (AreInside size) (λ s u e f a b. a) t cells h all
 
-spot_inside : (size a b : ℕ) → a < size → b < size → IsInside size (spot a b)
+spot_inside : (size a b : ℕ) → a < size → b < size → AreInside size (spot a b)
 spot_inside size a b h k = (h, k)
 
-maybe_in : (size : ℕ) (b : Bool) (t : Triple) (cells : List Triple) → IsInside size t → All (IsInside size) cells
-    → All (IsInside size) (if b then raised t cells else cells)
+maybe_in : (size : ℕ) (b : Bool) (t : Triple) (cells : List Triple) → AreInside size t → All (AreInside size) cells
+    → All (AreInside size) (if b then with_value_raised t cells else cells)
 maybe_in size true t cells h all = raised_in size t cells h all
 maybe_in size false t cells h all = all
 
 maybe_ordered : (b : Bool) (t : Triple) (cells : List Triple) → InOrder cells
-    → InOrder (if b then raised t cells else cells)
+    → InOrder (if b then with_value_raised t cells else cells)
 maybe_ordered true t cells h = raised_ordered t cells h
 maybe_ordered false t cells h = h
 
 maybe_added : (b : Bool) (ranks : ℕ) (numbers : List ℕ) (x n : ℕ)
-    → length (if b then added ranks numbers x n else numbers) ≡ length numbers
+    → length (if b then with_rise ranks numbers x n else numbers) ≡ length numbers
 maybe_added true ranks numbers x n = added_len ranks numbers x n
 maybe_added false ranks numbers x n = refl
 
@@ -83,7 +83,7 @@ either : {X : Type 0} (b : Bool) (P : X → Type 0) (x y : X) → P x → P y �
 either true P x y h k = h
 either false P x y h k = k
 
-pub entered_valid : (s : TopoState) (x : Item) → IsTopo s → IsOwn s.size s.ranks s.rank x → IsTopo (entered s x)
+pub entered_valid : (s : TopoState) (x : Item) → IsTopo s → IsOwnItem s.size s.ranks s.rank x → IsTopo (after_entry s x)
 entered_valid s x v o =
     record {
       own = v.own;
@@ -95,14 +95,14 @@ entered_valid s x v o =
       inside = v.inside;
       sorted = v.sorted;
       came_inside =
-          either (x.c == 0) (All (IsInside s.size)) s.came (raised (spot x.a x.b) s.came) v.came_inside
+          either (x.c == 0) (All (AreInside s.size)) s.came (with_value_raised (spot x.a x.b) s.came) v.came_inside
           (raised_in s.size (spot x.a x.b) s.came (spot_inside s.size x.a x.b o.a_low o.b_low) v.came_inside);
-      ordered = either (x.c == 0) InOrder s.came (raised (spot x.a x.b) s.came) v.ordered
+      ordered = either (x.c == 0) InOrder s.came (with_value_raised (spot x.a x.b) s.came) v.ordered
           (raised_ordered (spot x.a x.b) s.came v.ordered);
       fit = v.fit;
     }
 
-pub claimed_valid : (s : TopoState) (x : Item) → IsTopo s → IsOwn s.size s.ranks s.rank x → IsTopo (claimed_by s x)
+pub claimed_valid : (s : TopoState) (x : Item) → IsTopo s → IsOwnItem s.size s.ranks s.rank x → IsTopo (claimed_by s x)
 claimed_valid s x v o =
     let low : x.a < s.size = o.a_low in
     record {
@@ -121,7 +121,7 @@ claimed_valid s x v o =
       fit = v.fit;
     }
 
-pub fallen_valid : (s : TopoState) (x : Item) → IsTopo s → IsOwn s.size s.ranks s.rank x → IsTopo (fallen s x)
+pub fallen_valid : (s : TopoState) (x : Item) → IsTopo s → IsOwnItem s.size s.ranks s.rank x → IsTopo (after_fall s x)
 fallen_valid s x v o =
     let low : x.a < s.size = o.a_low in
     let b : Bool = (number_at s.ranks s.numbers x.a + (2 ^ 64 - 1)) % 2 ^ 64 == 1 in
@@ -147,8 +147,8 @@ pub data Kind (s : TopoState) : Type 0 where
   odd : s.round ≢ 0 → s.round % 2 ≡ 1 → Kind s
   even : s.round ≢ 0 → s.round % 2 ≢ 1 → Kind s
 
-pub kind_of : (s : TopoState) → Kind s
-kind_of s = elim (cases_eq s.round 0) [
+pub topo_kind : (s : TopoState) → Kind s
+topo_kind s = elim (cases_eq s.round 0) [
   | inl z ↦ first z
   | inr n ↦ elim (cases_eq (s.round % 2) 1) [ inl o ↦ odd n o | inr e ↦ even n e ]
 ]
@@ -176,9 +176,9 @@ same_after s t x f e h = subst (SameRound topo_rules s) (sym e) h
 keeps : (s : TopoState) (f : ℕ) (x : Item) → IsTopo s → Fits topo_rules s f x
     → SameRound topo_rules s (topo_rules.absorbed s f x)
 keeps s f x v e =
-    let o : IsOwn s.size s.ranks s.rank x = own_item s.size s.ranks s.round s.rank f x e in
-    elim (kind_of s) [
-      | first z ↦ same_after s (entered s x) x f (in_first s (entered s x) (claimed_by s x) (fallen s x) z)
+    let o : IsOwnItem s.size s.ranks s.rank x = own_item s.size s.ranks s.round s.rank f x e in
+    elim (topo_kind s) [
+      | first z ↦ same_after s (after_entry s x) x f (in_first s (after_entry s x) (claimed_by s x) (after_fall s x) z)
           (record {
             valid = entered_valid s x v o;
             rank = refl;
@@ -188,7 +188,7 @@ keeps s f x v e =
             most = refl;
             emissions = refl;
           })
-      | odd n d ↦ same_after s (claimed_by s x) x f (in_odd s (entered s x) (claimed_by s x) (fallen s x) n d)
+      | odd n d ↦ same_after s (claimed_by s x) x f (in_odd s (after_entry s x) (claimed_by s x) (after_fall s x) n d)
           (record {
             valid = claimed_valid s x v o;
             rank = refl;
@@ -198,7 +198,7 @@ keeps s f x v e =
             most = refl;
             emissions = refl;
           })
-      | even n d ↦ same_after s (fallen s x) x f (in_even s (entered s x) (claimed_by s x) (fallen s x) n d)
+      | even n d ↦ same_after s (after_fall s x) x f (in_even s (after_entry s x) (claimed_by s x) (after_fall s x) n d)
           (record {
             valid = fallen_valid s x v o;
             rank = refl;
@@ -213,18 +213,18 @@ keeps s f x v e =
 -- ---- Absorbs commute
 
 added_comm : (ranks : ℕ) (numbers : List ℕ) (x y b c : ℕ)
-    → added ranks (added ranks numbers x b) y c ≡ added ranks (added ranks numbers y c) x b
+    → with_rise ranks (with_rise ranks numbers x b) y c ≡ with_rise ranks (with_rise ranks numbers y c) x b
 added_comm ranks numbers x y b c =
     changed_comm numbers (x / ranks) (y / ranks) 0 (λ v. (v + b) % 2 ^ 64) (λ v. (v + c) % 2 ^ 64) (λ e v. omega arith)
 
 pub added_here : (ranks : ℕ) (numbers : List ℕ) (x y b : ℕ) → x / ranks ≡ y / ranks → x / ranks < length numbers
-    → number_at ranks (added ranks numbers x b) y ≡ (number_at ranks numbers x + b) % 2 ^ 64
+    → number_at ranks (with_rise ranks numbers x b) y ≡ (number_at ranks numbers x + b) % 2 ^ 64
 added_here ranks numbers x y b same low =
-    ap (λ k. get_or (added ranks numbers x b) k 0) (sym same) ∙ get_or-set_same numbers (x / ranks)
+    ap (λ k. get_or (with_rise ranks numbers x b) k 0) (sym same) ∙ get_or-set_same numbers (x / ranks)
     ((number_at ranks numbers x + b) % 2 ^ 64) 0 low
 
 pub added_there : (ranks : ℕ) (numbers : List ℕ) (x y b : ℕ) → x / ranks ≢ y / ranks
-    → number_at ranks (added ranks numbers x b) y ≡ number_at ranks numbers y
+    → number_at ranks (with_rise ranks numbers x b) y ≡ number_at ranks numbers y
 added_there ranks numbers x y b other =
     get_or-set_other numbers (x / ranks) (y / ranks) ((number_at ranks numbers x + b) % 2 ^ 64) 0 (λ e. other (sym e))
 
@@ -246,18 +246,18 @@ both_turned true false f g x e = refl
 both_turned false true f g x e = refl
 both_turned false false f g x e = sym e
 
-entered_comm : (s : TopoState) (x y : Item) → IsTopo s → entered (entered s x) y ≡ entered (entered s y) x
+entered_comm : (s : TopoState) (x y : Item) → IsTopo s → after_entry (after_entry s x) y ≡ after_entry (after_entry s y) x
 entered_comm s x y v =
-    let one : TopoState = entered (entered s x) y in
-    let two : TopoState = entered (entered s y) x in
+    let one : TopoState = after_entry (after_entry s x) y in
+    let two : TopoState = after_entry (after_entry s y) x in
     let n : one.numbers ≡ two.numbers =
-    both_ways (x.c == 0) (y.c == 0) (λ ns. added s.ranks ns x.a 1) (λ ns. added s.ranks ns y.a 1) s.numbers
+    both_ways (x.c == 0) (y.c == 0) (λ ns. with_rise s.ranks ns x.a 1) (λ ns. with_rise s.ranks ns y.a 1) s.numbers
     (added_comm s.ranks s.numbers y.a x.a 1 1) in
     let m : one.sums ≡ two.sums =
-    both_ways (x.c == 0) (y.c == 0) (λ ns. added s.ranks ns x.a x.b) (λ ns. added s.ranks ns y.a y.b) s.sums
+    both_ways (x.c == 0) (y.c == 0) (λ ns. with_rise s.ranks ns x.a x.b) (λ ns. with_rise s.ranks ns y.a y.b) s.sums
     (added_comm s.ranks s.sums y.a x.a y.b x.b) in
     let c : one.came ≡ two.came =
-    both_turned (x.c == 0) (y.c == 0) (raised (spot x.a x.b)) (raised (spot y.a y.b)) s.came
+    both_turned (x.c == 0) (y.c == 0) (with_value_raised (spot x.a x.b)) (with_value_raised (spot y.a y.b)) s.came
     (raised_comm (spot x.a x.b) (spot y.a y.b) s.came v.ordered) in
     ap (λ w. record s { numbers = w; sums = one.sums; came = one.came }) n
     ∙ ap (λ w. record s { numbers = two.numbers; sums = w; came = one.came }) m
@@ -276,7 +276,7 @@ claimed_comm s x y v =
     let f : one.fresh ≡ two.fresh =
     elim (cases_eq (x.a / s.ranks) (y.a / s.ranks)) [
       | inl same ↦
-          ap₂ (λ k l. if get_or (added s.ranks s.counts x.a 1) k 0 == 0
+          ap₂ (λ k l. if get_or (with_rise s.ranks s.counts x.a 1) k 0 == 0
           then more (if get_or s.counts l 0 == 0 then more s.fresh else s.fresh)
           else if get_or s.counts l 0 == 0 then more s.fresh else s.fresh) (sym same) same
           ∙ ap (λ k. if get_or (changed k) (x.a / s.ranks) 0 == 0
@@ -299,28 +299,28 @@ claimed_comm s x y v =
 abbrev fell : ℕ → ℕ
 fell n = (n + (2 ^ 64 - 1)) % 2 ^ 64
 
-fallen_comm : (s : TopoState) (x y : Item) → IsTopo s → IsOwn s.size s.ranks s.rank x → IsOwn s.size s.ranks s.rank y
-    → fallen (fallen s x) y ≡ fallen (fallen s y) x
+fallen_comm : (s : TopoState) (x y : Item) → IsTopo s → IsOwnItem s.size s.ranks s.rank x → IsOwnItem s.size s.ranks s.rank y
+    → after_fall (after_fall s x) y ≡ after_fall (after_fall s y) x
 fallen_comm s x y v ox oy =
-    let one : TopoState = fallen (fallen s x) y in
-    let two : TopoState = fallen (fallen s y) x in
+    let one : TopoState = after_fall (after_fall s x) y in
+    let two : TopoState = after_fall (after_fall s y) x in
     let n : one.numbers ≡ two.numbers = added_comm s.ranks s.numbers x.a y.a (2 ^ 64 - 1) (2 ^ 64 - 1) in
     let m : one.sums ≡ two.sums = added_comm s.ranks s.sums x.a y.a (2 ^ 64 - x.b) (2 ^ 64 - y.b) in
     let mark : ℕ → ℕ → List Triple
-    → List Triple = λ a number cells. (if fell number == 1 then raised (spot a 0) cells else cells) in
+    → List Triple = λ a number cells. (if fell number == 1 then with_value_raised (spot a 0) cells else cells) in
     let c : one.came ≡ two.came =
     elim (cases_eq (x.a / s.ranks) (y.a / s.ranks)) [
       | inl place ↦
           let same : x.a ≡ y.a = place_own s.ranks x.a y.a (ox.own ∙ sym oy.own) place in
-          ap (λ a. mark y.a (number_at s.ranks (added s.ranks s.numbers a (2 ^ 64 - 1)) y.a)
+          ap (λ a. mark y.a (number_at s.ranks (with_rise s.ranks s.numbers a (2 ^ 64 - 1)) y.a)
           (mark a (number_at s.ranks s.numbers a) s.came)) same
-          ∙ ap (λ a. mark a (number_at s.ranks (added s.ranks s.numbers y.a (2 ^ 64 - 1)) a)
+          ∙ ap (λ a. mark a (number_at s.ranks (with_rise s.ranks s.numbers y.a (2 ^ 64 - 1)) a)
           (mark y.a (number_at s.ranks s.numbers y.a) s.came)) (sym same)
       | inr other ↦
           ap (λ k. mark y.a k (mark x.a (number_at s.ranks s.numbers x.a) s.came))
           (added_there s.ranks s.numbers x.a y.a (2 ^ 64 - 1) other)
           ∙ both_ways (fell (number_at s.ranks s.numbers x.a) == 1) (fell (number_at s.ranks s.numbers y.a) == 1)
-          (raised (spot x.a 0)) (raised (spot y.a 0)) s.came
+          (with_value_raised (spot x.a 0)) (with_value_raised (spot y.a 0)) s.came
           (raised_comm (spot x.a 0) (spot y.a 0) s.came v.ordered)
           ∙ sym (ap (λ k. mark x.a k (mark y.a (number_at s.ranks s.numbers y.a) s.came))
           (added_there s.ranks s.numbers y.a x.a (2 ^ 64 - 1) (λ e. other (sym e))))
@@ -332,29 +332,29 @@ fallen_comm s x y v ox oy =
 commutes : (s : TopoState) (f g : ℕ) (x y : Item) → IsTopo s → Fits topo_rules s f x → Fits topo_rules s g y
     → topo_rules.absorbed (topo_rules.absorbed s f x) g y ≡ topo_rules.absorbed (topo_rules.absorbed s g y) f x
 commutes s f g x y v d e =
-    let ox : IsOwn s.size s.ranks s.rank x = own_item s.size s.ranks s.round s.rank f x d in
-    let oy : IsOwn s.size s.ranks s.rank y = own_item s.size s.ranks s.round s.rank g y e in
-    elim (kind_of s) [
+    let ox : IsOwnItem s.size s.ranks s.rank x = own_item s.size s.ranks s.round s.rank f x d in
+    let oy : IsOwnItem s.size s.ranks s.rank y = own_item s.size s.ranks s.round s.rank g y e in
+    elim (topo_kind s) [
       | first z ↦
           let step : (t : TopoState) (w : Item) (h : ℕ) → t.round ≡ 0
-          → topo_rules.absorbed t h w ≡ entered t w =
-          λ t w h q. in_first t (entered t w) (claimed_by t w) (fallen t w) q in
-          ap (λ t. topo_rules.absorbed t g y) (step s x f z) ∙ step (entered s x) y g z ∙ entered_comm s x y v
-          ∙ sym (ap (λ t. topo_rules.absorbed t f x) (step s y g z) ∙ step (entered s y) x f z)
+          → topo_rules.absorbed t h w ≡ after_entry t w =
+          λ t w h q. in_first t (after_entry t w) (claimed_by t w) (after_fall t w) q in
+          ap (λ t. topo_rules.absorbed t g y) (step s x f z) ∙ step (after_entry s x) y g z ∙ entered_comm s x y v
+          ∙ sym (ap (λ t. topo_rules.absorbed t f x) (step s y g z) ∙ step (after_entry s y) x f z)
       | odd n o ↦
           let step : (t : TopoState) (w : Item) (h : ℕ) → t.round ≡ s.round
           → topo_rules.absorbed t h w ≡ claimed_by t w =
-          λ t w h q. in_odd t (entered t w) (claimed_by t w) (fallen t w) (λ z. n (sym q ∙ z))
+          λ t w h q. in_odd t (after_entry t w) (claimed_by t w) (after_fall t w) (λ z. n (sym q ∙ z))
           (ap (λ k. k % 2) q ∙ o) in
           ap (λ t. topo_rules.absorbed t g y) (step s x f refl) ∙ step (claimed_by s x) y g refl ∙ claimed_comm s x y v
           ∙ sym (ap (λ t. topo_rules.absorbed t f x) (step s y g refl) ∙ step (claimed_by s y) x f refl)
       | even n o ↦
           let step : (t : TopoState) (w : Item) (h : ℕ) → t.round ≡ s.round
-          → topo_rules.absorbed t h w ≡ fallen t w =
-          λ t w h q. in_even t (entered t w) (claimed_by t w) (fallen t w) (λ z. n (sym q ∙ z))
+          → topo_rules.absorbed t h w ≡ after_fall t w =
+          λ t w h q. in_even t (after_entry t w) (claimed_by t w) (after_fall t w) (λ z. n (sym q ∙ z))
           (λ k. o (sym (ap (λ k. k % 2) q) ∙ k)) in
-          ap (λ t. topo_rules.absorbed t g y) (step s x f refl) ∙ step (fallen s x) y g refl ∙ fallen_comm s x y v ox oy
-          ∙ sym (ap (λ t. topo_rules.absorbed t f x) (step s y g refl) ∙ step (fallen s y) x f refl)
+          ap (λ t. topo_rules.absorbed t g y) (step s x f refl) ∙ step (after_fall s x) y g refl ∙ fallen_comm s x y v ox oy
+          ∙ sym (ap (λ t. topo_rules.absorbed t f x) (step s y g refl) ∙ step (after_fall s y) x f refl)
     ]
 
 -- ---- What is sent next fits
@@ -406,19 +406,19 @@ falls_fit s round (c ∷ cs) v n o =
     All-append (FitsIn s round) (map (to_fall s.ranks) mine)
     (flat_map (λ c. map (to_fall s.ranks) (filter (λ u. u.i == c.i) s.columns)) cs)
     (All-map (FitsIn s round) (to_fall s.ranks) mine
-    (λ k d l. let h : IsInside s.size (get_or mine k d) =
-    All-filter (λ u. u.i == c.i) (IsInside s.size) s.columns v.inside k d l in fall_fits s.size s.ranks s.rank round
+    (λ k d l. let h : AreInside s.size (get_or mine k d) =
+    All-filter (λ u. u.i == c.i) (AreInside s.size) s.columns v.inside k d l in fall_fits s.size s.ranks s.rank round
     (get_or mine k d) v.own v.wide h.0 h.1 n o))
     (falls_fit s round cs v n o)
 
-pub next_fit : (s : TopoState) → IsTopo s → All (FitsIn s (min (s.round + 1) (2 ^ 64 - 1))) (next_outgoing s)
-next_fit s v =
+pub topo_next_fit : (s : TopoState) → IsTopo s → All (FitsIn s (min (s.round + 1) (2 ^ 64 - 1))) (topo_next_outgoing s)
+topo_next_fit s v =
     let round : ℕ = min (s.round + 1) (2 ^ 64 - 1) in
     let rows : List (ℕ × Item) = claims_of s.ranks s.size s.numbers s.sums (own_rows s.ranks s.rank s.size) in
     let falls : List (ℕ × Item) = (if nat_lt s.round (2 ^ 64 - 1) then falls_of s.ranks s.columns s.came else []) in
     let later : List (ℕ × Item) = claims_of s.ranks s.size s.numbers s.sums (map (λ u. u.i) s.came) in
     let all : List (ℕ × Item) = flat_map (λ c. map (to_fall s.ranks) (filter (λ u. u.i == c.i) s.columns)) s.came in
-    elim (kind_of s) [
+    elim (topo_kind s) [
       | first z ↦ subst (All (FitsIn s round)) (sym (in_first s rows falls later z))
           (claims_fit s round (own_rows s.ranks s.rank s.size) v (omega arith) (omega arith))
       | odd n o ↦
@@ -448,11 +448,11 @@ topo_laws =
           sum_places = v.sum_places;
           count_places = v.count_places;
           few = lit< tt;
-          inside = either (s.round == 0) (All (IsInside s.size)) s.came s.columns v.came_inside v.inside;
+          inside = either (s.round == 0) (All (AreInside s.size)) s.came s.columns v.came_inside v.inside;
           sorted = either (s.round == 0) InOrder s.came s.columns v.ordered v.sorted;
-          came_inside = All-nil (IsInside s.size);
+          came_inside = All-nil (AreInside s.size);
           ordered = pairs_none (λ t u. is_before t u ≡ true);
-          fit = next_fit s v;
+          fit = topo_next_fit s v;
         };
         rank = refl;
         ranks = refl;

@@ -4,10 +4,10 @@ use Rattle.std.proofs.lemmas.Bool.{cases_lt}
 use Rattle.rank_crews.specs.Runs.{RanLaws}
 use Rattle.round_program.specs.Talks.{Talk}
 use Rattle.rank_group.specs.laws.NotedLaws.{same_laws}
-use Rattle.biconvey.specs.Seats.{SeatedState, Ran, AskerMadeNone}
+use Rattle.biconvey.specs.Seats.{BiSeatedState, BiRan, AskerMadeNone}
 
-pub ran_laws : {S : Type 0} (T : Talk S) (cap : ℕ) (told : ℕ → ℕ → Bool) → RanLaws (λ x y. Ran T cap told x y)
-ran_laws T cap told =
+pub bi_ran_laws : {S : Type 0} (T : Talk S) (cap : ℕ) (told : ℕ → ℕ → Bool) → RanLaws (λ x y. BiRan T cap told x y)
+bi_ran_laws T cap told =
     record {
       none = λ x. record {
         queries = record { bank = refl; number = refl };
@@ -30,8 +30,8 @@ ran_laws T cap told =
 
 pub asker_none_laws : {S : Type 0} → RanLaws (AskerMadeNone {S = S})
 asker_none_laws {S} =
-    let q = same_laws (λ (x : SeatedState S). x.queries) in
-    let p = same_laws (λ (x : SeatedState S). x.replies) in
+    let q = same_laws (λ (x : BiSeatedState S). x.queries) in
+    let p = same_laws (λ (x : BiSeatedState S). x.replies) in
     record {
       none = λ x. record { queries = q.none x; replies = p.none x; asked = refl; over = refl };
       on = λ x y z a b. record {

@@ -5,7 +5,7 @@ use Rattle.delta_step.specs.declared.phase.Phase.TheVariants.{First}
 use Rattle.delta_step.specs.Deltas.{DeltaState}
 
 -- the seat is that of a state
-pub record IsSeat (seat : Seat) (s : DeltaState) : Type 0 where
+pub record IsDeltaSeat (seat : Seat) (s : DeltaState) : Type 0 where
   pub own : seat.rank < seat.ranks
   pub rank : seat.rank ≡ s.rank
   pub ranks : seat.ranks ≡ s.ranks
@@ -16,11 +16,11 @@ pub record IsSeat (seat : Seat) (s : DeltaState) : Type 0 where
 
 -- an item is taken in from a seat: the state becomes the one that is made, and what is sent and the
 -- seat stay
-pub record TakesIn {T E : Type 0} (made : DeltaState) (seat : Seat) (old new : DeltaState)
+pub record DeltaTakesIn {T E : Type 0} (made : DeltaState) (seat : Seat) (old new : DeltaState)
     (result : Result T E) : Type 0 where
   pub ok : OnOk result (new ≡ made)
   pub sent : new.outgoing ≡ old.outgoing
-  pub seated : IsSeat seat new
+  pub seated : IsDeltaSeat seat new
 
 -- a round begins: the state becomes the one that is made, or what is sent stays
 pub record BeginsRound {T E : Type 0} (made old new : DeltaState) (result : Result T E) : Type 0 where

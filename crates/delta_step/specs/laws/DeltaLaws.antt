@@ -12,22 +12,22 @@ use Rattle.std.proofs.lemmas.List.Elements.{All-nil, All-map, All-append, All-fi
 use Rattle.std.proofs.lemmas.List.FromFn.{get_or-range_with_len, length-range_with_len}
 use Rattle.bale_items.specs.declared.Item.{Item}
 use Rattle.bale_items.specs.declared.triple.Triple.{Triple}
-use Rattle.mtx_text.specs.Cells.{InOrder, raised}
+use Rattle.mtx_text.specs.Cells.{InOrder, with_value_raised}
 use Rattle.mtx_text.proofs.Raised.{raised_ordered, raised_comm}
 use Rattle.mtx_text.proofs.Gathered.{raised_keeps}
 use Rattle.round_program.specs.Laws.{Laws, Fits, SameRound, IsItem}
 use Rattle.least_walks.specs.declared.table.Edge.{Edge}
 use Rattle.least_walks.specs.declared.vertices.Vertex.{Vertex}
-use Rattle.least_walks.specs.Tables.{offers, offers_at, offers_from, offer}
-use Rattle.least_walks.specs.Vertices.{unreached, improved_at, marked, in_bucket, picked, calm_if, least_marked}
+use Rattle.least_walks.specs.Tables.{offers_by_place, offers_at, offers_from, offer}
+use Rattle.least_walks.specs.Vertices.{unreached_vertex, improved_at, marked_places, in_bucket, places_where, calm_if, least_marked}
 use Rattle.least_walks.proofs.Marks.{marked_count, picked_count, picked_below}
 use Rattle.least_walks.proofs.Rows.{table_len}
-use Rattle.app_sssp.specs.Sssps.{IsEdge, IsInside, edge_came}
+use Rattle.app_sssp.specs.Sssps.{IsEdge, IsInsideSquare, edge_came}
 use Rattle.app_sssp.specs.laws.SsspLaws.{improved_comm, improved_len, greater_inside, table_edges}
 use Rattle.delta_step.specs.declared.phase.Phase.{Phase}
 use Rattle.delta_step.specs.declared.phase.Phase.TheVariants.{First, Find, Light, Heavy}
-use Rattle.delta_step.specs.Deltas.{DeltaState, IsDelta, delta_rules, may_delta, bucket_of, announced, ascending}
-use Rattle.delta_step.specs.Deltas.{offered, absorbed_in, vote_in, finding, sorted_out, activated, finished, ended_in}
+use Rattle.delta_step.specs.Deltas.{DeltaState, IsDelta, delta_rules, may_delta, bucket_of, announced_items, ascending}
+use Rattle.delta_step.specs.Deltas.{offered_along, absorbed_in, vote_in, finding, sorted_out, after_activation, after_last_round, ended_in}
 
 delta_within : (shape : List ℕ) (ranks round to from : ℕ) (x : Item) → may_delta shape ranks round to from x ≡ true
     → (to < ranks) × (from < ranks) × IsItem x
@@ -37,14 +37,14 @@ delta_within (rows ∷ []) ranks round to from x h =
 delta_within (rows ∷ (c ∷ cs)) ranks round to from x h = absurd (cc)
 
 -- what comes in round 0 is an edge inside the matrix
-pub came_inside : (rows ranks round to from : ℕ) (x : Item) → may_delta (rows ∷ []) ranks round to from x ≡ true
-    → round ≡ 0 → IsInside rows (edge_came x)
-came_inside rows ranks round to from x h z = record { row = grind (arith, nat_tests); col = grind (arith, nat_tests) }
+pub delta_came_inside : (rows ranks round to from : ℕ) (x : Item) → may_delta (rows ∷ []) ranks round to from x ≡ true
+    → round ≡ 0 → IsInsideSquare rows (edge_came x)
+delta_came_inside rows ranks round to from x h z = record { row = grind (arith, nat_tests); col = grind (arith, nat_tests) }
 
 -- ---- Absorbs commute
 
 pub offered_comm : (s : DeltaState) (x y : Item)
-    → offered (record s { vertices = offered s x }) y ≡ offered (record s { vertices = offered s y }) x
+    → offered_along (record s { vertices = offered_along s x }) y ≡ offered_along (record s { vertices = offered_along s y }) x
 offered_comm s x y = both (nat_lt x.a s.rows && x.a % s.ranks == s.rank) (nat_lt y.a s.rows && y.a % s.ranks == s.rank)
   where
     both : (a b : Bool)
@@ -84,7 +84,7 @@ commutes s f g x y v =
 
 -- ---- Absorbs keep a state one of the program
 
-pub offered_len : (s : DeltaState) (x : Item) → length (offered s x) ≡ length s.vertices
+pub offered_len : (s : DeltaState) (x : Item) → length (offered_along s x) ≡ length s.vertices
 offered_len s x = either (nat_lt x.a s.rows && x.a % s.ranks == s.rank)
   where
     either : (b : Bool)
@@ -132,7 +132,7 @@ bucket_valid s b v =
       fit = v.fit;
     }
 
-pub arriving_valid : (s : DeltaState) (ts : List Triple) → IsDelta s → All (IsInside s.rows) ts → InOrder ts
+pub arriving_valid : (s : DeltaState) (ts : List Triple) → IsDelta s → All (IsInsideSquare s.rows) ts → InOrder ts
     → IsDelta (record s { arriving = ts })
 arriving_valid s ts v a o =
     record {
@@ -155,13 +155,13 @@ arriving_valid s ts v a o =
 absorbed_valid : (p : Phase) (s : DeltaState) (f : ℕ) (x : Item) → s.phase ≡ p → IsDelta s → Fits delta_rules s f x
     → IsDelta (absorbed_in p s x)
 absorbed_valid First s f x e v h =
-    arriving_valid s (raised (edge_came x) s.arriving) v
-    (raised_keeps (IsInside s.rows) (greater_inside s.rows) (edge_came x) s.arriving
-    (came_inside s.rows s.ranks s.round s.rank f x h (v.early e)) v.arrived)
+    arriving_valid s (with_value_raised (edge_came x) s.arriving) v
+    (raised_keeps (IsInsideSquare s.rows) (greater_inside s.rows) (edge_came x) s.arriving
+    (delta_came_inside s.rows s.ranks s.round s.rank f x h (v.early e)) v.arrived)
     (raised_ordered (edge_came x) s.arriving v.ordered)
 absorbed_valid Find s f x e v h = bucket_valid s (min s.bucket x.a) v
-absorbed_valid Light s f x e v h = vertices_valid s (offered s x) v (offered_len s x)
-absorbed_valid Heavy s f x e v h = vertices_valid s (offered s x) v (offered_len s x)
+absorbed_valid Light s f x e v h = vertices_valid s (offered_along s x) v (offered_len s x)
+absorbed_valid Heavy s f x e v h = vertices_valid s (offered_along s x) v (offered_len s x)
 
 keeps_in : (p : Phase) (s : DeltaState) (f : ℕ) (x : Item) → s.phase ≡ p → IsDelta s → Fits delta_rules s f x
     → SameRound delta_rules s (absorbed_in p s x)
@@ -231,22 +231,22 @@ row_at P table p h = elim (cases_lt p (length table)) [
   | inr past ↦ subst (All P) (sym (get_or_past table p [] past)) (All-nil P)
 ]
 
-pub offers_fit : (rows ranks round rank : ℕ) (table : List (List Edge)) (vs : List Vertex) (places : List ℕ)
+pub delta_offers_fit : (rows ranks round rank : ℕ) (table : List (List Edge)) (vs : List Vertex) (places : List ℕ)
     → rank < ranks → rows ≤ 16384 → 0 < round → All (All (IsEdge ranks rows)) table
-    → All (Sent rows ranks round rank) (offers table vs places)
-offers_fit rows ranks round rank table vs [] own wide late h = All-nil (Sent rows ranks round rank)
-offers_fit rows ranks round rank table vs (p ∷ ps) own wide late h =
-    All-append (Sent rows ranks round rank) (offers_at table vs p) (offers table vs ps)
-    (offers_from_fit rows ranks round rank (get_or vs p unreached).weight (get_or table p []) own wide late
+    → All (Sent rows ranks round rank) (offers_by_place table vs places)
+delta_offers_fit rows ranks round rank table vs [] own wide late h = All-nil (Sent rows ranks round rank)
+delta_offers_fit rows ranks round rank table vs (p ∷ ps) own wide late h =
+    All-append (Sent rows ranks round rank) (offers_at table vs p) (offers_by_place table vs ps)
+    (offers_from_fit rows ranks round rank (get_or vs p unreached_vertex).weight (get_or table p []) own wide late
     (row_at (IsEdge ranks rows) table p h))
-    (offers_fit rows ranks round rank table vs ps own wide late h)
+    (delta_offers_fit rows ranks round rank table vs ps own wide late h)
 
 bucket_word : (width : ℕ) (o : Option ℕ) → bucket_of width o < 2 ^ 64
 bucket_word width None = lit< tt
 bucket_word width (Some w) = omega arith
 
 pub announced_fit : (rows ranks round rank bucket : ℕ) → rank < ranks → 0 < round → bucket < 2 ^ 64
-    → All (Sent rows ranks round rank) (announced ranks bucket)
+    → All (Sent rows ranks round rank) (announced_items ranks bucket)
 announced_fit rows ranks round rank bucket own late low =
     All-map (Sent rows ranks round rank) (λ d. (d, record { a = bucket; b = 0; c = 0 })) (range_with_len 0 ranks)
     (λ k d l. told (get_or (range_with_len 0 ranks) k d) (rank_low k d l))
@@ -294,7 +294,7 @@ sorted_valid s v =
       some = v.some;
       narrow = v.narrow;
       early = λ e. absurd (find_first e);
-      arrived = All-nil (IsInside s.rows);
+      arrived = All-nil (IsInsideSquare s.rows);
       ordered = λ i j d l m. absurd (omega arith);
       light_edges = table_edges s.ranks (length s.vertices) 0 s.width s.rows s.arriving v.arrived;
       heavy_edges = table_edges s.ranks (length s.vertices) (s.width + 1) (2 ^ 64 - 1) s.rows s.arriving v.arrived;
@@ -310,7 +310,7 @@ sorted_valid s v =
     find_first : Find ≡ First → ⊥
     find_first e = cc
 
-pub activated_valid : (s : DeltaState) → IsDelta s → s.phase ≢ First → IsDelta (activated s)
+pub activated_valid : (s : DeltaState) → IsDelta s → s.phase ≢ First → IsDelta (after_activation s)
 activated_valid s v d =
     let test : Vertex → Bool = in_bucket s.width s.bucket in
     let len : length (map (calm_if test) s.vertices) ≡ length s.vertices = length-map s.vertices (calm_if test) in
@@ -328,11 +328,11 @@ activated_valid s v d =
       heavy_kept = λ _. v.heavy_kept d ∙ sym len;
       places = len ∙ v.places;
       placed =
-          subst (λ n. All (λ p. p < n) (s.settled ++ picked test s.vertices)) (sym len)
-          (All-append (λ p. p < length s.vertices) s.settled (picked test s.vertices) v.placed
+          subst (λ n. All (λ p. p < n) (s.settled ++ places_where test s.vertices)) (sym len)
+          (All-append (λ p. p < length s.vertices) s.settled (places_where test s.vertices) v.placed
           (picked_below test s.vertices));
-      fit = offers_fit s.rows s.ranks (min (s.round + 1) (2 ^ 64 - 1)) s.rank s.light (map (calm_if test) s.vertices)
-          (picked test s.vertices) v.own v.wide (omega arith) v.light_edges;
+      fit = delta_offers_fit s.rows s.ranks (min (s.round + 1) (2 ^ 64 - 1)) s.rank s.light (map (calm_if test) s.vertices)
+          (places_where test s.vertices) v.own v.wide (omega arith) v.light_edges;
     }
   where
     light_first : Light ≡ First → ⊥
@@ -345,7 +345,7 @@ ascending_below n places =
     let e : get_or (range_with_len 0 n) k d ≡ 0 + k = get_or-range_with_len 0 n k d low_k in
     omega arith)
 
-pub finished_valid : (s : DeltaState) → IsDelta s → s.phase ≢ First → IsDelta (finished s)
+pub finished_valid : (s : DeltaState) → IsDelta s → s.phase ≢ First → IsDelta (after_last_round s)
 finished_valid s v d =
     record {
       own = v.own;
@@ -361,7 +361,7 @@ finished_valid s v d =
       heavy_kept = λ _. v.heavy_kept d;
       places = v.places;
       placed = ascending_below (length s.vertices) s.settled;
-      fit = offers_fit s.rows s.ranks (min (s.round + 1) (2 ^ 64 - 1)) s.rank s.heavy s.vertices
+      fit = delta_offers_fit s.rows s.ranks (min (s.round + 1) (2 ^ 64 - 1)) s.rank s.heavy s.vertices
           (ascending (length s.vertices) s.settled) v.own v.wide (omega arith) v.heavy_edges;
     }
   where
@@ -369,21 +369,21 @@ finished_valid s v d =
     heavy_first e = cc
 
 either_valid : (b : Bool) (s : DeltaState) → IsDelta s → s.phase ≢ First
-    → IsDelta (if b then activated s else finished s)
+    → IsDelta (if b then after_activation s else after_last_round s)
 either_valid true s v d = activated_valid s v d
 either_valid false s v d = finished_valid s v d
 
-pub ended_valid : (p : Phase) (s : DeltaState) (votes : ℕ) → s.phase ≡ p → IsDelta s → IsDelta (ended_in p s votes)
-ended_valid First s votes e v = sorted_valid s v
-ended_valid Find s votes e v = activated_valid s v (λ f. not_first (sym e ∙ f))
+pub delta_ended_valid : (p : Phase) (s : DeltaState) (votes : ℕ) → s.phase ≡ p → IsDelta s → IsDelta (ended_in p s votes)
+delta_ended_valid First s votes e v = sorted_valid s v
+delta_ended_valid Find s votes e v = activated_valid s v (λ f. not_first (sym e ∙ f))
   where
     not_first : Find ≡ First → ⊥
     not_first e = cc
-ended_valid Light s votes e v = either_valid (nat_lt s.ranks votes) s v (λ f. not_first (sym e ∙ f))
+delta_ended_valid Light s votes e v = either_valid (nat_lt s.ranks votes) s v (λ f. not_first (sym e ∙ f))
   where
     not_first : Light ≡ First → ⊥
     not_first e = cc
-ended_valid Heavy s votes e v = finding_valid s v (λ f. not_first (sym e ∙ f))
+delta_ended_valid Heavy s votes e v = finding_valid s v (λ f. not_first (sym e ∙ f))
   where
     not_first : Heavy ≡ First → ⊥
     not_first e = cc
@@ -400,7 +400,7 @@ ended_next First s votes = record { rank = refl; ranks = refl; round = refl; row
 ended_next Find s votes = record { rank = refl; ranks = refl; round = refl; rows = refl }
 ended_next Light s votes = either (nat_lt s.ranks votes)
   where
-    either : (b : Bool) → Next s (if b then activated s else finished s)
+    either : (b : Bool) → Next s (if b then after_activation s else after_last_round s)
     either true = record { rank = refl; ranks = refl; round = refl; rows = refl }
     either false = record { rank = refl; ranks = refl; round = refl; rows = refl }
 ended_next Heavy s votes = record { rank = refl; ranks = refl; round = refl; rows = refl }
@@ -418,10 +418,10 @@ few_votes p s v = in_phase p
     in_phase : (p : Phase) → vote_in p s < 2 ^ 32
     in_phase First = lit< tt
     in_phase Find =
-        (let count : length (marked s.vertices) ≤ length s.vertices =
+        (let count : length (marked_places s.vertices) ≤ length s.vertices =
         marked_count 0 s.vertices in let f : length s.vertices ≤ 16385 = few in omega arith)
     in_phase Light =
-        (let count : length (picked (in_bucket s.width s.bucket) s.vertices) ≤ length s.vertices =
+        (let count : length (places_where (in_bucket s.width s.bucket) s.vertices) ≤ length s.vertices =
         picked_count (in_bucket s.width s.bucket) 0 s.vertices in let f : length s.vertices ≤ 16385 =
         few in omega arith)
     in_phase Heavy = lit< tt
@@ -435,7 +435,7 @@ delta_laws =
       vote_below = λ s v. few_votes s.phase s v;
       next = λ s votes v l. (let n : Next s (ended_in s.phase s votes) = ended_next s.phase s votes in
           record {
-            valid = ended_valid s.phase s votes refl v;
+            valid = delta_ended_valid s.phase s votes refl v;
             rank = n.rank;
             ranks = n.ranks;
             round = n.round;

@@ -11,11 +11,11 @@ use Rattle.std.proofs.lemmas.List.Elements.{All-nil, All-cons, All-append, All-m
 use Rattle.bale_items.specs.declared.Item.{Item}
 use Rattle.list_laws.proofs.Lists.{all_head, all_tail}
 use Rattle.round_program.specs.Laws.{Laws, Fits, IsItem, SameRound, NextRound}
-use Rattle.elastic.specs.Spelling.{IsLetter, pad, word_of, further, first_item, next_item, next_items, spelling}
+use Rattle.elastic.specs.Spelling.{IsLetter, pad, packed_word, further, letter_head, next_item, next_items, spelling}
 use Rattle.elastic.specs.Spelling.{length_in, bytes_in, letter_from}
 use Rattle.elastic.specs.LetterRules.{LetterRules}
 use Rattle.elastic.specs.LetterLaws.{LetterLaws, SameLetters, NextLetters}
-use Rattle.elastic.specs.Mails.{MailState, IsMail, mailing, mail_rules, spelled, is_whole, letter_of, begun_with}
+use Rattle.elastic.specs.Mails.{MailState, IsMail, mailing, mail_rules, spelling_of, is_whole, letter_of, with_next_item}
 use Rattle.elastic.specs.Mails.{item_absorbed, may_carry}
 
 -- ---- What is spelled are items
@@ -40,7 +40,7 @@ padded_byte (suc k) [] (suc i) a = padded_byte k [] i a
 padded_byte (suc k) (b ∷ bs) zero a = all_head (λ b. b < 256) b bs a
 padded_byte (suc k) (b ∷ bs) (suc i) a = padded_byte k bs i (all_tail (λ b. b < 256) b bs a)
 
-word_below : (bytes : List ℕ) → All (λ b. b < 256) bytes → word_of bytes < 2 ^ 64
+word_below : (bytes : List ℕ) → All (λ b. b < 256) bytes → packed_word bytes < 2 ^ 64
 word_below bytes a =
     let p : List ℕ = pad 8 bytes in
     let b0 : get_or p 0 0 < 256 = padded_byte 8 bytes 0 a in
@@ -66,17 +66,17 @@ next_items_are (suc k) bytes a =
 pub spelling_items : (l : List ℕ) → IsLetter l → All IsItem (spelling l)
 spelling_items l is =
     let short : length l ≤ 65_535 = is.short in
-    All-cons IsItem (first_item l) (next_items (further (length l)) (drop 16 l))
+    All-cons IsItem (letter_head l) (next_items (further (length l)) (drop 16 l))
     (omega arith, word_below l is.bytes, word_below (drop 8 l) (All-drop (λ b. b < 256) 8 l is.bytes))
     (next_items_are (further (length l)) (drop 16 l) (All-drop (λ b. b < 256) 16 l is.bytes))
 
 pub spelled_sent : (p : ℕ) (letters : List (ℕ × List ℕ)) → All (λ e. (e.0 < p) × IsLetter e.1) letters
-    → All (λ e. (e.0 < p) × IsItem e.1) (spelled letters)
+    → All (λ e. (e.0 < p) × IsItem e.1) (spelling_of letters)
 spelled_sent p [] a = All-nil (λ (e : ℕ × Item). (e.0 < p) × IsItem e.1)
 spelled_sent p (e ∷ es) a =
     let here : (e.0 < p) × IsLetter e.1 = all_head (λ e. (e.0 < p) × IsLetter e.1) e es a in
     let items : All IsItem (spelling e.1) = spelling_items e.1 here.1 in
-    All-append (λ (w : ℕ × Item). (w.0 < p) × IsItem w.1) (map (λ x. (e.0, x)) (spelling e.1)) (spelled es)
+    All-append (λ (w : ℕ × Item). (w.0 < p) × IsItem w.1) (map (λ x. (e.0, x)) (spelling e.1)) (spelling_of es)
     (All-map (λ (w : ℕ × Item). (w.0 < p) × IsItem w.1) (λ x. (e.0, x)) (spelling e.1) (λ k d l. (here.0, items k d l)))
     (spelled_sent p es (all_tail (λ e. (e.0 < p) × IsLetter e.1) e es a))
 
@@ -162,7 +162,7 @@ mail_kept R s t begun v valid rank ranks len =
 keeps : {S : Type 0} (R : LetterRules S) → LetterLaws R → (s : MailState S) (f : ℕ) (x : Item) → IsMail R s
     → Fits (mail_rules R) s f x → SameRound (mail_rules R) s (item_absorbed R s f x)
 keeps {S} R laws s f x v fits =
-    let items : List Item = begun_with s.begun f x in
+    let items : List Item = with_next_item s.begun f x in
     let inner : S = (if is_whole items then R.absorbed s.inner f (letter_of items) else s.inner) in
     let k : SameLetters R s.inner inner =
     maybe_absorbed R laws s.inner f (letter_of items) (is_whole items) v.inner (sender_low R s f x fits)
@@ -192,19 +192,19 @@ inner_comm R s f g l m false false e = refl
 after_two : {S : Type 0} (R : LetterRules S) (s : MailState S) (f g : ℕ) (x y : Item) → f ≢ g
     → item_absorbed R (item_absorbed R s f x) g y
     ≡ record s {
-      inner = if is_whole (begun_with s.begun g y)
+      inner = if is_whole (with_next_item s.begun g y)
           then R.absorbed
-          (if is_whole (begun_with s.begun f x) then R.absorbed s.inner f (letter_of (begun_with s.begun f x))
-          else s.inner) g (letter_of (begun_with s.begun g y))
-          else if is_whole (begun_with s.begun f x) then R.absorbed s.inner f (letter_of (begun_with s.begun f x))
+          (if is_whole (with_next_item s.begun f x) then R.absorbed s.inner f (letter_of (with_next_item s.begun f x))
+          else s.inner) g (letter_of (with_next_item s.begun g y))
+          else if is_whole (with_next_item s.begun f x) then R.absorbed s.inner f (letter_of (with_next_item s.begun f x))
           else s.inner;
-      begun = set (set s.begun f (if is_whole (begun_with s.begun f x) then [] else begun_with s.begun f x)) g
-          (if is_whole (begun_with s.begun g y) then [] else begun_with s.begun g y);
+      begun = set (set s.begun f (if is_whole (with_next_item s.begun f x) then [] else with_next_item s.begun f x)) g
+          (if is_whole (with_next_item s.begun g y) then [] else with_next_item s.begun g y);
     }
 after_two {S} R s f g x y d =
-    let mid : List Item = (if is_whole (begun_with s.begun f x) then [] else begun_with s.begun f x) in
+    let mid : List Item = (if is_whole (with_next_item s.begun f x) then [] else with_next_item s.begun f x) in
     let inner : S =
-    (if is_whole (begun_with s.begun f x) then R.absorbed s.inner f (letter_of (begun_with s.begun f x))
+    (if is_whole (with_next_item s.begun f x) then R.absorbed s.inner f (letter_of (with_next_item s.begun f x))
     else s.inner) in
     ap
     (λ items. record s {
@@ -217,8 +217,8 @@ commutes : {S : Type 0} (R : LetterRules S) → LetterLaws R → (s : MailState 
     → f ≢ g → Fits (mail_rules R) s f x → Fits (mail_rules R) s g y
     → item_absorbed R (item_absorbed R s f x) g y ≡ item_absorbed R (item_absorbed R s g y) f x
 commutes {S} R laws s f g x y v d hf hg =
-    let l : List Item = begun_with s.begun f x in
-    let m : List Item = begun_with s.begun g y in
+    let l : List Item = with_next_item s.begun f x in
+    let m : List Item = with_next_item s.begun g y in
     let law : R.absorbed (R.absorbed s.inner f (letter_of l)) g (letter_of m)
     ≡ R.absorbed (R.absorbed s.inner g (letter_of m)) f (letter_of l) =
     laws.commutes s.inner f g (letter_of l) (letter_of m) v.inner d (sender_low R s f x hf) (sender_low R s g y hg)

@@ -13,5 +13,5 @@ abbrev pub lists_of : List Edge → List Span → List (List Edge)
 lists_of edges spans = map (in_span edges) spans
 
 -- A span ends within the edges.
-abbrev pub IsWithin : List Edge → Span → Type 0
-IsWithin edges s = (s.from ≤ s.to) × (s.to ≤ length edges)
+abbrev pub IsSpanWithin : List Edge → Span → Type 0
+IsSpanWithin edges s = (s.from ≤ s.to) × (s.to ≤ length edges)

@@ -3,14 +3,14 @@ ghost use Rattle.std.specs.Prelude.{◌≡◌, ◌≢◌, ℕ, suc, ◌^◌, ◌
 ghost use mathlib.Core.Option.{some};
 ghost use lib.ListN.{get_elem?};
 ghost use Rattle.bale_items.specs.Counters.{RoseOrFull};
-ghost use Rattle.port_bank.specs.Flow.{Begins};
+ghost use Rattle.port_bank.specs.Flow.{IsPrefix};
 ghost use Rattle.route_tensor.specs.Link.{links};
 ghost use Rattle.route_tensor.specs.Ends.{hop_at, sender_at, reader_at};
 ghost use Rattle.link_slots.specs.Logs.{out_of, in_of, with_in, taken_more, listens};
 ghost use Rattle.link_slots.specs.View.{own_logs};
 ghost use Rattle.link_slots.specs.Shape.{IsBlank};
 ghost use Rattle.link_slots.specs.Reading.{ReadsLink, HasRead};
-ghost use Rattle.list_laws.specs.Counts.{counted};
+ghost use Rattle.list_laws.specs.Counts.{saturated_count};
 ghost use Rattle.link_slots.specs.Counts.{AreGood, noted_by};
 ghost use Rattle.link_slots.specs.Doorbell.{is_due, HeardWhere, looked_where_marked, LookedFor};
 
@@ -43,7 +43,7 @@ fn hear_if_due<const CAP: usize>(
     ensures more { (in_of (own_logs place.old.me.0) link).hears ≤ (in_of (own_logs place.new.me.0) link).hears }
     ensures due { (in_of (own_logs place.new.me.0) link).marked ≡ false
         → RoseOrFull (noted_by end.now.noted (in_of (own_logs place.old.me.0) link))
-        (counted (listens (in_of (own_logs place.new.me.0) link))) }
+        (saturated_count (listens (in_of (own_logs place.new.me.0) link))) }
     ensures heard { (m : ℕ) → m < links top.now.key.dims → reader_at top.now.key.dims m ≡ place.old.me.0.pick
         → hop_at top.now.key.dims m ≡ hop_at top.now.key.dims link
         → HeardWhere (is_due end.now.noted (in_of (own_logs place.old.me.0) link)) (in_of (own_logs place.old.me.0) m)
@@ -118,7 +118,7 @@ fn find_parcel<const CAP: usize>(
     ensures more { listens (in_of (own_logs place.old.me.0) link) ≤ listens (in_of (own_logs place.new.me.0) link) }
     ensures unmarked { end.new.waiting ≡ 0 → (in_of (own_logs place.new.me.0) link).marked ≡ false }
     ensures listened { end.new.waiting ≡ 0 → RoseOrFull (noted_by end.old.noted (in_of (own_logs place.old.me.0) link))
-        (counted (listens (in_of (own_logs place.new.me.0) link))) }
+        (saturated_count (listens (in_of (own_logs place.new.me.0) link))) }
     // A parcel that is at hand costs no step.
     ensures at_hand { end.old.waiting ≢ 0 → place.new.me.0 ≡ place.old.me.0 }
     // Else the doorbell is heard where a hear is due, and the link is looked in where it is then
@@ -164,7 +164,7 @@ pub(crate) fn collect_on<const CAP: usize>(
     ensures good { AreGood CAP top.now.key link (in_of (own_logs place.new.me.0) link) }
     ensures seen { take (length (in_of (own_logs place.old.me.0) link).seen) (in_of (own_logs place.new.me.0) link).seen
         ≡ (in_of (own_logs place.old.me.0) link).seen }
-    ensures noted { end.new.noted ≡ counted (in_of (own_logs place.new.me.0) link).hears }
+    ensures noted { end.new.noted ≡ saturated_count (in_of (own_logs place.new.me.0) link).hears }
     ensures more { listens (in_of (own_logs place.old.me.0) link) ≤ listens (in_of (own_logs place.new.me.0) link) }
     ensures taken { result ≡ Collected.Got → (in_of (own_logs place.new.me.0) link).taken
         ≡ suc (in_of (own_logs place.old.me.0) link).taken }
@@ -177,7 +177,7 @@ pub(crate) fn collect_on<const CAP: usize>(
     ensures unmarked { result ≡ Collected.Nothing → (in_of (own_logs place.new.me.0) link).marked ≡ false }
     ensures listened { result ≡ Collected.Nothing
         → RoseOrFull (noted_by end.old.noted (in_of (own_logs place.old.me.0) link))
-        (counted (listens (in_of (own_logs place.new.me.0) link))) }
+        (saturated_count (listens (in_of (own_logs place.new.me.0) link))) }
     ensures kept { result ≡ Collected.Nothing → parcel.new ≡ parcel.old }
     // A parcel that is at hand is taken without a step of looking.
     ensures at_hand { end.old.waiting ≢ 0 → result ≡ Collected.Got }
@@ -193,9 +193,9 @@ pub(crate) fn collect_on<const CAP: usize>(
         (in_of (own_logs place.new.me.0) m) }
     ensures looked { end.old.waiting ≡ 0 → LookedFor end.old.noted (in_of (own_logs place.old.me.0) link)
         (in_of (own_logs place.new.me.0) link) }
-    // On a link from the rank to itself, what it saw is the front of what it posted.
+    // On a link from the rank to itself, what it saw is a prefix of what it posted.
     ensures own { result ≡ Collected.Got → sender_at top.now.key.dims link ≡ place.old.me.0.pick
-        → Begins (in_of (own_logs place.new.me.0) link).seen (out_of (own_logs place.new.me.0) link).sent }
+        → IsPrefix (in_of (own_logs place.new.me.0) link).seen (out_of (own_logs place.new.me.0) link).sent }
 {
     if end.waiting == 0 && ear.marks & wire.mask == 0 && ear.hears > end.noted {
         end.noted = ear.hears;
@@ -226,7 +226,7 @@ fn collect_now<const CAP: usize>(
     ensures good { AreGood CAP top.now.key link (in_of (own_logs place.new.me.0) link) }
     ensures seen { take (length (in_of (own_logs place.old.me.0) link).seen) (in_of (own_logs place.new.me.0) link).seen
         ≡ (in_of (own_logs place.old.me.0) link).seen }
-    ensures noted { end.new.noted ≡ counted (in_of (own_logs place.new.me.0) link).hears }
+    ensures noted { end.new.noted ≡ saturated_count (in_of (own_logs place.new.me.0) link).hears }
     ensures more { listens (in_of (own_logs place.old.me.0) link) ≤ listens (in_of (own_logs place.new.me.0) link) }
     ensures taken { result ≡ Collected.Got → (in_of (own_logs place.new.me.0) link).taken
         ≡ suc (in_of (own_logs place.old.me.0) link).taken }
@@ -239,7 +239,7 @@ fn collect_now<const CAP: usize>(
     ensures unmarked { result ≡ Collected.Nothing → (in_of (own_logs place.new.me.0) link).marked ≡ false }
     ensures listened { result ≡ Collected.Nothing
         → RoseOrFull (noted_by end.old.noted (in_of (own_logs place.old.me.0) link))
-        (counted (listens (in_of (own_logs place.new.me.0) link))) }
+        (saturated_count (listens (in_of (own_logs place.new.me.0) link))) }
     ensures kept { result ≡ Collected.Nothing → parcel.new ≡ parcel.old }
     // A parcel that is at hand is taken without a step of looking.
     ensures at_hand { end.old.waiting ≢ 0 → result ≡ Collected.Got }
@@ -255,9 +255,9 @@ fn collect_now<const CAP: usize>(
         (in_of (own_logs place.new.me.0) m) }
     ensures looked { end.old.waiting ≡ 0 → LookedFor end.old.noted (in_of (own_logs place.old.me.0) link)
         (in_of (own_logs place.new.me.0) link) }
-    // On a link from the rank to itself, what it saw is the front of what it posted.
+    // On a link from the rank to itself, what it saw is a prefix of what it posted.
     ensures own { result ≡ Collected.Got → sender_at top.now.key.dims link ≡ place.old.me.0.pick
-        → Begins (in_of (own_logs place.new.me.0) link).seen (out_of (own_logs place.new.me.0) link).sent }
+        → IsPrefix (in_of (own_logs place.new.me.0) link).seen (out_of (own_logs place.new.me.0) link).sent }
 {
     if find_parcel(top, place, end, ear, wire, link) == 0 {
         end.noted = ear.hears;

@@ -3,7 +3,7 @@ ghost use Rattle.std.specs.Prelude.{◌≡◌, ◌≢◌, suc, ◌≤◌};
 ghost use Rattle.link_slots.specs.Logs.{out_of, with_out, sent_of, got_of, sent_more, found_full};
 ghost use Rattle.link_slots.specs.View.{own_logs};
 ghost use Rattle.link_slots.specs.Shape.{IsBlank, MayFollow, KeepsLaw};
-ghost use Rattle.link_slots.specs.Writing.{WritesLink, HasWritten};
+ghost use Rattle.link_slots.specs.Writing.{WritesLink, HasWrittenLink};
 ghost use Rattle.link_slots.specs.Counts.{IsWire, HasPosted};
 
 use crate::seat::ends::{OutEnd, slot_of};
@@ -22,7 +22,8 @@ fn make_room<const CAP: usize>(
     link: u32,
 )
     requires writes { WritesLink top.now.key top.now.table_id place.old.table_id place.old.me link slots end.old }
-    ensures left { HasWritten top.now.key place.old.table_id place.new.table_id place.old.me place.new.me link end.new }
+    ensures left { HasWrittenLink top.now.key place.old.table_id place.new.table_id place.old.me place.new.me link
+        end.new }
     ensures sent { (out_of (own_logs place.new.me.0) link).sent ≡ (out_of (own_logs place.old.me.0) link).sent }
     ensures looks { (out_of (own_logs place.old.me.0) link).looks ≤ (out_of (own_logs place.new.me.0) link).looks }
     ensures once { (out_of (own_logs place.new.me.0) link).looks ≤ suc (out_of (own_logs place.old.me.0) link).looks }
@@ -55,7 +56,8 @@ pub(crate) fn post_on<const CAP: usize>(
     requires law { KeepsLaw top.now.key.dims place.old.me.0.pick
         (sent_of (with_out (own_logs place.old.me.0) link
         (sent_more (out_of (own_logs place.old.me.0) link) parcel.old))) (got_of (own_logs place.old.me.0)) }
-    ensures left { HasWritten top.now.key place.old.table_id place.new.table_id place.old.me place.new.me link end.new }
+    ensures left { HasWrittenLink top.now.key place.old.table_id place.new.table_id place.old.me place.new.me link
+        end.new }
     ensures emptied { result ≡ Posted.Sent → IsBlank parcel.new }
     ensures link { HasPosted top.now.key.slots (out_of (own_logs place.old.me.0) link)
         (out_of (own_logs place.new.me.0) link) parcel.old result }

@@ -3,8 +3,8 @@ ghost use Rattle.std.specs.Prelude.{◌≡◌};
 ghost use Rattle.item_buffer.specs.Contents.{Contents};
 ghost use Rattle.atomic_table.specs.Table.{State};
 ghost use Rattle.link_slots.specs.Shape.{Shape};
-ghost use Rattle.link_slots.specs.Told.{Knowing, IsLawful};
-ghost use Rattle.link_slots.specs.Closed.{LiveLaw};
+ghost use Rattle.link_slots.specs.WordSteps.{Knowing, IsLawful};
+ghost use Rattle.link_slots.specs.ClosedBank.{LiveLaw};
 ghost use Rattle.link_slots.specs.Offered.{BellLaw, HeardLaw, HearLaw};
 ghost use Rattle.link_slots.specs.Room.{NoRoomLaw, LookLaw};
 

@@ -4,8 +4,8 @@ ghost use Rattle.std.specs.Mem.Slots.{IsFull};
 ghost use Rattle.route_tensor.specs.Grid.{ranks};
 ghost use Rattle.link_slots.specs.Shape.{IsBoard};
 ghost use Rattle.port_bank.specs.Round.{IsRound, epochs_of};
-ghost use Rattle.list_laws.specs.Counts.{counted};
-ghost use Rattle.link_slots.specs.Closed.{IsSettled, ended_of};
+ghost use Rattle.list_laws.specs.Counts.{saturated_count};
+ghost use Rattle.link_slots.specs.ClosedBank.{IsSettled, ended_of};
 
 use crate::seat::rank_ends::EndedCounts;
 use crate::table::rule::{Board, Place};
@@ -31,14 +31,14 @@ pub struct SlotRound {
 
 impl Model for SlotRound {
     ghost use Rattle.port_bank.specs.Round.{Round};
-    ghost use Rattle.link_slots.specs.Closed.{slot_round, lists_of, IsEnding};
+    ghost use Rattle.link_slots.specs.ClosedBank.{slot_round, first_lists, IsEnding};
 
     ghost Value = { Round };
 
-    ghost view = { λ r. slot_round (record { dims = r.grid; slots = r.slots }) r.cap (lists_of r.last.value.views) };
+    ghost view = { λ r. slot_round (record { dims = r.grid; slots = r.slots }) r.cap (first_lists r.last.value.views) };
 
     ghost invariant = { λ r. IsEnding r.cap (record { dims = r.grid; slots = r.slots })
-        (lists_of r.last.value.views) r.ended.items };
+        (first_lists r.last.value.views) r.ended.items };
 }
 
 impl SlotRound {
@@ -52,7 +52,7 @@ impl SlotRound {
 
     /// How many epochs every link has ended. The count stands still at the last number.
     pub fn epochs(&self) -> u64
-        ensures value { result ≡ counted (epochs_of self.now) }
+        ensures value { result ≡ saturated_count (epochs_of self.now) }
         ensures round { IsRound self.now }
     {
         let mut least = u64::MAX;

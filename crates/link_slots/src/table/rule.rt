@@ -12,7 +12,7 @@ impl<const CAP: usize> TableRule<Slot<CAP>, Knows, Plan> for Links<CAP> {
     ghost use Rattle.route_tensor.specs.Grid.{ranks};
     ghost use Rattle.route_tensor.specs.Link.{links};
     ghost use Rattle.link_slots.specs.View.{first_view};
-    ghost use Rattle.link_slots.specs.Told.{IsLawful};
+    ghost use Rattle.link_slots.specs.WordSteps.{IsLawful};
 
     ghost holds = { λ shape. IsLawful CAP shape };
 

@@ -6,13 +6,13 @@ ghost use lib.ListN.{get_elem?};
 ghost use Rattle.item_buffer.specs.Contents.{Contents};
 ghost use Rattle.route_tensor.specs.Ends.{sender_at};
 ghost use Rattle.atomic_table.specs.Table.{rest};
-ghost use Rattle.port_bank.specs.Flow.{Begins};
+ghost use Rattle.port_bank.specs.Flow.{IsPrefix};
 ghost use Rattle.link_slots.specs.Logs.{out_of, in_of, with_out, with_in, sent_of, got_of, sent_more, all_offered, taken_more};
 ghost use Rattle.link_slots.specs.View.{own_logs, with_logs};
 ghost use Rattle.link_slots.specs.Wiring.{slot_of, bell_word};
-ghost use Rattle.link_slots.specs.Plays.{after_hear};
+ghost use Rattle.link_slots.specs.StepEffects.{after_hear};
 ghost use Rattle.link_slots.specs.Shape.{wiring, IsBlank, MayFollow, KeepsLaw};
-ghost use Rattle.link_slots.specs.Told.{room_found, posted, looked_in, released, spare_brought, parcel_brought, rung, heard, IsAtOut, StaysSeated, IsAtIn};
+ghost use Rattle.link_slots.specs.WordSteps.{room_found, posted, looked_in, released, spare_brought, parcel_brought, rung, heard, IsAtOut, StaysSeated, IsAtIn};
 
 use crate::table::plays::{
     BringParcel, BringSpare, Hear, LookBeforeHear, LookBeforeRing, LookForRoom, LookIn, Post,
@@ -169,7 +169,7 @@ pub(crate) fn receive<const CAP: usize>(
     ensures parcel { get_elem? (in_of (own_logs place.old.me.0) link).seen (in_of (own_logs place.old.me.0) link).taken
         ≡ some parcel.new }
     ensures own { sender_at top.now.key.dims link ≡ place.old.me.0.pick
-        → Begins (in_of (own_logs place.old.me.0) link).seen (out_of (own_logs place.old.me.0) link).sent }
+        → IsPrefix (in_of (own_logs place.old.me.0) link).seen (out_of (own_logs place.old.me.0) link).sent }
 {
     bring_parcel(top, place, link);
     swap(top, place, slot, parcel);

@@ -33,5 +33,5 @@ number_from digit =
 
 -- The word of a text's first eight bytes.
 --   of "10000000" it is 0x3030303030303031
-abbrev pub word_of : List ℕ → ℕ
-word_of text = word_from (λ k. get_or text k 0)
+abbrev pub lane_word : List ℕ → ℕ
+lane_word text = word_from (λ k. get_or text k 0)

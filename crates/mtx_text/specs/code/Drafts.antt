@@ -15,7 +15,7 @@ use Rattle.mtx_text.specs.declared.draft.Entry.{Entry}
 use Rattle.mtx_text.specs.declared.draft.Run.{Run}
 use Rattle.mtx_text.specs.code.PlainLines.{CountsAt, IsFirstKept}
 use Rattle.mtx_text.specs.Lines.{Line, lines_of, lines_from, words_of}
-use Rattle.mtx_text.specs.code.Chains.{IsWithin}
+use Rattle.mtx_text.specs.code.Chains.{IsBelowSide}
 use Rattle.mtx_text.specs.Integers.{integer_of}
 use Rattle.mtx_text.specs.Grammar.{bad, cell_by, stands_for, AreLimited}
 
@@ -60,8 +60,8 @@ pub record ReadsOn (form : Form) (sizes : Sizes) (old new : List Triple) (from t
   pub lines : to.number + length (lines_of to.rest.now) ≡ from.number + length (lines_of from.rest.now)
   pub room : to.number + length to.rest.now ≤ from.number + length from.rest.now
   pub on : length to.rest.now ≤ length from.rest.now
-  pub within : All (λ t. IsWithin (max sizes.rows sizes.cols) t) old
-      → All (λ t. IsWithin (max sizes.rows sizes.cols) t) new
+  pub within : All (λ t. IsBelowSide (max sizes.rows sizes.cols) t) old
+      → All (λ t. IsBelowSide (max sizes.rows sizes.cols) t) new
   pub few : length new + 2 * to.left ≤ length old + 2 * from.left
 
 -- Sizes within the limits, and a text whose lines have numbers below 2^63 where its first line has
@@ -84,13 +84,13 @@ pub record IsNext (form : Form) (sizes : Sizes) (text : List ℕ) (number : ℕ)
 -- within: entries whose rows and columns are within the sizes stay so
 pub record AddsLine (sizes : Sizes) (more old new : List Triple) : Type 0 where
   pub entries : new ≡ old ++ more
-  pub within : All (λ t. IsWithin (max sizes.rows sizes.cols) t) old
-      → All (λ t. IsWithin (max sizes.rows sizes.cols) t) new
+  pub within : All (λ t. IsBelowSide (max sizes.rows sizes.cols) t) old
+      → All (λ t. IsBelowSide (max sizes.rows sizes.cols) t) new
   pub few : length new ≤ length old + 2
 
 -- The draft of a text whose first line has a number.
 pub record IsDraft (form : Form) (sizes : Sizes) (text : List ℕ) (number : ℕ) (d : Draft) : Type 0 where
   pub draft : record { entries = d.entries.items; stop = d.stop }
       ≡ draft_of form sizes (number + length (lines_of text)) sizes.entries [] (lines_from number (lines_of text))
-  pub within : All (λ t. IsWithin (max sizes.rows sizes.cols) t) d.entries.items
+  pub within : All (λ t. IsBelowSide (max sizes.rows sizes.cols) t) d.entries.items
   pub few : length d.entries.items ≤ 524_288

@@ -108,19 +108,19 @@ pub record NumberTo (text : List ℕ) (len size : ℕ) : Type 0 where
   pub below : len ≤ 18 → size < 10 ^ len
 
 -- The same of digits that were read, with more bytes behind them.
-abbrev pub IsRead : List ℕ → Digits → Type 0
-IsRead text d = NumberTo text d.len d.size
+abbrev pub IsReadDigits : List ℕ → Digits → Type 0
+IsReadDigits text d = NumberTo text d.len d.size
 
 -- A text has another digit or another byte to be looked at behind the few digits that were read.
 pub record MayRead (text : List ℕ) (d : Digits) : Type 0 where
   pub within : d.len < length text
   pub few : d.len ≤ 5
-  pub read : IsRead text d
+  pub read : IsReadDigits text d
 
 -- One digit more of a text was read.
 pub record ReadsOne (text : List ℕ) (old new : Digits) : Type 0 where
   pub more : new.len ≡ old.len + 1
-  pub read : IsRead text new
+  pub read : IsReadDigits text new
 
 -- Two runs of few digits, each with another byte behind it, stood in front of `rest`; `others` are
 -- the bits of its first bytes that are no digits, as far as sixteen bytes of the text go.
@@ -137,7 +137,7 @@ pub record TwoAt (text : List ℕ) (two : Two) : Type 0 where
   pub few : (two.row.len ≤ 5) × (two.column.len ≤ 5)
   pub row : DigitsTo 32 text two.row.len two.row.size
   pub some : 0 < two.column.len
-  pub column : IsRead (drop (two.row.len + 1) text) two.column
+  pub column : IsReadDigits (drop (two.row.len + 1) text) two.column
   pub others : two.others
       ≡ mask_l (bits_of (14 - (two.row.len + two.column.len)) (drop (two.column.len + 1) (drop (two.row.len + 1) text)))
 

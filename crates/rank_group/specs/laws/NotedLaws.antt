@@ -1,8 +1,8 @@
 -- Where no parcel moves in some turns and none in further ones, none moves in both.
 use Rattle.std.proofs.Common.{refl, ◌∙◌}
-use Rattle.link_slots.specs.Seen.{Manning}
+use Rattle.link_slots.specs.SeatView.{Manning}
 use Rattle.rank_crews.specs.Runs.{RanLaws}
-use Rattle.rank_group.specs.Noted.{HasSame}
+use Rattle.rank_group.specs.TurnNotes.{HasSame}
 
 pub same_laws : {S : Type 0} (seat : S → Manning) → RanLaws (λ x y. HasSame (seat x) (seat y))
 same_laws seat =

@@ -4,9 +4,9 @@ use Rattle.bale_items.specs.declared.item.Item.{Item}
 use Rattle.route_tensor.specs.Grid.{ranks}
 use Rattle.hop_core.specs.State.{State}
 use Rattle.exstack.specs.State.{Stack}
-use Rattle.rank_node.specs.Pushes.{MayPush, Pushes, MayFill, FillsOne}
+use Rattle.rank_node.specs.Pushes.{MayPush, AfterConveyorPush, MayFill, FillsOne}
 
-pub push_stays : (cap : ℕ) (s t : State) (to other : ℕ) (x : Item) (accepted : Bool) → Pushes cap s to x accepted t
+pub push_stays : (cap : ℕ) (s t : State) (to other : ℕ) (x : Item) (accepted : Bool) → AfterConveyorPush cap s to x accepted t
     → MayPush s other → MayPush t other
 push_stays cap s t to other x accepted p m =
     record {

@@ -8,7 +8,7 @@ use Rattle.std.proofs.lemmas.List.Elements.{All-nil, All-map}
 use Rattle.bale_items.specs.declared.Item.{Item}
 use Rattle.list_laws.proofs.Lists.{changed_comm, changed_len}
 use Rattle.round_program.specs.Laws.{Laws, SameRound, IsItem}
-use Rattle.round_examples.specs.Counts.{CountState, IsCount, count_rules, is_named, raised, to_owner, named_item}
+use Rattle.round_examples.specs.Counts.{CountState, IsCount, count_rules, is_named, count_raised, to_owner, named_item}
 
 -- what a rank may be sent, part by part
 record IsNamed (columns ranks round to from : ℕ) (x : Item) : Type 0 where
@@ -37,7 +37,7 @@ named_within (columns ∷ []) ranks round to from x h =
     (grind (arith, is.owner), is.sender, is.item)
 named_within (columns ∷ (c ∷ cs)) ranks round to from x h = absurd (cc)
 
-raised_comm : (counts : List ℕ) (x y : Item) → raised (raised counts x) y ≡ raised (raised counts y) x
+raised_comm : (counts : List ℕ) (x y : Item) → count_raised (count_raised counts x) y ≡ count_raised (count_raised counts y) x
 raised_comm counts x y =
     changed_comm counts x.a y.a 0 (λ v. (v + x.b) % 2 ^ 64) (λ v. (v + y.b) % 2 ^ 64) (λ e v. omega arith)
 
@@ -64,7 +64,7 @@ emits s v =
 
 keeps : (s : CountState) (f : ℕ) (x : Item) → IsCount s → SameRound count_rules s (count_rules.absorbed s f x)
 keeps s f x v =
-    let size : length (raised s.counts x) ≡ length s.counts = changed_len s.counts x.a 0 (λ n. (n + x.b) % 2 ^ 64) in
+    let size : length (count_raised s.counts x) ≡ length s.counts = changed_len s.counts x.a 0 (λ n. (n + x.b) % 2 ^ 64) in
     record {
       valid = record {
         own = v.own;

@@ -8,7 +8,7 @@ use Rattle.std.proofs.lemmas.List.Elements.{All-nil, All-cons}
 use Rattle.bale_items.specs.declared.Item.{Item}
 use Rattle.list_laws.proofs.Lists.{changed_comm, all_head, all_tail}
 use Rattle.round_program.specs.Laws.{Laws, IsItem}
-use Rattle.round_examples.specs.Traffics.{TrafficState, IsTraffic, traffic_rules, is_sent, sent_from, raised}
+use Rattle.round_examples.specs.Traffics.{TrafficState, IsTraffic, traffic_rules, is_sent, sent_from, traffic_raised}
 
 sent_within : (shape : List ℕ) (ranks round to from : ℕ) (x : Item) → is_sent ranks round to from x ≡ true
     → (to < ranks) × (from < ranks) × IsItem x
@@ -49,7 +49,7 @@ emits s v =
           (sym (ne_eqb s.round 0 n)) (All-nil (λ e. is_sent s.ranks s.round e.0 s.rank e.1 ≡ true))
     ]
 
-raised_comm : (counts : List ℕ) (x y : Item) → raised (raised counts x) y ≡ raised (raised counts y) x
+raised_comm : (counts : List ℕ) (x y : Item) → traffic_raised (traffic_raised counts x) y ≡ traffic_raised (traffic_raised counts y) x
 raised_comm counts x y =
     changed_comm counts x.a y.a 0 (λ v. (v + x.b) % 2 ^ 64) (λ v. (v + y.b) % 2 ^ 64) (λ e v. omega arith)
 
@@ -64,7 +64,7 @@ traffic_laws =
       commutes = λ s f g x y v d e h.
           ap (λ c. record s { counts = c; check = ((s.check + x.c) % 2 ^ 64 + y.c) % 2 ^ 64 })
           (raised_comm s.counts x y)
-          ∙ ap (λ c. record s { counts = raised (raised s.counts y) x; check = c }) (check_comm s.check x y);
+          ∙ ap (λ c. record s { counts = traffic_raised (traffic_raised s.counts y) x; check = c }) (check_comm s.check x y);
       keeps = λ s f x v e. record {
         valid = record { own = v.own; few = v.few; items = v.items; aims = v.aims };
         rank = refl;

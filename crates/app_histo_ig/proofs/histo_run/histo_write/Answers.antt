@@ -1,5 +1,5 @@
 use Rattle.std.proofs.Common.{◌<◌, rules, ◌∙◌, ap, subst, ℕ, List, Option}
-use Rattle.bale_types.specs.Stream.{after}
+use Rattle.bale_types.specs.Stream.{taken_with}
 use Rattle.bale_types.proofs.Moves.{front_of_front, on_err_any}
 use Rattle.app_histo_ig.specs.HistoLines.{histo_line}
 use Rattle.app_histo_ig.proofs.HistoText.{histo_more, front_at_line}
@@ -14,7 +14,7 @@ pub loop-j-preserved : goal.loop-j-preserved
 loop-j-preserved g c = record {
   so_far = λ m h.
       c.in_ok-write_count.ensures.ok
-      ∙ ap (λ (t : Option (List ℕ)). after t (histo_line c.loop-j.j c.count_of.result)) (c.loop-j.invariant.so_far m h)
+      ∙ ap (λ (t : Option (List ℕ)). taken_with t (histo_line c.loop-j.j c.count_of.result)) (c.loop-j.invariant.so_far m h)
       ∙ histo_more m.entries c.loop-j.j c.count_of.result (c.count_of.ensures m h) _;
   faults = search rules;
   grows = front_of_front (g.K.Sink.taken c.args.out.now.sink.now) (g.K.Sink.taken c.loop-j.out.sink.now) (g.K.Sink.taken c.write_count.new.out.sink.now) c.loop-j.invariant.grows c.write_count.ensures.sink.grows;

@@ -4,7 +4,7 @@ use Rattle.std.proofs.lemmas.Option.{slice_get_read}
 use Rattle.bale_items.specs.declared.item.Item.{Item}
 use Rattle.list_laws.proofs.Lists.{all_get, get_map}
 use Rattle.round_program.proofs.Emissions.{Reaches, reaches_none, none_at, nothing_left}
-use Rattle.app_histo_ig.specs.Igs.{reply_to}
+use Rattle.app_histo_ig.specs.Igs.{ig_reply_to}
 use Rattle.app_histo_ig.proofs.IgReplies.{from_list, list_first, no_list, left_behind, handed_list, handed_part, may_here, ends_within}
 use Rattle.app_histo_ig.proofs.ig_replies.emit_replies.Given.{Over}
 use Rattle.app_histo_ig.proofs.ig_replies.emit_replies.Goals.{After-len, After-deref}
@@ -17,7 +17,7 @@ list g c =
     get_map (λ l. l.items) qs c.loop-to.to c.index-queries-to.result (slice_get_read qs (length qs) c.loop-to.to c.index-queries-to.result refl c.loop-to-test.true c.index-queries-to.is)
 
 split : (g : Over) (c : After-len g) → drop c.loop-to.first (from_list c.args.ranks c.args.sums.now (map (λ l. l.items) c.args.queries.now) 0)
-    ≡ map (reply_to c.args.ranks c.args.sums.now c.loop-to.to) c.index-queries-to.result.items ++ from_list c.args.ranks c.args.sums.now (map (λ l. l.items) c.args.queries.now) (c.loop-to.to + 1)
+    ≡ map (ig_reply_to c.args.ranks c.args.sums.now c.loop-to.to) c.index-queries-to.result.items ++ from_list c.args.ranks c.args.sums.now (map (λ l. l.items) c.args.queries.now) (c.loop-to.to + 1)
 split g c = c.loop-to.invariant.rest ∙ list_first c.args.ranks c.args.sums.now (map (λ l. l.items) c.args.queries.now) c.loop-to.to c.index-queries-to.result.items (list g c)
 
 within : (g : Over) (c : After-len g) → c.loop-to.first + c.len.result ≤ length (from_list c.args.ranks c.args.sums.now (map (λ l. l.items) c.args.queries.now) 0)
@@ -43,12 +43,12 @@ returns-then-from-count g c = record {
 
 -- the same of the list as it is lent
 split_lent : (g : Over) (c : After-deref g) → drop c.loop-to.first (from_list c.args.ranks c.args.sums.now (map (λ l. l.items) c.args.queries.now) 0)
-    ≡ map (reply_to c.args.ranks c.args.sums.now c.loop-to.to) c.deref.result.now ++ from_list c.args.ranks c.args.sums.now (map (λ l. l.items) c.args.queries.now) (c.loop-to.to + 1)
+    ≡ map (ig_reply_to c.args.ranks c.args.sums.now c.loop-to.to) c.deref.result.now ++ from_list c.args.ranks c.args.sums.now (map (λ l. l.items) c.args.queries.now) (c.loop-to.to + 1)
 split_lent g c =
-    split g (goal.at.After-deref g c).After-len ∙ ap (λ l. map (reply_to c.args.ranks c.args.sums.now c.loop-to.to) l ++ from_list c.args.ranks c.args.sums.now (map (λ l. l.items) c.args.queries.now) (c.loop-to.to + 1)) (sym c.deref.ensures.value)
+    split g (goal.at.After-deref g c).After-len ∙ ap (λ l. map (ig_reply_to c.args.ranks c.args.sums.now c.loop-to.to) l ++ from_list c.args.ranks c.args.sums.now (map (λ l. l.items) c.args.queries.now) (c.loop-to.to + 1)) (sym c.deref.ensures.value)
 
-size : (g : Over) (c : After-deref g) → length (map (reply_to c.args.ranks c.args.sums.now c.loop-to.to) c.deref.result.now) ≡ c.len.result
-size g c = length-map c.deref.result.now (reply_to c.args.ranks c.args.sums.now c.loop-to.to) ∙ omega (arith, ap length c.deref.ensures.value, c.len.ensures, c.index-queries-to.result.ok.0)
+size : (g : Over) (c : After-deref g) → length (map (ig_reply_to c.args.ranks c.args.sums.now c.loop-to.to) c.deref.result.now) ≡ c.len.result
+size g c = length-map c.deref.result.now (ig_reply_to c.args.ranks c.args.sums.now c.loop-to.to) ∙ omega (arith, ap length c.deref.ensures.value, c.len.ensures, c.index-queries-to.result.ok.0)
 
 pub emit_to-requires-clause-asked : goal.emit_to-requires-clause-asked
 emit_to-requires-clause-asked g c =
@@ -60,12 +60,12 @@ pub emit_to-requires-clause-may : goal.emit_to-requires-clause-may
 emit_to-requires-clause-may g c = λ some.
     let w = (goal.at.emit_to-requires-clause-may g c).After-deref in
     may_here (g.D.Departures.may c.loop-to.out) c.args.ranks c.args.sums.now c.loop-to.to c.deref.result.now _ _ c.args.from c.loop-to.first c.loop-to.next _ c.loop-to.invariant.forward (split_lent g w) c.loop-to.invariant.behind
-    (omega (arith, c.min.ensures, size g w, length-map c.deref.result.now (reply_to c.args.ranks c.args.sums.now c.loop-to.to))) some c.loop-to.invariant.may
+    (omega (arith, c.min.ensures, size g w, length-map c.deref.result.now (ig_reply_to c.args.ranks c.args.sums.now c.loop-to.to))) some c.loop-to.invariant.may
 
 pub overflow_add-handed : goal.overflow_add-handed
 overflow_add-handed g c =
     let w = (goal.at.overflow_add-handed g c).After-deref in
-    omega (arith, within g (goal.at.overflow_add-handed g c).After-len, c.requires.count, c.ranges.count.fits, c.emit_to.ensures.low, size g w, length-map c.deref.result.now (reply_to c.args.ranks c.args.sums.now c.loop-to.to))
+    omega (arith, within g (goal.at.overflow_add-handed g c).After-len, c.requires.count, c.ranges.count.fits, c.emit_to.ensures.low, size g w, length-map c.deref.result.now (ig_reply_to c.args.ranks c.args.sums.now c.loop-to.to))
 
 pub returns-then-handed-end : goal.returns-then-handed-end
 returns-then-handed-end g c = record {
@@ -74,7 +74,7 @@ returns-then-handed-end g c = record {
   hands =
       let w = (goal.at.returns-then-handed-end g c).After-deref in
       let i = c.loop-to.invariant in
-      handed_part g.D.Departures.hands _ (map (reply_to c.args.ranks c.args.sums.now c.loop-to.to) c.deref.result.now) _ c.args.from c.loop-to.first c.loop-to.next (c.min.result - c.loop-to.first) c.emit_to.result c.args.out.now c.loop-to.out c.emit_to.new.out
+      handed_part g.D.Departures.hands _ (map (ig_reply_to c.args.ranks c.args.sums.now c.loop-to.to) c.deref.result.now) _ c.args.from c.loop-to.first c.loop-to.next (c.min.result - c.loop-to.first) c.emit_to.result c.args.out.now c.loop-to.out c.emit_to.new.out
       i.forward (split_lent g w) i.behind (omega (arith, c.min.ensures, size g w)) c.emit_to.ensures.forward (omega (arith, size g w, c.if-handed-end.true)) c.emit_to.ensures.hands i.reaches;
 }
 
@@ -83,7 +83,7 @@ loop-to-preserved g c =
     let w = (goal.at.loop-to-preserved g c).After-deref in
     let i = c.loop-to.invariant in
     let es = from_list c.args.ranks c.args.sums.now (map (λ l. l.items) c.args.queries.now) 0 in
-    let xs = map (reply_to c.args.ranks c.args.sums.now c.loop-to.to) c.deref.result.now in
+    let xs = map (ig_reply_to c.args.ranks c.args.sums.now c.loop-to.to) c.deref.result.now in
     let rest = from_list c.args.ranks c.args.sums.now (map (λ l. l.items) c.args.queries.now) (c.loop-to.to + 1) in
     let inside = within g (goal.at.loop-to-preserved g c).After-len in
     record {
@@ -96,7 +96,7 @@ loop-to-preserved g c =
       reaches = subst (λ n. Reaches g.D.Departures.hands es c.args.from n c.args.out.now c.emit_to.new.out) (omega (arith, c.max-next.ensures, size g w))
           (handed_list g.D.Departures.hands es xs rest c.args.from c.loop-to.first c.loop-to.next (c.min.result - c.loop-to.first) c.emit_to.result c.args.out.now c.loop-to.out c.emit_to.new.out
           i.forward (split_lent g w) i.behind (omega (arith, c.min.ensures, size g w))
-          (omega (arith, size g w, c.if-handed-end.false, c.emit_to.ensures.low, length-map c.deref.result.now (reply_to c.args.ranks c.args.sums.now c.loop-to.to))) c.emit_to.ensures.hands i.reaches);
+          (omega (arith, size g w, c.if-handed-end.false, c.emit_to.ensures.low, length-map c.deref.result.now (ig_reply_to c.args.ranks c.args.sums.now c.loop-to.to))) c.emit_to.ensures.hands i.reaches);
     }
 
 pub returns : goal.returns

@@ -4,7 +4,7 @@ use Rattle.list_laws.proofs.Results.{if_ok_is, if_ok_from}
 use Rattle.mtx_text.specs.Sparse.{Sparse, IsEntry}
 use Rattle.mtx_text.specs.Cells.{sparse}
 use Rattle.sparse_rows.proofs.Gathering.{parts_more}
-use Rattle.app_permute.specs.Moved.{permuted, IsPermuted}
+use Rattle.app_permute.specs.Reorderings.{reordering_of, IsPermuted}
 use Rattle.app_permute.proofs.Answers.{moved_inside, permuted_is}
 use Rattle.app_permute.proofs.PermuteOwners.{moved_cells, rank_cells, rank_found, whole}
 use Rattle.app_permute.proofs.permute_run.permute_end.Goals as goal
@@ -33,13 +33,13 @@ pub returns-clause-matrix : goal.returns-clause-matrix
 returns-clause-matrix c = λ rp cp h.
     let m : Sparse = c.args.m.now in
     let all : c.loop-rank.all ≡ moved_cells rp cp m = whole rp cp m c.args.p.now h c.loop-rank.all c.loop-rank.rank (omega arith) (c.loop-rank.invariant rp cp h) in
-    let same : sparse c.rows.result c.cols.result c.kind.result c.loop-rank.all ≡ permuted rp cp m =
+    let same : sparse c.rows.result c.cols.result c.kind.result c.loop-rank.all ≡ reordering_of rp cp m =
     ap (λ k. sparse k c.cols.result c.kind.result c.loop-rank.all) c.rows.ensures ∙ ap (λ k. sparse m.rows k c.kind.result c.loop-rank.all) c.cols.ensures
     ∙ ap (λ k. sparse m.rows m.cols k c.loop-rank.all) c.kind.ensures ∙ ap (sparse m.rows m.cols m.kind) all in
-    if_ok_from (λ b. b ≡ permuted rp cp m) c.of_own_cells.result (λ b e. if_ok_is _ c.of_own_cells.result b e c.of_own_cells.ensures.matrix ∙ same)
+    if_ok_from (λ b. b ≡ reordering_of rp cp m) c.of_own_cells.result (λ b e. if_ok_is _ c.of_own_cells.result b e c.of_own_cells.ensures.matrix ∙ same)
 
 pub returns-clause-values : goal.returns-clause-values
 returns-clause-values c = λ rp cp h.
     let m : Sparse = c.args.m.now in
     if_ok_from (IsPermuted rp cp m) c.of_own_cells.result (λ b e.
-    subst (IsPermuted rp cp m) (sym (if_ok_is (λ b. b ≡ permuted rp cp m) c.of_own_cells.result b e (returns-clause-matrix c rp cp h))) (permuted_is m rp cp h.rows h.cols h.matrix))
+    subst (IsPermuted rp cp m) (sym (if_ok_is (λ b. b ≡ reordering_of rp cp m) c.of_own_cells.result b e (returns-clause-matrix c rp cp h))) (permuted_is m rp cp h.rows h.cols h.matrix))

@@ -4,7 +4,7 @@ use Rattle.list_laws.proofs.Results.{if_ok_is, if_ok_from}
 use Rattle.mtx_text.specs.Sparse.{Sparse, IsEntry}
 use Rattle.mtx_text.specs.Cells.{sparse}
 use Rattle.sparse_rows.proofs.Gathering.{parts_more}
-use Rattle.app_permute.specs.Moved.{transposed, IsTransposed}
+use Rattle.app_permute.specs.Reorderings.{transpose_of, IsTransposed}
 use Rattle.app_permute.proofs.Answers.{turned_inside, transposed_is}
 use Rattle.app_permute.proofs.TransposeOwners.{turned_cells, rank_cells, whole}
 use Rattle.app_permute.proofs.transpose_run.transpose_end.Goals as goal
@@ -27,12 +27,12 @@ pub returns-clause-matrix : goal.returns-clause-matrix
 returns-clause-matrix c =
     let m : Sparse = c.args.m.now in
     let all : c.loop-rank.all ≡ turned_cells m = whole m c.args.p.now c.requires.ended c.loop-rank.all c.loop-rank.rank (omega arith) c.loop-rank.invariant in
-    let same : sparse c.cols.result c.rows.result c.kind.result c.loop-rank.all ≡ transposed m =
+    let same : sparse c.cols.result c.rows.result c.kind.result c.loop-rank.all ≡ transpose_of m =
     ap (λ k. sparse k c.rows.result c.kind.result c.loop-rank.all) c.cols.ensures ∙ ap (λ k. sparse m.cols k c.kind.result c.loop-rank.all) c.rows.ensures
     ∙ ap (λ k. sparse m.cols m.rows k c.loop-rank.all) c.kind.ensures ∙ ap (sparse m.cols m.rows m.kind) all in
-    if_ok_from (λ b. b ≡ transposed m) c.of_own_cells.result (λ b e. if_ok_is _ c.of_own_cells.result b e c.of_own_cells.ensures.matrix ∙ same)
+    if_ok_from (λ b. b ≡ transpose_of m) c.of_own_cells.result (λ b e. if_ok_is _ c.of_own_cells.result b e c.of_own_cells.ensures.matrix ∙ same)
 
 pub returns-clause-values : goal.returns-clause-values
 returns-clause-values c =
     let m : Sparse = c.args.m.now in
-    if_ok_from (IsTransposed m) c.of_own_cells.result (λ b e. subst (IsTransposed m) (sym (if_ok_is (λ b. b ≡ transposed m) c.of_own_cells.result b e (returns-clause-matrix c))) (transposed_is m c.requires.ended.matrix))
+    if_ok_from (IsTransposed m) c.of_own_cells.result (λ b e. subst (IsTransposed m) (sym (if_ok_is (λ b. b ≡ transpose_of m) c.of_own_cells.result b e (returns-clause-matrix c))) (transposed_is m c.requires.ended.matrix))

@@ -3,7 +3,7 @@ use Rattle.bale_items.specs.declared.Item.{Item}
 use Rattle.sparse_rows.specs.Owners.{Numbered, row_owner}
 use Rattle.sparse_rows.proofs.Starts.{own_part, part_below}
 use Rattle.sparse_rows.proofs.Places.{place_below}
-use Rattle.least_walks.specs.Vertices.{unreached, improved_at}
+use Rattle.least_walks.specs.Vertices.{unreached_vertex, improved_at}
 use Rattle.app_sssp.specs.Sssps.{IsSssp}
 use Rattle.app_sssp.specs.SsspRuns.{edge_item}
 use Rattle.app_sssp.proofs.Begins.{begins_valid, begins_is}
@@ -23,7 +23,7 @@ new-requires c =
     let own = own_part c.args.ranks c.args.rank c.args.m.now.entries c.args.parts.now c.requires.part.below c.requires.part.dealt in
     subst IsSssp
     (sym (begins_is c.args.ranks c.args.m.now c.args.source c.args.rank c.rows-2.result c.in_ok-vertices.vertices c.in_ok-outgoing.outgoing.items c.rows-2.ensures
-    (c.in_ok-vertices.ensures ∙ ap (λ n. cond (c.args.source % c.args.ranks == c.args.rank) (improved_at (c.args.source / c.args.ranks) 0 (replicate (n / c.args.ranks + 1) unreached)) (replicate (n / c.args.ranks + 1) unreached)) c.rows.ensures)
+    (c.in_ok-vertices.ensures ∙ ap (λ n. cond (c.args.source % c.args.ranks == c.args.rank) (improved_at (c.args.source / c.args.ranks) 0 (replicate (n / c.args.ranks + 1) unreached_vertex)) (replicate (n / c.args.ranks + 1) unreached_vertex)) c.rows.ensures)
     (c.in_ok-outgoing.ensures ∙ ap (map {B = ℕ × Item} (λ (e : Numbered). (row_owner c.args.ranks e, edge_item e))) own)))
     (begins_valid c.args.ranks c.args.m.now c.args.source c.args.rank c.requires.part.below c.known.ensures c.requires.source.square)
 
@@ -32,5 +32,5 @@ returns c =
     let own = own_part c.args.ranks c.args.rank c.args.m.now.entries c.args.parts.now c.requires.part.below c.requires.part.dealt in
     c.new.ensures
     ∙ begins_is c.args.ranks c.args.m.now c.args.source c.args.rank c.rows-2.result c.in_ok-vertices.vertices c.in_ok-outgoing.outgoing.items c.rows-2.ensures
-    (c.in_ok-vertices.ensures ∙ ap (λ n. cond (c.args.source % c.args.ranks == c.args.rank) (improved_at (c.args.source / c.args.ranks) 0 (replicate (n / c.args.ranks + 1) unreached)) (replicate (n / c.args.ranks + 1) unreached)) c.rows.ensures)
+    (c.in_ok-vertices.ensures ∙ ap (λ n. cond (c.args.source % c.args.ranks == c.args.rank) (improved_at (c.args.source / c.args.ranks) 0 (replicate (n / c.args.ranks + 1) unreached_vertex)) (replicate (n / c.args.ranks + 1) unreached_vertex)) c.rows.ensures)
     (c.in_ok-outgoing.ensures ∙ ap (map {B = ℕ × Item} (λ (e : Numbered). (row_owner c.args.ranks e, edge_item e))) own)

@@ -1,7 +1,7 @@
 use Rattle.std.proofs.Common.{◌≡◌, [], ◌∷◌, ◌++◌, ap, subst, ◌∙◌, rules}
 use Rattle.std.specs.Prelude.{decimal}
-use Rattle.bale_types.specs.Stream.{after, IsFront}
-use Rattle.bale_types.specs.Out.{appended}
+use Rattle.bale_types.specs.Stream.{taken_with, IsTakenPrefix}
+use Rattle.bale_types.specs.Out.{appended_bytes}
 use Rattle.bale_types.proofs.Moves.{front_of_front, on_err_any}
 use Rattle.list_laws.proofs.Results.{on_ok_map}
 use Rattle.mtx_text.proofs.WrittenPieces.{front_first, front_second, front_third, all_three}
@@ -14,7 +14,7 @@ returns-in_err-line g c = record {
   err = let number : c.byte.new.self ≡ decimal c.args.times ++ 32 ∷ [] = c.byte.ensures.bytes ∙ ap (λ l. l ++ 32 ∷ []) (c.number.ensures.bytes ∙ ap (λ l. l ++ decimal c.args.times) c.new-count.ensures) in
       on_err_any c.from_residual.result
       (front_first _ _ (decimal c.args.times ++ 32 ∷ []) c.args.line.now (10 ∷ [])
-      (subst (λ l. IsFront (g.K.Sink.taken c.line.new.self.sink.now) (after (appended g.K.Sink.taken c.args.out.now) l)) number c.in_err-line.ensures.written.err));
+      (subst (λ l. IsTakenPrefix (g.K.Sink.taken c.line.new.self.sink.now) (taken_with (appended_bytes g.K.Sink.taken c.args.out.now) l)) number c.in_err-line.ensures.written.err));
   sink = search rules;
 }
 
@@ -23,8 +23,8 @@ returns-in_err-text g c = record {
   ok = search rules;
   err = let number : c.byte.new.self ≡ decimal c.args.times ++ 32 ∷ [] = c.byte.ensures.bytes ∙ ap (λ l. l ++ 32 ∷ []) (c.number.ensures.bytes ∙ ap (λ l. l ++ decimal c.args.times) c.new-count.ensures) in
       on_err_any c.from_residual-in_err-text.result
-      (front_second _ (appended g.K.Sink.taken c.line.new.self) (appended g.K.Sink.taken c.args.out.now) (decimal c.args.times ++ 32 ∷ []) c.args.line.now (10 ∷ [])
-      (c.in_ok-line.ensures.written.ok ∙ ap (after (appended g.K.Sink.taken c.args.out.now)) number) c.in_err-text.ensures.written.err);
+      (front_second _ (appended_bytes g.K.Sink.taken c.line.new.self) (appended_bytes g.K.Sink.taken c.args.out.now) (decimal c.args.times ++ 32 ∷ []) c.args.line.now (10 ∷ [])
+      (c.in_ok-line.ensures.written.ok ∙ ap (taken_with (appended_bytes g.K.Sink.taken c.args.out.now)) number) c.in_err-text.ensures.written.err);
   sink = record { counts = search rules; grows = front_of_front (g.K.Sink.taken c.args.out.now.sink.now) (g.K.Sink.taken c.line.new.self.sink.now) (g.K.Sink.taken c.text.new.self.sink.now) c.line.ensures.written.sink.grows c.text.ensures.written.sink.grows; same_sink = search rules };
 }
 
@@ -32,13 +32,13 @@ pub returns : goal.returns
 returns g c = record {
   ok = let number : c.byte.new.self ≡ decimal c.args.times ++ 32 ∷ [] = c.byte.ensures.bytes ∙ ap (λ l. l ++ 32 ∷ []) (c.number.ensures.bytes ∙ ap (λ l. l ++ decimal c.args.times) c.new-count.ensures) in
       on_ok_map c.byte-2.result
-      (λ e. all_three _ (appended g.K.Sink.taken c.text.new.self) (appended g.K.Sink.taken c.line.new.self) (appended g.K.Sink.taken c.args.out.now) (decimal c.args.times ++ 32 ∷ []) c.args.line.now (10 ∷ [])
-      e c.in_ok-text.ensures.written.ok (c.in_ok-line.ensures.written.ok ∙ ap (after (appended g.K.Sink.taken c.args.out.now)) number))
+      (λ e. all_three _ (appended_bytes g.K.Sink.taken c.text.new.self) (appended_bytes g.K.Sink.taken c.line.new.self) (appended_bytes g.K.Sink.taken c.args.out.now) (decimal c.args.times ++ 32 ∷ []) c.args.line.now (10 ∷ [])
+      e c.in_ok-text.ensures.written.ok (c.in_ok-line.ensures.written.ok ∙ ap (taken_with (appended_bytes g.K.Sink.taken c.args.out.now)) number))
       c.byte-2.ensures.written.ok;
   err = let number : c.byte.new.self ≡ decimal c.args.times ++ 32 ∷ [] = c.byte.ensures.bytes ∙ ap (λ l. l ++ 32 ∷ []) (c.number.ensures.bytes ∙ ap (λ l. l ++ decimal c.args.times) c.new-count.ensures) in
       on_err_map c.byte-2.result
-      (λ e. front_third _ (appended g.K.Sink.taken c.text.new.self) (appended g.K.Sink.taken c.line.new.self) (appended g.K.Sink.taken c.args.out.now) (decimal c.args.times ++ 32 ∷ []) c.args.line.now (10 ∷ [])
-      (c.in_ok-line.ensures.written.ok ∙ ap (after (appended g.K.Sink.taken c.args.out.now)) number) c.in_ok-text.ensures.written.ok e)
+      (λ e. front_third _ (appended_bytes g.K.Sink.taken c.text.new.self) (appended_bytes g.K.Sink.taken c.line.new.self) (appended_bytes g.K.Sink.taken c.args.out.now) (decimal c.args.times ++ 32 ∷ []) c.args.line.now (10 ∷ [])
+      (c.in_ok-line.ensures.written.ok ∙ ap (taken_with (appended_bytes g.K.Sink.taken c.args.out.now)) number) c.in_ok-text.ensures.written.ok e)
       c.byte-2.ensures.written.err;
   sink = record {
     counts = search rules;

@@ -1,6 +1,6 @@
 use Rattle.std.proofs.Common.{◌≡◌, length, map, reverse, arith, sym, ap, ◌∙◌}
 use Rattle.std.specs.Prelude.{vec_len}
-use Rattle.app_topo.specs.TopoEnds.{place_of}
+use Rattle.app_topo.specs.TopoEnds.{cell_place}
 use Rattle.app_topo.proofs.TopoEnding.{too_few, not_once, complete_then, order_none, none_valid, order_some, order_valid}
 use Rattle.app_topo.proofs.topo_answer.topo_end.Goals as goal
 
@@ -24,11 +24,11 @@ returns-then-not-columns_once-clause-none c = λ e p q v.
 pub returns-clause-order : goal.returns-clause-order
 returns-clause-order c =
     let size : vec_len c.in_ok-placed.placed ≡ length c.in_ok-placed.placed.items = omega (arith, c.in_ok-placed.placed.ok.0) in
-    order_some c.args.m.now c.in_ok-placed.placed.items c.of_places.result c.in_ok-placed.ensures.claims (c.of_places.ensures ∙ c.in_ok-last_first.ensures ∙ ap (λ w. reverse (map place_of w)) c.deref.ensures.value)
+    order_some c.args.m.now c.in_ok-placed.placed.items c.of_places.result c.in_ok-placed.ensures.claims (c.of_places.ensures ∙ c.in_ok-last_first.ensures ∙ ap (λ w. reverse (map cell_place w)) c.deref.ensures.value)
     (complete_then c.args.m.now c.in_ok-placed.placed.items c.in_ok-placed.ensures.claims (sym size ∙ sym c.len.ensures ∙ c.if-len-rows.false ∙ c.rows.ensures) (sym c.columns_once.ensures ∙ c.if-not-columns_once.false))
 
 pub returns-clause-valid : goal.returns-clause-valid
 returns-clause-valid c =
     let size : vec_len c.in_ok-placed.placed ≡ length c.in_ok-placed.placed.items = omega (arith, c.in_ok-placed.placed.ok.0) in
-    order_valid c.args.m.now c.in_ok-placed.placed.items c.of_places.result c.requires.ended.square c.requires.ended.matrix c.in_ok-placed.ensures.claims (c.of_places.ensures ∙ c.in_ok-last_first.ensures ∙ ap (λ w. reverse (map place_of w)) c.deref.ensures.value)
+    order_valid c.args.m.now c.in_ok-placed.placed.items c.of_places.result c.requires.ended.square c.requires.ended.matrix c.in_ok-placed.ensures.claims (c.of_places.ensures ∙ c.in_ok-last_first.ensures ∙ ap (λ w. reverse (map cell_place w)) c.deref.ensures.value)
     (complete_then c.args.m.now c.in_ok-placed.placed.items c.in_ok-placed.ensures.claims (sym size ∙ sym c.len.ensures ∙ c.if-len-rows.false ∙ c.rows.ensures) (sym c.columns_once.ensures ∙ c.if-not-columns_once.false))

@@ -4,8 +4,8 @@ use Rattle.route_tensor.specs.Grid.{ranks}
 use Rattle.app_histo_ig.specs.Asking.{ig_talk}
 use Rattle.app_histo_ig.specs.AskingRuns.{AreAskersOf}
 use Rattle.bale_runs.proofs.Asked.{they_ask}
-use Rattle.biconvey.specs.Driven.{HasExchanged}
-use Rattle.bale_runs.specs.Asking.{HasAsked}
+use Rattle.biconvey.specs.DrivePromises.{HasExchanged}
+use Rattle.bale_runs.specs.Asking.{LeftByQueries}
 use Rattle.bale_runs.proofs.Exchanges.{is_slots}
 use Rattle.bale_runs.specs.Runs.{made_for}
 use Rattle.bale_runs.proofs.Heard.{all_heard, if_ok}
@@ -31,7 +31,7 @@ pub returns : goal.returns
 returns g c =
     let x = (goal.at.returns g c).In_ok-askers in
     let steady = c.args.command.now.travel.steady in
-    if_ok c.bi_threads.result (HasExchanged ig_talk c.in_ok-askers.askers (made_for false c.args.command.now) steady) (HasAsked c.args.m.now (made_for false c.args.command.now) steady)
+    if_ok c.bi_threads.result (HasExchanged ig_talk c.in_ok-askers.askers (made_for false c.args.command.now) steady) (LeftByQueries c.args.m.now (made_for false c.args.command.now) steady)
     (λ run h. record {
       heard = all_heard c.args.m.now (ranks c.args.command.now.grid) c.in_ok-askers.askers run.progs (some g x) c.known.ensures (are g x) h.heard;
       rounds = told_replies c.args.m.now (made_for false c.args.command.now) steady run.rounds c.in_ok-askers.askers c.known.ensures (are g x) h.rounds;

@@ -4,10 +4,10 @@ use Rattle.route_tensor.specs.Grid.{ranks}
 use Rattle.app_histo_ig.specs.Asking.{ig_talk}
 use Rattle.app_histo_ig.specs.AskingRuns.{AreAskersOf}
 use Rattle.bale_runs.proofs.Asked.{they_ask}
-use Rattle.biconvey.specs.Driven.{HasExchanged, HasSweptBoth}
-use Rattle.biconvey.specs.Worlds.{turns_of}
+use Rattle.biconvey.specs.DrivePromises.{HasExchanged, HasSweptBoth}
+use Rattle.biconvey.specs.RanksOverBanks.{bi_turns_of}
 use Rattle.std.specs.List.{range_with_len}
-use Rattle.bale_runs.specs.Asking.{AskedInOrder, HasAsked}
+use Rattle.bale_runs.specs.Asking.{AskedInOrder, LeftByQueries}
 use Rattle.bale_runs.proofs.Exchanges.{is_slots}
 use Rattle.bale_runs.specs.Runs.{made_for}
 use Rattle.bale_runs.proofs.Heard.{all_heard, if_ok, one_each}
@@ -38,7 +38,7 @@ pub returns-clause-asked : goal.returns-clause-asked
 returns-clause-asked g c =
     let x = (goal.at.returns-clause-asked g c).In_ok-askers in
     let steady = c.args.command.now.travel.steady in
-    if_ok c.bi_serial.result (HasExchanged ig_talk c.in_ok-askers.askers (made_for true c.args.command.now) steady) (HasAsked c.args.m.now (made_for true c.args.command.now) steady)
+    if_ok c.bi_serial.result (HasExchanged ig_talk c.in_ok-askers.askers (made_for true c.args.command.now) steady) (LeftByQueries c.args.m.now (made_for true c.args.command.now) steady)
     (λ run h. record {
       heard = all_heard c.args.m.now (ranks c.args.command.now.grid) c.in_ok-askers.askers run.progs (some g x) c.known.ensures (are g x) h.heard;
       rounds = told_replies c.args.m.now (made_for true c.args.command.now) steady run.rounds c.in_ok-askers.askers c.known.ensures (are g x) h.rounds;
@@ -48,7 +48,7 @@ returns-clause-asked g c =
 pub returns-clause-steps : goal.returns-clause-steps
 returns-clause-steps g c =
     let x = (goal.at.returns-clause-steps g c).In_ok-askers in
-    subst (λ n. c.bi_serial.new.steps ≤ c.args.steps.now + turns_of c.args.command.now.grid n) (one_each c.args.m.now (ranks c.args.command.now.grid) c.in_ok-askers.askers (some g x) (are g x)) c.bi_serial.ensures.steps
+    subst (λ n. c.bi_serial.new.steps ≤ c.args.steps.now + bi_turns_of c.args.command.now.grid n) (one_each c.args.m.now (ranks c.args.command.now.grid) c.in_ok-askers.askers (some g x) (are g x)) c.bi_serial.ensures.steps
 
 pub bi_serial-requires-clause-capacity : goal.bi_serial-requires-clause-capacity
 bi_serial-requires-clause-capacity g c = c.requires.ranges.travel.buffer

@@ -2,7 +2,7 @@ use Rattle.std.proofs.Common.{◌<◌, ◌≤◌, ◌≡◌, ◌∙◌, ℕ, Lis
 use Rattle.route_tensor.proofs.Coordinates.{ranks_some}
 use Rattle.route_tensor.specs.Grid.{ranks}
 use Rattle.rank_node.specs.Movers.{manner_of}
-use Rattle.rank_group.specs.Driven.{HasFinished, HasSwept}
+use Rattle.rank_group.specs.DrivePromises.{HasFinished, HasSwept}
 use Rattle.rank_node.specs.declared.via.Via.TheVariants as via
 use Rattle.round_program.specs.Canonical.{InRound, EndsWithin}
 use Rattle.app_cases.specs.Any.{any_rules, sums_way}

@@ -8,8 +8,8 @@ use Rattle.bale_runs.specs.Jobs.{manner_for}
 use Rattle.bale_answers.specs.Tasks.{starts_of}
 use Rattle.bale_runs.specs.Runs.{made_for, IsTaskRun}
 use Rattle.rank_node.specs.Movers.{manner_of}
-use Rattle.rank_group.specs.Driven.{HasFinished}
-use Rattle.rank_group.specs.Driven.{ToldOfTurns}
+use Rattle.rank_group.specs.DrivePromises.{HasFinished}
+use Rattle.rank_group.specs.DrivePromises.{ToldOfTurns}
 use Rattle.bale_answers.specs.Tasks.{plan_of}
 use Rattle.bale_runs.proofs.Cases.{task_run, on_ok, told_of_task}
 use Rattle.bale_runs.proofs.Exchanges.{is_slots, fit_grid}

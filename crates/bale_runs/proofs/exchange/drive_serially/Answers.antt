@@ -8,7 +8,7 @@ use Rattle.bale_runs.specs.Jobs.{manner_for}
 use Rattle.bale_answers.specs.Tasks.{starts_of}
 use Rattle.bale_runs.specs.Runs.{made_for, IsTaskRun, FewestOfTask, SweptInOrder}
 use Rattle.rank_node.specs.Movers.{manner_of}
-use Rattle.rank_group.specs.Driven.{HasFinished, HasSwept, WithinTurns}
+use Rattle.rank_group.specs.DrivePromises.{HasFinished, HasSwept, WithinTurns}
 use Rattle.bale_runs.proofs.Cases.{task_run, turns_of_task, fewest_of_task, swept_in_order}
 use Rattle.bale_runs.proofs.Exchanges.{is_slots, fit_grid}
 use Rattle.bale_runs.proofs.Heard.{if_ok}

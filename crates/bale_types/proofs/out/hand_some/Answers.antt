@@ -2,7 +2,7 @@ use Rattle.std.proofs.Common.{◌≡◌, ◌+◌, ◌-◌, ◌≤◌, ◌∙◌,
 use lib.Seq.{paste}
 use Rattle.std.proofs.lemmas.Grind.{common_steps}
 use Rattle.std.proofs.lemmas.List.Edits.{take-paste}
-use Rattle.bale_types.specs.Stream.{after}
+use Rattle.bale_types.specs.Stream.{taken_with}
 use Rattle.bale_types.proofs.Moves.{rest_waits}
 use Rattle.bale_types.proofs.out.hand_some.Goals as goal
 
@@ -21,8 +21,8 @@ returns-clause-ok g c =
     let front : take left (paste buffer 0 (drop count buffer) left) ≡ take left (drop count buffer) =
     ap (λ (k : ℕ). take k (paste buffer 0 (drop count buffer) left)) none ∙ take-paste buffer 0 (drop count buffer) left (omega arith) (omega arith) in
     let shifted : take left c.copy_within.new.self ≡ take left (drop count buffer) = ap (take left) c.copy_within.ensures.after ∙ front in
-    let written : taken c.write.new.self ≡ after (taken c.args.sink.now) (take count (take (count + left) buffer)) =
-    subst (λ (k : ℕ). taken c.write.new.self ≡ after (taken c.args.sink.now) (take count (take k buffer))) (sym all) c.in_ok-count.ensures.bytes in
-    ap (after (taken c.write.new.self)) {y = take left (drop count buffer)} shifted
+    let written : taken c.write.new.self ≡ taken_with (taken c.args.sink.now) (take count (take (count + left) buffer)) =
+    subst (λ (k : ℕ). taken c.write.new.self ≡ taken_with (taken c.args.sink.now) (take count (take k buffer))) (sym all) c.in_ok-count.ensures.bytes in
+    ap (taken_with (taken c.write.new.self)) {y = take left (drop count buffer)} shifted
     ∙ rest_waits (taken c.write.new.self) (taken c.args.sink.now) buffer count left written
-    ∙ ap (λ (k : ℕ). after (taken c.args.sink.now) (take k buffer)) all
+    ∙ ap (λ (k : ℕ). taken_with (taken c.args.sink.now) (take k buffer)) all

@@ -13,8 +13,8 @@ new-requires g c =
 
 pub loop-asker-init : goal.loop-asker-init
 loop-asker-init g c = record {
-  making = subst (Making g.A.Asker.talk c.args.grid.now c.args.steady c.args.askers c.args.askers) (sym c.in_ok-all.ensures.items) (making_none g.A.Asker.talk c.args.grid.now c.args.steady c.args.askers);
-  room = subst (λ n. n ≤ vec_capacity c.in_ok-all.all) c.len.ensures c.in_ok-all.ensures.capacity;
+  making = subst (Making g.A.Asker.talk c.args.grid.now c.args.steady c.args.askers c.args.askers) (sym c.in-Ok.ensures.items) (making_none g.A.Asker.talk c.args.grid.now c.args.steady c.args.askers);
+  room = subst (λ n. n ≤ vec_capacity c.in-Ok.all) c.len.ensures c.in-Ok.ensures.capacity;
 }
 
 pub push_reserved-requires : goal.push_reserved-requires
@@ -31,4 +31,4 @@ loop-asker-preserved g c = record {
 }
 
 pub returns : goal.returns
-returns g c = making_all g.A.Asker.talk c.args.grid.now c.args.steady c.args.askers c.loop-asker.askers c.loop-asker.all.items c.loop-asker.invariant.making (sym c.take_first.ensures.first ∙ c.in_default.is)
+returns g c = making_all g.A.Asker.talk c.args.grid.now c.args.steady c.args.askers c.loop-asker.askers c.loop-asker.all.items c.loop-asker.invariant.making (sym c.take_first.ensures.first ∙ c.in_default-take_first.is)

@@ -3,10 +3,10 @@ use denote.Signature.{named_lft}
 use denote.Param.{param, number}
 use denote.Param.Send.{param_send}
 use Rattle.route_tensor.specs.Grid.{ranks}
-use Rattle.link_slots.specs.Closed.{AllThere}
+use Rattle.link_slots.specs.ClosedBank.{AllThere}
 use Rattle.link_slots.specs.Shape.{Shape}
 use Rattle.rank_group.specs.declared.closed_round.ClosedRound.TheVariants.{Slots}
-use Rattle.biconvey.specs.Drives.{AreAskers, AreFresh, TellsExchange, askers_of}
+use Rattle.biconvey.specs.Drives.{AreAskers, AreFreshBiRanks, TellsExchange, askers_of}
 use Rattle.biconvey.specs.contracts.at_ports.AtPorts as AtPorts
 use Rattle.biconvey.proofs.Crosses.{at_ports_send}
 use Rattle.biconvey.proofs.Threaded.{IsLeft, sat_at, numbered_at, all_there, have_heard, told, all_told}
@@ -19,7 +19,7 @@ gather_all-requires g c =
     let p = c.in_ok-replies.replies in
     let shape_q = c.in_ok-queries.ensures.bank in
     let same = c.in_ok-replies.ensures.bank ∙ sym shape_q in
-    let fresh = subst (λ (h : Shape). AreFresh T h.dims c.args.steady c.args.askers c.in_ok-all.all.items) (sym shape_q) c.in_ok-all.ensures in
+    let fresh = subst (λ (h : Shape). AreFreshBiRanks T h.dims c.args.steady c.args.askers c.in_ok-all.all.items) (sym shape_q) c.in_ok-all.ensures in
     let all = subst (λ (h : Shape). AreAskers T (ranks h.dims) c.args.askers) (sym shape_q) c.requires.askers in
     let seated = c.in_ok-seated.ensures.seated c.args.steady c.args.askers fresh in (
       search rules,
@@ -51,7 +51,7 @@ close-requires g c =
     let p = c.in_ok-replies.replies in
     let shape_q = c.in_ok-queries.ensures.bank in
     let same = c.in_ok-replies.ensures.bank ∙ sym shape_q in
-    let fresh = subst (λ (h : Shape). AreFresh T h.dims c.args.steady c.args.askers c.in_ok-all.all.items) (sym shape_q) c.in_ok-all.ensures in
+    let fresh = subst (λ (h : Shape). AreFreshBiRanks T h.dims c.args.steady c.args.askers c.in_ok-all.all.items) (sym shape_q) c.in_ok-all.ensures in
     let all = subst (λ (h : Shape). AreAskers T (ranks h.dims) c.args.askers) (sym shape_q) c.requires.askers in
     let seated = c.in_ok-seated.ensures.seated c.args.steady c.args.askers fresh in (
       search rules,
@@ -71,7 +71,7 @@ close-requires-2 g c =
     let p = c.in_ok-replies.replies in
     let shape_q = c.in_ok-queries.ensures.bank in
     let same = c.in_ok-replies.ensures.bank ∙ sym shape_q in
-    let fresh = subst (λ (h : Shape). AreFresh T h.dims c.args.steady c.args.askers c.in_ok-all.all.items) (sym shape_q) c.in_ok-all.ensures in
+    let fresh = subst (λ (h : Shape). AreFreshBiRanks T h.dims c.args.steady c.args.askers c.in_ok-all.all.items) (sym shape_q) c.in_ok-all.ensures in
     let all = subst (λ (h : Shape). AreAskers T (ranks h.dims) c.args.askers) (sym shape_q) c.requires.askers in
     let seated = c.in_ok-seated.ensures.seated c.args.steady c.args.askers fresh in (
       search rules,
@@ -92,7 +92,7 @@ returns-clause-exchanged g c =
     let p = c.in_ok-replies.replies in
     let shape_q = c.in_ok-queries.ensures.bank in
     let same = c.in_ok-replies.ensures.bank ∙ sym shape_q in
-    let fresh = subst (λ (h : Shape). AreFresh T h.dims c.args.steady c.args.askers c.in_ok-all.all.items) (sym shape_q) c.in_ok-all.ensures in
+    let fresh = subst (λ (h : Shape). AreFreshBiRanks T h.dims c.args.steady c.args.askers c.in_ok-all.all.items) (sym shape_q) c.in_ok-all.ensures in
     let all = subst (λ (h : Shape). AreAskers T (ranks h.dims) c.args.askers) (sym shape_q) c.requires.askers in
     let seated = c.in_ok-seated.ensures.seated c.args.steady c.args.askers fresh in
     let left_q : IsLeft g.row.CAP b.shape c.gather_all.new.of_queries.lists c.close.result = record { round = c.close.ensures.round; in_order = c.close.ensures.in_order; sent = c.close.ensures.sent; got = c.close.ensures.got } in
@@ -117,7 +117,7 @@ returns-clause-told g c = λ r low.
     let p = c.in_ok-replies.replies in
     let shape_q = c.in_ok-queries.ensures.bank in
     let same = c.in_ok-replies.ensures.bank ∙ sym shape_q in
-    let fresh = subst (λ (h : Shape). AreFresh T h.dims c.args.steady c.args.askers c.in_ok-all.all.items) (sym shape_q) c.in_ok-all.ensures in
+    let fresh = subst (λ (h : Shape). AreFreshBiRanks T h.dims c.args.steady c.args.askers c.in_ok-all.all.items) (sym shape_q) c.in_ok-all.ensures in
     let all = subst (λ (h : Shape). AreAskers T (ranks h.dims) c.args.askers) (sym shape_q) c.requires.askers in
     let seated = c.in_ok-seated.ensures.seated c.args.steady c.args.askers fresh in
     all_told T g.row.CAP b p same c.args.steady c.args.askers all c.in_ok-all.all.items fresh c.in_ok-seated.seated.items c.in_ok-ended.ended.items c.in_ok-seated.ensures.nodes seated (g.G.Gate.told c.args.gate.now) c.in_ok-ended.ensures.ran c.in_ok-ended.ensures.over

@@ -1,6 +1,6 @@
 use Rattle.std.proofs.Common.{◌≡◌, drop}
 use Rattle.std.specs.List.{list_all}
-use Rattle.biconvey.specs.Worlds.{is_over}
+use Rattle.biconvey.specs.RanksOverBanks.{is_over}
 use Rattle.biconvey.proofs.running.all_over.Given as goal
 
 abbrev pub invariant-loop-node : goal.invariant-loop-node

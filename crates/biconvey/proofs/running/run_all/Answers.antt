@@ -6,7 +6,7 @@ use Rattle.rank_group.specs.Ranks.{IsOrder}
 use Rattle.rank_group.specs.Turns.{InTurn}
 use Rattle.rank_group.proofs.Ordered.{sweeps_more}
 use Rattle.biconvey.specs.Turns.{AskingScene, IsAskingTurn}
-use Rattle.biconvey.specs.Worlds.{is_over, World, SweptTo, sides_of}
+use Rattle.biconvey.specs.RanksOverBanks.{is_over, BiWorld, BiSweptTo, sides_of}
 use Rattle.biconvey.proofs.Driven.{each_over, driving_none, steps_low, steps_lower, driving_more, fewer_left}
 use Rattle.biconvey.proofs.Swept.{same_banks, same_world}
 use Rattle.biconvey.proofs.running.run_all.Goals as goal
@@ -65,10 +65,10 @@ loop-banks-smaller g c =
     fewer_left T g.met.A.Asker.laws c.closes_law.ensures c.rest_law.ensures g.row.CAP d k c.args.all.now.items (sides_of c.args.banks.queries c.args.banks.replies) c.args.steps.now
     c.loop-banks.all.items b.queries b.replies c.loop-banks.steps v c.args.order.now c.requires.order on c.sweep.new.steps c.sweep.ensures.most_steps c.sweep.new.all.items b'.queries b'.replies
     (same_banks g.row.CAP d b.queries.dims k b.queries.slots b'.queries b'.replies v.banks.queries_dims v.banks.queries_slots c.in_ok-banks.ensures.banks)
-    (subst (λ ds. (steady : Bool) (starts : ℕ → g.row.A.Denot) → World T ds g.row.CAP k steady starts c.loop-banks.all.items (sides_of b.queries b.replies)
-    → SweptTo T ds g.row.CAP k steady starts c.args.order.now (length c.args.order.now) c.loop-banks.all.items (sides_of b.queries b.replies) c.sweep.new.all.items (sides_of b'.queries b'.replies)) v.banks.queries_dims
-    (subst (λ ks. (steady : Bool) (starts : ℕ → g.row.A.Denot) → World T b.queries.dims g.row.CAP ks steady starts c.loop-banks.all.items (sides_of b.queries b.replies)
-    → SweptTo T b.queries.dims g.row.CAP ks steady starts c.args.order.now (length c.args.order.now) c.loop-banks.all.items (sides_of b.queries b.replies) c.sweep.new.all.items (sides_of b'.queries b'.replies)) v.banks.queries_slots
+    (subst (λ ds. (steady : Bool) (starts : ℕ → g.row.A.Denot) → BiWorld T ds g.row.CAP k steady starts c.loop-banks.all.items (sides_of b.queries b.replies)
+    → BiSweptTo T ds g.row.CAP k steady starts c.args.order.now (length c.args.order.now) c.loop-banks.all.items (sides_of b.queries b.replies) c.sweep.new.all.items (sides_of b'.queries b'.replies)) v.banks.queries_dims
+    (subst (λ ks. (steady : Bool) (starts : ℕ → g.row.A.Denot) → BiWorld T b.queries.dims g.row.CAP ks steady starts c.loop-banks.all.items (sides_of b.queries b.replies)
+    → BiSweptTo T b.queries.dims g.row.CAP ks steady starts c.args.order.now (length c.args.order.now) c.loop-banks.all.items (sides_of b.queries b.replies) c.sweep.new.all.items (sides_of b'.queries b'.replies)) v.banks.queries_slots
     c.in_ok-banks.ensures.swept)) w.0 w.1 w.2
 
 pub loop-banks-preserved : goal.loop-banks-preserved
@@ -100,10 +100,10 @@ loop-banks-preserved g c =
       driving = driving_more T g.met.A.Asker.laws c.closes_law.ensures c.rest_law.ensures g.row.CAP d k c.args.all.now.items (sides_of c.args.banks.queries c.args.banks.replies) c.args.steps.now
           c.loop-banks.all.items b.queries b.replies c.loop-banks.steps v c.args.order.now c.requires.order on c.sweep.new.steps c.sweep.ensures.most_steps c.sweep.new.all.items b'.queries b'.replies
           (same_banks g.row.CAP d b.queries.dims k b.queries.slots b'.queries b'.replies v.banks.queries_dims v.banks.queries_slots c.in_ok-banks.ensures.banks)
-          (subst (λ ds. (steady : Bool) (starts : ℕ → g.row.A.Denot) → World T ds g.row.CAP k steady starts c.loop-banks.all.items (sides_of b.queries b.replies)
-          → SweptTo T ds g.row.CAP k steady starts c.args.order.now (length c.args.order.now) c.loop-banks.all.items (sides_of b.queries b.replies) c.sweep.new.all.items (sides_of b'.queries b'.replies)) v.banks.queries_dims
-          (subst (λ ks. (steady : Bool) (starts : ℕ → g.row.A.Denot) → World T b.queries.dims g.row.CAP ks steady starts c.loop-banks.all.items (sides_of b.queries b.replies)
-          → SweptTo T b.queries.dims g.row.CAP ks steady starts c.args.order.now (length c.args.order.now) c.loop-banks.all.items (sides_of b.queries b.replies) c.sweep.new.all.items (sides_of b'.queries b'.replies)) v.banks.queries_slots
+          (subst (λ ds. (steady : Bool) (starts : ℕ → g.row.A.Denot) → BiWorld T ds g.row.CAP k steady starts c.loop-banks.all.items (sides_of b.queries b.replies)
+          → BiSweptTo T ds g.row.CAP k steady starts c.args.order.now (length c.args.order.now) c.loop-banks.all.items (sides_of b.queries b.replies) c.sweep.new.all.items (sides_of b'.queries b'.replies)) v.banks.queries_dims
+          (subst (λ ks. (steady : Bool) (starts : ℕ → g.row.A.Denot) → BiWorld T b.queries.dims g.row.CAP ks steady starts c.loop-banks.all.items (sides_of b.queries b.replies)
+          → BiSweptTo T b.queries.dims g.row.CAP ks steady starts c.args.order.now (length c.args.order.now) c.loop-banks.all.items (sides_of b.queries b.replies) c.sweep.new.all.items (sides_of b'.queries b'.replies)) v.banks.queries_slots
           c.in_ok-banks.ensures.swept));
     }
 

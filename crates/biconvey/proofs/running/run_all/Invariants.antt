@@ -2,7 +2,7 @@ use Rattle.std.proofs.Common.{ℕ, ◌≡◌, ◌⊎◌, ◌+◌, ◌≤◌}
 use Rattle.route_tensor.specs.Grid.{ranks}
 use Rattle.rank_group.specs.Turns.{InSweeps}
 use Rattle.biconvey.specs.Turns.{IsAskingTurn}
-use Rattle.biconvey.specs.Worlds.{PostedWithin, sides_of}
+use Rattle.biconvey.specs.RanksOverBanks.{PostedWithin, sides_of}
 use Rattle.biconvey.proofs.Driven.{Driving, left}
 use Rattle.biconvey.proofs.running.run_all.Given as goal
 

@@ -1,7 +1,7 @@
 use Rattle.std.proofs.Common.{◌++◌, ◌∷◌, [], ◌≤◌, length, vec_capacity, ap, ◌∙◌, sym, subst, arith, lit<}
 use Rattle.link_slots.specs.Gathering.{Gathering}
-use Rattle.link_slots.specs.Seen.{Identity}
-use Rattle.biconvey.specs.Seats.{SeatedState}
+use Rattle.link_slots.specs.SeatView.{Identity}
+use Rattle.biconvey.specs.Seats.{BiSeatedState}
 use Rattle.biconvey.proofs.Placing.{next_numbers, next_banks, leave_left, leaving_more}
 use Rattle.biconvey.proofs.seating.gather_all.Goals as goal
 
@@ -9,7 +9,7 @@ pub gather-requires : goal.gather-requires
 gather-requires g c =
     let i = c.seated.inside in
     let sq = c.into_seat.result in
-    let y : SeatedState g.row.A.Denot = record { node = i.node; queries = sq; replies = i.replies.port.seat; turns = i.turns } in
+    let y : BiSeatedState g.row.A.Denot = record { node = i.node; queries = sq; replies = i.replies.port.seat; turns = i.turns } in
     let here = ap (λ s. record { node = i.node; queries = s; replies = i.replies.port.seat; turns = i.turns }) c.into_seat.ensures.seat ∙ c.seated.view_is in
     let rest = c.next.new.self in
     let v = c.loop-seated.invariant.leaving in
@@ -21,7 +21,7 @@ pub gather-requires-in-loop-seated : goal.gather-requires-in-loop-seated
 gather-requires-in-loop-seated g c =
     let i = c.seated.inside in
     let sp = c.into_seat-in-loop-seated.result in
-    let y : SeatedState g.row.A.Denot = record { node = i.node; queries = i.queries.port.seat; replies = sp; turns = i.turns } in
+    let y : BiSeatedState g.row.A.Denot = record { node = i.node; queries = i.queries.port.seat; replies = sp; turns = i.turns } in
     let here = ap (λ s. record { node = i.node; queries = i.queries.port.seat; replies = s; turns = i.turns }) c.into_seat-in-loop-seated.ensures.seat ∙ c.seated.view_is in
     let rest = c.next.new.self in
     let v = c.loop-seated.invariant.leaving in
@@ -44,7 +44,7 @@ loop-seated-preserved g c =
     let i = c.seated.inside in
     let sq = c.into_seat.result in
     let sp = c.into_seat-in-loop-seated.result in
-    let y : SeatedState g.row.A.Denot = record { node = i.node; queries = sq; replies = sp; turns = i.turns } in
+    let y : BiSeatedState g.row.A.Denot = record { node = i.node; queries = sq; replies = sp; turns = i.turns } in
     let here = ap (λ s. record { node = i.node; queries = s; replies = sp; turns = i.turns }) c.into_seat.ensures.seat ∙ (ap (λ s. record { node = i.node; queries = i.queries.port.seat; replies = s; turns = i.turns }) c.into_seat-in-loop-seated.ensures.seat ∙ c.seated.view_is) in
     let rest = c.next.new.self in
     let v = c.loop-seated.invariant.leaving in

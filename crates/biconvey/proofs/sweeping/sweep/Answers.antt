@@ -7,7 +7,7 @@ use Rattle.query_node.specs.States.{BiState}
 use Rattle.rank_group.specs.Turns.{InTurn}
 use Rattle.rank_group.proofs.Ordered.{turns_more}
 use Rattle.biconvey.specs.Turns.{AskingScene, IsAskingTurn}
-use Rattle.biconvey.specs.Worlds.{AfterRank, SweptTo, sides_of}
+use Rattle.biconvey.specs.RanksOverBanks.{AfterBiRank, BiSweptTo, sides_of}
 use Rattle.biconvey.proofs.Swept.{sweeping_more, swept_none, same_turn, same_banks, same_world, order_at}
 use Rattle.biconvey.proofs.sweeping.sweep.Goals as goal
 
@@ -63,7 +63,7 @@ loop-i-preserved g c =
     let w = (v.swept c.requires.world.0 c.requires.world.1 c.requires.world.2).world in
     let all = sym (length-map c.loop-i.all.items (λ (n : BiState g.row.A.Denot). n.queries)) ∙ w.queries.all in
     let same : (n n' : BiState g.row.A.Denot) → slice_get c.loop-i.all.items number ≡ Some n → slice_get c.turn_one.new.all.items number ≡ Some n'
-    → AfterRank T d g.row.CAP k number n n' (sides_of c.loop-i.banks.queries c.loop-i.banks.replies) (sides_of b.queries b.replies) = λ n n' was now. same_turn T g.row.CAP d c.loop-i.banks.queries.dims k c.loop-i.banks.queries.slots number n n' (sides_of c.loop-i.banks.queries c.loop-i.banks.replies) (sides_of b.queries b.replies) v.banks.queries_dims v.banks.queries_slots (c.in_ok-banks.ensures.turned n n' was now) in
+    → AfterBiRank T d g.row.CAP k number n n' (sides_of c.loop-i.banks.queries c.loop-i.banks.replies) (sides_of b.queries b.replies) = λ n n' was now. same_turn T g.row.CAP d c.loop-i.banks.queries.dims k c.loop-i.banks.queries.slots number n n' (sides_of c.loop-i.banks.queries c.loop-i.banks.replies) (sides_of b.queries b.replies) v.banks.queries_dims v.banks.queries_slots (c.in_ok-banks.ensures.turned n n' was now) in
     let sweeping = sweeping_more T g.row.CAP d k c.args.order.now c.args.all.now.items (sides_of c.args.banks.queries c.args.banks.replies) c.args.steps.now c.loop-i.i number c.loop-i.all.items c.turn_one.new.all.items
     c.loop-i.banks.queries c.loop-i.banks.replies b.queries b.replies c.loop-i.steps c.turn_one.new.steps v all here below
     (same_banks g.row.CAP d c.loop-i.banks.queries.dims k c.loop-i.banks.queries.slots b.queries b.replies v.banks.queries_dims v.banks.queries_slots c.in_ok-banks.ensures.banks)
@@ -90,5 +90,5 @@ returns-clause-order g c =
 pub returns-clause-swept : goal.returns-clause-swept
 returns-clause-swept g c = λ steady starts w.
     let end : c.loop-i.i ≡ length c.args.order.now = omega (arith, c.loop-i-test.false, c.loop-i.auto.i-end) in
-    subst (λ i. SweptTo g.A.Asker.talk c.args.banks.queries.dims g.row.CAP c.args.banks.queries.slots steady starts c.args.order.now i c.args.all.now.items (sides_of c.args.banks.queries c.args.banks.replies) c.loop-i.all.items (sides_of c.loop-i.banks.queries c.loop-i.banks.replies)) end
+    subst (λ i. BiSweptTo g.A.Asker.talk c.args.banks.queries.dims g.row.CAP c.args.banks.queries.slots steady starts c.args.order.now i c.args.all.now.items (sides_of c.args.banks.queries c.args.banks.replies) c.loop-i.all.items (sides_of c.loop-i.banks.queries c.loop-i.banks.replies)) end
     (c.loop-i.invariant.sweeping.swept steady starts w)

@@ -1,7 +1,7 @@
 use Rattle.std.proofs.Common.{take}
 use Rattle.rank_group.specs.Turns.{InTurn}
 use Rattle.biconvey.specs.Turns.{IsAskingTurn}
-use Rattle.biconvey.specs.Worlds.{sides_of}
+use Rattle.biconvey.specs.RanksOverBanks.{sides_of}
 use Rattle.biconvey.proofs.Swept.{Sweeping}
 use Rattle.biconvey.proofs.sweeping.sweep.Given as goal
 

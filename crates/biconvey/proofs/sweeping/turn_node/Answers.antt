@@ -1,6 +1,6 @@
 use Rattle.std.proofs.Common.{rules, ◌≡◌, refl, ap, ◌∙◌, sym, subst}
 use Rattle.port_bank.specs.Plain.{Bank}
-use Rattle.biconvey.specs.Worlds.{AfterRank, sides_of}
+use Rattle.biconvey.specs.RanksOverBanks.{AfterBiRank, sides_of}
 use Rattle.biconvey.proofs.Ranked.{PortTurns, after_turn, port_needs}
 use Rattle.biconvey.proofs.sweeping.turn_node.Goals as goal
 
@@ -78,8 +78,8 @@ returns-clause-turned g c =
       kept = c.turn.ensures.kept;
       stuck = c.in_ok-_turn.ensures.stuck;
     } in
-    subst (λ (x : Bank). AfterRank T q.dims g.row.CAP q.slots c.args.number n n' (sides_of q r) (sides_of x c.into_bank-2.result)) (sym c.into_bank.ensures.bank)
-    (subst (λ (x : Bank). AfterRank T q.dims g.row.CAP q.slots c.args.number n n' (sides_of q r) (sides_of pq' x)) (sym c.into_bank-2.ensures.bank)
+    subst (λ (x : Bank). AfterBiRank T q.dims g.row.CAP q.slots c.args.number n n' (sides_of q r) (sides_of x c.into_bank-2.result)) (sym c.into_bank.ensures.bank)
+    (subst (λ (x : Bank). AfterBiRank T q.dims g.row.CAP q.slots c.args.number n n' (sides_of q r) (sides_of pq' x)) (sym c.into_bank-2.ensures.bank)
     (after_turn T q.dims g.row.CAP q.slots c.args.number n n' q a pq' a' r b pr' b' refl refl c.requires.banks.replies_dims c.requires.banks.replies_slots
     (c.turn.ensures.queries.same_port.dims ∙ ap (λ (x : Bank). x.dims) c.port-asking.ensures.bank) (c.turn.ensures.queries.same_port.slots ∙ ap (λ (x : Bank). x.slots) c.port-asking.ensures.bank)
     (c.turn.ensures.replies.same_port.dims ∙ ap (λ (x : Bank). x.dims) c.port-replying.ensures.bank) (c.turn.ensures.replies.same_port.slots ∙ ap (λ (x : Bank). x.slots) c.port-replying.ensures.bank)

@@ -3,7 +3,7 @@ use Rattle.std.proofs.lemmas.Option.{slice_get_read}
 use Rattle.std.proofs.lemmas.List.{length-map}
 use Rattle.list_laws.proofs.Lists.{get_once, get_here, get_other}
 use Rattle.query_node.specs.States.{BiState}
-use Rattle.biconvey.specs.Worlds.{AfterRank, sides_of}
+use Rattle.biconvey.specs.RanksOverBanks.{AfterBiRank, sides_of}
 use Rattle.biconvey.proofs.sweeping.turn_one.Goals as goal
 
 pub turn_node-requires : goal.turn_node-requires
@@ -33,6 +33,6 @@ returns-clause-turned g c = λ n n' was now.
     let at : slice_get ns r ≡ Some c.index_mut.result.now = slice_get_read ns (length ns) r c.index_mut.result.now refl low c.index_mut.ensures.value in
     let same : c.index_mut.result.now ≡ n = get_once ns r c.index_mut.result.now n at was in
     let same' : c.turn_node.new.node ≡ n' = get_once (slice_set ns r c.turn_node.new.node) r c.turn_node.new.node n' (get_here ns r c.turn_node.new.node low) now in
-    subst (λ (m : BiState g.row.A.Denot). IfOk c.turn_node.result (λ b. AfterRank T q.dims g.row.CAP q.slots r m n' s (sides_of b.queries b.replies))) same
-    (subst (λ (m : BiState g.row.A.Denot). IfOk c.turn_node.result (λ b. AfterRank T q.dims g.row.CAP q.slots r c.index_mut.result.now m s (sides_of b.queries b.replies))) same'
+    subst (λ (m : BiState g.row.A.Denot). IfOk c.turn_node.result (λ b. AfterBiRank T q.dims g.row.CAP q.slots r m n' s (sides_of b.queries b.replies))) same
+    (subst (λ (m : BiState g.row.A.Denot). IfOk c.turn_node.result (λ b. AfterBiRank T q.dims g.row.CAP q.slots r c.index_mut.result.now m s (sides_of b.queries b.replies))) same'
     c.turn_node.ensures.turned)

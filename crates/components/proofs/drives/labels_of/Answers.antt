@@ -1,6 +1,6 @@
 use Rattle.std.proofs.Common.{◌≡◌, ◌≤◌, sym, subst, All, length, ap, ◌∙◌}
 use Rattle.list_laws.proofs.Results.{if_ok_is, if_ok_from}
-use Rattle.reductions.specs.Answers.{owned}
+use Rattle.reductions.specs.Answers.{owned_values}
 use Rattle.components.specs.Connected.{AreComponents}
 use Rattle.components.proofs.Runs.{ended}
 use Rattle.components.proofs.drives.labels_of.Goals as goal
@@ -19,5 +19,5 @@ returns c =
     let answer = (ended c.args.m.now c.args.ranks c.requires.ranks.some c.requires.ranks.few c.known.ensures c.requires.square c.args.progs.now c.requires.ended).answer in
     if_ok_from (λ v. AreComponents c.args.m.now v.items) c.owned.result
     (λ v e. subst (AreComponents c.args.m.now)
-    (sym (if_ok_is (λ w. w.items ≡ owned (λ s. s.labels) c.args.progs.now c.rows.result) c.owned.result v e c.owned.ensures
-    ∙ ap (owned (λ s. s.labels) c.args.progs.now) c.rows.ensures)) answer)
+    (sym (if_ok_is (λ w. w.items ≡ owned_values (λ s. s.labels) c.args.progs.now c.rows.result) c.owned.result v e c.owned.ensures
+    ∙ ap (owned_values (λ s. s.labels) c.args.progs.now) c.rows.ensures)) answer)

@@ -4,7 +4,7 @@ use Rattle.route_tensor.specs.Neighbour.{in_index}
 use Rattle.std.specs.List.{flat_map}
 use Rattle.std.proofs.lemmas.Bool.{false≢true}
 use Rattle.std.proofs.lemmas.List.{append-nil}
-use Rattle.item_buffer.specs.Contents.{shipped}
+use Rattle.item_buffer.specs.Contents.{as_shipped}
 use Rattle.port_bank.specs.Logs.{Logs}
 use Rattle.port_bank.proofs.Kept.{added-here}
 use Rattle.bale_items.specs.Counters.{RoseOrFull}
@@ -36,7 +36,7 @@ returns-in-Got-clause-leaves g c =
     let below : c.args.link < links st.dims = subst (λ ds. c.args.link < links ds) (sym c.requires.ready.same_dims) c.requires.link in
     let n : c.args.number ≡ in_index st.dims c.args.link = c.requires.number ∙ ap (λ ds. in_index ds c.args.link) (sym c.requires.ready.same_dims) in
     let wants : Wants st c.args.link = subst (λ i. is_wanted (in_at st i) ≡ true) n (sym c.wants_from.ensures ∙ c.if-not-wants_from.false) in
-    let q = shipped c.collect.new.p in
+    let q = as_shipped c.collect.new.p in
     let e = c.in-Got.ensures in
     let new = filled st c.take_in.new.self c.args.number c.args.link _ n c.take_in.ensures.state in
     let one = (collected_one _ _ _ _ c.args.link _ _ _ _ _ s c.requires.ready c.requires.link c.requires.ends_here wants new c.collect.ensures.same_outs.sent q refl refl (e.fair refl) (e.own refl) (e.got refl)) in
@@ -71,7 +71,7 @@ returns-in-Got-clause-inbox g c =
     let below : c.args.link < links st.dims = subst (λ ds. c.args.link < links ds) (sym c.requires.ready.same_dims) c.requires.link in
     let n : c.args.number ≡ in_index st.dims c.args.link = c.requires.number ∙ ap (λ ds. in_index ds c.args.link) (sym c.requires.ready.same_dims) in
     let wants : Wants st c.args.link = subst (λ i. is_wanted (in_at st i) ≡ true) n (sym c.wants_from.ensures ∙ c.if-not-wants_from.false) in
-    let q = shipped c.collect.new.p in
+    let q = as_shipped c.collect.new.p in
     let e = c.in-Got.ensures in
     let new = filled st c.take_in.new.self c.args.number c.args.link _ n c.take_in.ensures.state in
     (collected_one _ _ _ _ c.args.link _ _ _ _ _ s c.requires.ready c.requires.link c.requires.ends_here wants new c.collect.ensures.same_outs.sent q refl refl (e.fair refl) (e.own refl) (e.got refl)).inbox
@@ -83,13 +83,13 @@ returns-in-Got-clause-asked g c =
     let below : c.args.link < links st.dims = subst (λ ds. c.args.link < links ds) (sym c.requires.ready.same_dims) c.requires.link in
     let n : c.args.number ≡ in_index st.dims c.args.link = c.requires.number ∙ ap (λ ds. in_index ds c.args.link) (sym c.requires.ready.same_dims) in
     let wants : Wants st c.args.link = subst (λ i. is_wanted (in_at st i) ≡ true) n (sym c.wants_from.ensures ∙ c.if-not-wants_from.false) in
-    let more = ap (λ logs. logs c.args.link) (c.in-Got.ensures.got refl) ∙ added-here (g.P.Port.got c.args.port.now) c.args.link (shipped c.collect.new.p) in
+    let more = ap (λ logs. logs c.args.link) (c.in-Got.ensures.got refl) ∙ added-here (g.P.Port.got c.args.port.now) c.args.link (as_shipped c.collect.new.p) in
     record {
       left = λ no. absurd (no wants);
       unasked = λ no. absurd (no wants);
       rose = λ yes same. absurd (grew _ _ (sym more ∙ same));
       idle = λ yes same. absurd (grew _ _ (sym more ∙ same));
-      once = omega (arith, ap length more, length-append (g.P.Port.got c.args.port.now c.args.link) (shipped c.collect.new.p ∷ []));
+      once = omega (arith, ap length more, length-append (g.P.Port.got c.args.port.now c.args.link) (as_shipped c.collect.new.p ∷ []));
     }
 
 pub returns-in-Nothing-clause-asked : goal.returns-in-Nothing-clause-asked
@@ -127,7 +127,7 @@ returns-in-Got-clause-lies g c =
     let below : c.args.link < links st.dims = subst (λ ds. c.args.link < links ds) (sym c.requires.ready.same_dims) c.requires.link in
     let n : c.args.number ≡ in_index st.dims c.args.link = c.requires.number ∙ ap (λ ds. in_index ds c.args.link) (sym c.requires.ready.same_dims) in
     let wants : Wants st c.args.link = subst (λ i. is_wanted (in_at st i) ≡ true) n (sym c.wants_from.ensures ∙ c.if-not-wants_from.false) in
-    let q = shipped c.collect.new.p in
+    let q = as_shipped c.collect.new.p in
     let e = c.in-Got.ensures in
     let new = filled st c.take_in.new.self c.args.number c.args.link _ n c.take_in.ensures.state in
     λ more same. came_lies _ _ c.args.link _ q _ _ more s below wants new refl

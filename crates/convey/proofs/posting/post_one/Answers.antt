@@ -3,7 +3,7 @@ use Rattle.std.proofs.lemmas.Bool.{cases_eq}
 use Rattle.bale_items.specs.declared.fault.NoMemory.{NoMemory}
 use Rattle.std.specs.List.{All}
 use Rattle.bale_items.specs.declared.item.Entry.{Entry}
-use Rattle.item_buffer.specs.Contents.{Contents, IsFresh, shipped}
+use Rattle.item_buffer.specs.Contents.{Contents, IsFresh, as_shipped}
 use Rattle.route_tensor.specs.Tag.{IsFair}
 use Rattle.route_tensor.specs.Link.{links}
 use Rattle.route_tensor.specs.Neighbour.{hop_to, out_index}
@@ -41,7 +41,7 @@ post-requires g c =
     let below : c.args.link < links st.dims = subst (λ ds. c.args.link < links ds) (sym c.requires.ready.same_dims) c.requires.link in
     let n : c.args.number ≡ out_index st.dims c.args.link = c.requires.number ∙ ap (λ ds. out_index ds c.args.link) (sym c.requires.ready.same_dims) in
     let t = taken_out st c.args.number c.args.link c.take_out-outgoing.new.parcel s below n (sym c.due_to.ensures ∙ c.if-not-due_to.false) c.take_out-outgoing.ensures.parcel in
-    let q = shipped c.take_out-outgoing.new.parcel in (
+    let q = as_shipped c.take_out-outgoing.new.parcel in (
       search rules,
       (
         c.requires.link,
@@ -65,7 +65,7 @@ returns-in-Ok-Sent-clause-leaves g c =
     let below : c.args.link < links st.dims = subst (λ ds. c.args.link < links ds) (sym c.requires.ready.same_dims) c.requires.link in
     let n : c.args.number ≡ out_index st.dims c.args.link = c.requires.number ∙ ap (λ ds. out_index ds c.args.link) (sym c.requires.ready.same_dims) in
     let t = taken_out st c.args.number c.args.link c.take_out-outgoing.new.parcel s below n (sym c.due_to.ensures ∙ c.if-not-due_to.false) c.take_out-outgoing.ensures.parcel in
-    let q = shipped c.take_out-outgoing.new.parcel in
+    let q = as_shipped c.take_out-outgoing.new.parcel in
     let e = c.post.ensures in
     let was : c.post.result ≡ Ok Sent = c.in-Ok-Sent.is ∙ ap Ok c.in-Ok-Sent.field-0-is in
     let over = sym c.take_out-outgoing.ensures.borrowed in
@@ -92,7 +92,7 @@ returns-in-Ok-NoRoom-clause-leaves g c =
     let below : c.args.link < links st.dims = subst (λ ds. c.args.link < links ds) (sym c.requires.ready.same_dims) c.requires.link in
     let n : c.args.number ≡ out_index st.dims c.args.link = c.requires.number ∙ ap (λ ds. out_index ds c.args.link) (sym c.requires.ready.same_dims) in
     let t = taken_out st c.args.number c.args.link c.take_out-outgoing.new.parcel s below n (sym c.due_to.ensures ∙ c.if-not-due_to.false) c.take_out-outgoing.ensures.parcel in
-    let q = shipped c.take_out-outgoing.new.parcel in
+    let q = as_shipped c.take_out-outgoing.new.parcel in
     let e = c.post.ensures in
     let no = not_sent _ (c.in-Ok-NoRoom.is ∙ ap Ok c.in-Ok-NoRoom.field-0-is) in
     let over = sym c.take_out-outgoing.ensures.borrowed in
@@ -115,7 +115,7 @@ returns-in-Err-clause-leaves g c =
     let below : c.args.link < links st.dims = subst (λ ds. c.args.link < links ds) (sym c.requires.ready.same_dims) c.requires.link in
     let n : c.args.number ≡ out_index st.dims c.args.link = c.requires.number ∙ ap (λ ds. out_index ds c.args.link) (sym c.requires.ready.same_dims) in
     let t = taken_out st c.args.number c.args.link c.take_out-outgoing.new.parcel s below n (sym c.due_to.ensures ∙ c.if-not-due_to.false) c.take_out-outgoing.ensures.parcel in
-    let q = shipped c.take_out-outgoing.new.parcel in
+    let q = as_shipped c.take_out-outgoing.new.parcel in
     let e = c.post.ensures in
     let no = failed _ _ c.in-Err.is in
     let over = sym c.take_out-outgoing.ensures.borrowed in
@@ -141,7 +141,7 @@ returns-in-Ok-Sent-clause-out g c =
     let below : c.args.link < links st.dims = subst (λ ds. c.args.link < links ds) (sym c.requires.ready.same_dims) c.requires.link in
     let n : c.args.number ≡ out_index st.dims c.args.link = c.requires.number ∙ ap (λ ds. out_index ds c.args.link) (sym c.requires.ready.same_dims) in
     let t = taken_out st c.args.number c.args.link c.take_out-outgoing.new.parcel s below n (sym c.due_to.ensures ∙ c.if-not-due_to.false) c.take_out-outgoing.ensures.parcel in
-    let q = shipped c.take_out-outgoing.new.parcel in
+    let q = as_shipped c.take_out-outgoing.new.parcel in
     let e = c.post.ensures in
     let was : c.post.result ≡ Ok Sent = c.in-Ok-Sent.is ∙ ap Ok c.in-Ok-Sent.field-0-is in
     let over = sym c.take_out-outgoing.ensures.borrowed in
@@ -156,7 +156,7 @@ returns-in-Ok-Sent-clause-served g c =
     let below : c.args.link < links st.dims = subst (λ ds. c.args.link < links ds) (sym c.requires.ready.same_dims) c.requires.link in
     let n : c.args.number ≡ out_index st.dims c.args.link = c.requires.number ∙ ap (λ ds. out_index ds c.args.link) (sym c.requires.ready.same_dims) in
     let t = taken_out st c.args.number c.args.link c.take_out-outgoing.new.parcel s below n (sym c.due_to.ensures ∙ c.if-not-due_to.false) c.take_out-outgoing.ensures.parcel in
-    let q = shipped c.take_out-outgoing.new.parcel in
+    let q = as_shipped c.take_out-outgoing.new.parcel in
     let e = c.post.ensures in
     let was : c.post.result ≡ Ok Sent = c.in-Ok-Sent.is ∙ ap Ok c.in-Ok-Sent.field-0-is in
     let over = sym c.take_out-outgoing.ensures.borrowed in
@@ -172,7 +172,7 @@ returns-in-Ok-Sent-clause-waits g c =
     let below : c.args.link < links st.dims = subst (λ ds. c.args.link < links ds) (sym c.requires.ready.same_dims) c.requires.link in
     let n : c.args.number ≡ out_index st.dims c.args.link = c.requires.number ∙ ap (λ ds. out_index ds c.args.link) (sym c.requires.ready.same_dims) in
     let t = taken_out st c.args.number c.args.link c.take_out-outgoing.new.parcel s below n (sym c.due_to.ensures ∙ c.if-not-due_to.false) c.take_out-outgoing.ensures.parcel in
-    let q = shipped c.take_out-outgoing.new.parcel in
+    let q = as_shipped c.take_out-outgoing.new.parcel in
     let e = c.post.ensures in
     let was : c.post.result ≡ Ok Sent = c.in-Ok-Sent.is ∙ ap Ok c.in-Ok-Sent.field-0-is in
     let over = sym c.take_out-outgoing.ensures.borrowed in
@@ -188,7 +188,7 @@ returns-in-Ok-NoRoom-clause-out g c =
     let below : c.args.link < links st.dims = subst (λ ds. c.args.link < links ds) (sym c.requires.ready.same_dims) c.requires.link in
     let n : c.args.number ≡ out_index st.dims c.args.link = c.requires.number ∙ ap (λ ds. out_index ds c.args.link) (sym c.requires.ready.same_dims) in
     let t = taken_out st c.args.number c.args.link c.take_out-outgoing.new.parcel s below n (sym c.due_to.ensures ∙ c.if-not-due_to.false) c.take_out-outgoing.ensures.parcel in
-    let q = shipped c.take_out-outgoing.new.parcel in
+    let q = as_shipped c.take_out-outgoing.new.parcel in
     let e = c.post.ensures in
     let no = not_sent _ (c.in-Ok-NoRoom.is ∙ ap Ok c.in-Ok-NoRoom.field-0-is) in
     let over = sym c.take_out-outgoing.ensures.borrowed in
@@ -203,7 +203,7 @@ returns-in-Ok-NoRoom-clause-waits g c =
     let below : c.args.link < links st.dims = subst (λ ds. c.args.link < links ds) (sym c.requires.ready.same_dims) c.requires.link in
     let n : c.args.number ≡ out_index st.dims c.args.link = c.requires.number ∙ ap (λ ds. out_index ds c.args.link) (sym c.requires.ready.same_dims) in
     let t = taken_out st c.args.number c.args.link c.take_out-outgoing.new.parcel s below n (sym c.due_to.ensures ∙ c.if-not-due_to.false) c.take_out-outgoing.ensures.parcel in
-    let q = shipped c.take_out-outgoing.new.parcel in
+    let q = as_shipped c.take_out-outgoing.new.parcel in
     let e = c.post.ensures in
     let no = not_sent _ (c.in-Ok-NoRoom.is ∙ ap Ok c.in-Ok-NoRoom.field-0-is) in
     let over = sym c.take_out-outgoing.ensures.borrowed in
@@ -218,7 +218,7 @@ returns-in-Err-clause-out g c =
     let below : c.args.link < links st.dims = subst (λ ds. c.args.link < links ds) (sym c.requires.ready.same_dims) c.requires.link in
     let n : c.args.number ≡ out_index st.dims c.args.link = c.requires.number ∙ ap (λ ds. out_index ds c.args.link) (sym c.requires.ready.same_dims) in
     let t = taken_out st c.args.number c.args.link c.take_out-outgoing.new.parcel s below n (sym c.due_to.ensures ∙ c.if-not-due_to.false) c.take_out-outgoing.ensures.parcel in
-    let q = shipped c.take_out-outgoing.new.parcel in
+    let q = as_shipped c.take_out-outgoing.new.parcel in
     let e = c.post.ensures in
     let no = failed _ _ c.in-Err.is in
     let over = sym c.take_out-outgoing.ensures.borrowed in
@@ -233,7 +233,7 @@ returns-in-Err-clause-waits g c =
     let below : c.args.link < links st.dims = subst (λ ds. c.args.link < links ds) (sym c.requires.ready.same_dims) c.requires.link in
     let n : c.args.number ≡ out_index st.dims c.args.link = c.requires.number ∙ ap (λ ds. out_index ds c.args.link) (sym c.requires.ready.same_dims) in
     let t = taken_out st c.args.number c.args.link c.take_out-outgoing.new.parcel s below n (sym c.due_to.ensures ∙ c.if-not-due_to.false) c.take_out-outgoing.ensures.parcel in
-    let q = shipped c.take_out-outgoing.new.parcel in
+    let q = as_shipped c.take_out-outgoing.new.parcel in
     let e = c.post.ensures in
     let no = failed _ _ c.in-Err.is in
     let over = sym c.take_out-outgoing.ensures.borrowed in
@@ -284,7 +284,7 @@ returns-in-Ok-Sent-clause-posted g c =
     let below : c.args.link < links st.dims = subst (λ ds. c.args.link < links ds) (sym c.requires.ready.same_dims) c.requires.link in
     let n : c.args.number ≡ out_index st.dims c.args.link = c.requires.number ∙ ap (λ ds. out_index ds c.args.link) (sym c.requires.ready.same_dims) in
     let t = taken_out st c.args.number c.args.link c.take_out-outgoing.new.parcel s below n (sym c.due_to.ensures ∙ c.if-not-due_to.false) c.take_out-outgoing.ensures.parcel in
-    let q = shipped c.take_out-outgoing.new.parcel in
+    let q = as_shipped c.take_out-outgoing.new.parcel in
     let was : c.post.result ≡ Ok Sent = c.in-Ok-Sent.is ∙ ap Ok c.in-Ok-Sent.field-0-is in
     inr (record { parcel = q; is = ap (λ logs. logs c.args.link) (c.post.ensures.sent was) ∙ added-here (g.P.Port.sent c.args.port.now) c.args.link q; holds = t.entries })
 
@@ -308,7 +308,7 @@ returns-then-not-due_to-clause-calls g c =
 
 pub returns-in-Ok-Sent-clause-calls : goal.returns-in-Ok-Sent-clause-calls
 returns-in-Ok-Sent-clause-calls g c =
-    let q = shipped c.take_out-outgoing.new.parcel in
+    let q = as_shipped c.take_out-outgoing.new.parcel in
     let was : c.post.result ≡ Ok Sent = c.in-Ok-Sent.is ∙ ap Ok c.in-Ok-Sent.field-0-is in
     let log = g.P.Port.sent c.args.port.now c.args.link in
     let more = ap (λ logs. logs c.args.link) (c.post.ensures.sent was) ∙ added-here (g.P.Port.sent c.args.port.now) c.args.link q in
@@ -321,7 +321,7 @@ returns-in-Ok-NoRoom-clause-calls g c =
     let below : c.args.link < links st.dims = subst (λ ds. c.args.link < links ds) (sym c.requires.ready.same_dims) c.requires.link in
     let n : c.args.number ≡ out_index st.dims c.args.link = c.requires.number ∙ ap (λ ds. out_index ds c.args.link) (sym c.requires.ready.same_dims) in
     let t = taken_out st c.args.number c.args.link c.take_out-outgoing.new.parcel s below n (sym c.due_to.ensures ∙ c.if-not-due_to.false) c.take_out-outgoing.ensures.parcel in
-    let q = shipped c.take_out-outgoing.new.parcel in
+    let q = as_shipped c.take_out-outgoing.new.parcel in
     let e = c.post.ensures in
     let no = not_sent _ (c.in-Ok-NoRoom.is ∙ ap Ok c.in-Ok-NoRoom.field-0-is) in
     let over = sym c.take_out-outgoing.ensures.borrowed in
@@ -338,7 +338,7 @@ returns-in-Err-clause-still_due g c =
     let below : c.args.link < links st.dims = subst (λ ds. c.args.link < links ds) (sym c.requires.ready.same_dims) c.requires.link in
     let n : c.args.number ≡ out_index st.dims c.args.link = c.requires.number ∙ ap (λ ds. out_index ds c.args.link) (sym c.requires.ready.same_dims) in
     let t = taken_out st c.args.number c.args.link c.take_out-outgoing.new.parcel s below n (sym c.due_to.ensures ∙ c.if-not-due_to.false) c.take_out-outgoing.ensures.parcel in
-    let q = shipped c.take_out-outgoing.new.parcel in
+    let q = as_shipped c.take_out-outgoing.new.parcel in
     let e = c.post.ensures in
     let no = failed _ _ c.in-Err.is in
     let over = sym c.take_out-outgoing.ensures.borrowed in

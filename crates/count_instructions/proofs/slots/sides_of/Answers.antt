@@ -6,7 +6,7 @@ use Rattle.route_tensor.specs.Link.{links}
 use Rattle.port_bank.specs.Logs.{Logs}
 use Rattle.link_slots.specs.Gathering.{Gathering}
 use Rattle.link_slots.specs.Shape.{shipped_all}
-use Rattle.link_slots.specs.Seen.{posted_on, collected_from}
+use Rattle.link_slots.specs.SeatView.{posted_on, collected_from}
 use Rattle.link_slots.proofs.Opening.{no_sent, no_got}
 use Rattle.convey.specs.Conveyors.{AgreesWith}
 use Rattle.count_instructions.proofs.slots.sides_of.Goals as goal

@@ -2,7 +2,7 @@ use Rattle.std.proofs.Common.{◌∙◌, ◌<◌, ◌≡◌, ◌/◌, ◌%◌, S
 use Rattle.std.proofs.Math.Nat.{mod-lt}
 use Rattle.std.specs.Option.{option_copied}
 use Rattle.least_walks.specs.Walks.{IsLeast}
-use Rattle.least_walks.specs.Vertices.{unreached}
+use Rattle.least_walks.specs.Vertices.{unreached_vertex}
 use Rattle.delta_step.proofs.Owners.{programs_len, rank_found, place_in, owns}
 use Rattle.delta_step.proofs.delta_run.weight_of.Goals as goal
 
@@ -32,6 +32,6 @@ returns c = λ m source h.
     subst (λ n. slice_get c.args.p.now (c.args.v % n) ≡ Some c.in-Some.owner.now) all (sym c.get.ensures ∙ ap option_copied c.in-Some.is) in
     subst (IsLeast m.entries source c.args.v)
     (sym (c.weight.ensures
-    ∙ ap (λ n. (get_or c.vertices.result.now (c.args.v / n) unreached).weight) all
-    ∙ ap (λ vs. (get_or vs (c.args.v / h.ranks) unreached).weight) c.vertices.ensures))
+    ∙ ap (λ n. (get_or c.vertices.result.now (c.args.v / n) unreached_vertex).weight) all
+    ∙ ap (λ vs. (get_or vs (c.args.v / h.ranks) unreached_vertex).weight) c.vertices.ensures))
     (owns m source c.args.p.now h c.args.v c.in-Some.owner.now at).least

@@ -1,6 +1,6 @@
 use Rattle.std.proofs.Common.{◌≡◌, ◌≢◌, ◌<◌, ◌+◌, ◌*◌, ◌++◌, append-nil, ℕ, List, [], ◌∷◌, length, get_or, true, rules, arith, ap, sym, subst, refl, ◌∙◌, inl, inr}
 use Rattle.std.proofs.lemmas.Bool.{cases_eq}
-use Rattle.list_laws.specs.Lists.{Begins}
+use Rattle.list_laws.specs.Lists.{IsPrefix}
 use Rattle.route_tensor.specs.Link.{links}
 use Rattle.route_tensor.specs.Ends.{sender_at, reader_at}
 use Rattle.port_bank.specs.Logs.{lasts}
@@ -8,7 +8,7 @@ use Rattle.port_bank.proofs.Frames.{port_at_first, port_then, outs_at_first, out
 use Rattle.port_bank.proofs.Fronts.{begins_refl, begins_trans}
 use Rattle.port_bank.specs.Calls.Call.{Collect}
 use Rattle.port_bank.proofs.Sweeping.{swept_more}
-use Rattle.exstack.specs.Links.{In, no_in}
+use Rattle.exstack.specs.Links.{StackIn, no_stack_in}
 use Rattle.exstack.specs.State.{number}
 use Rattle.exstack.specs.Steps.{collects_from}
 use Rattle.exstack.proofs.OneHop.{number_within, number_sender, number_reader}
@@ -28,7 +28,7 @@ loop-a-init g c = record {
 pub collect-requires : goal.collect-requires
 collect-requires g c =
     let k = c.loop-a.invariant in
-    let xs : List In = c.args.ins.now.items in
+    let xs : List StackIn = c.args.ins.now.items in
     let n : ℕ = length xs in
     let r : ℕ = c.args.rank in
     let a : ℕ = c.loop-a.a in
@@ -37,10 +37,10 @@ collect-requires g c =
     let l : ℕ = a * c.len-ranks.result + r in
     let here : number n a r ≡ l = ap (λ m. a * m + r) (sym len) in
     let dims : g.P.Port.dims c.loop-a.port ≡ n ∷ [] = k.left.same_port.dims ∙ c.requires.port.dims in
-    let now : c.index_mut.result.now ≡ get_or xs a no_in = sweep_here _ _ _ _ _ _ _ _ _ within k.collected c.index_mut.ensures.value in
+    let now : c.index_mut.result.now ≡ get_or xs a no_stack_in = sweep_here _ _ _ _ _ _ _ _ _ within k.collected c.index_mut.ensures.value in
     let log : g.P.Port.got c.loop-a.port (number n a r) ≡ g.P.Port.got c.args.port.now (number n a r) = ap (λ (s : Sight). s.log) (k.collected.shown a (omega arith) within) in
     let due : c.index_mut.result.now.due ≡ true → lasts (g.P.Port.got c.loop-a.port l) ≡ c.args.epoch = λ d.
-    ap (λ m. lasts (g.P.Port.got c.loop-a.port m)) (sym here) ∙ (ap lasts log ∙ c.requires.epoch a within (ap (λ (i : In). i.due) (sym now) ∙ d)) in (
+    ap (λ m. lasts (g.P.Port.got c.loop-a.port m)) (sym here) ∙ (ap lasts log ∙ c.requires.epoch a within (ap (λ (i : StackIn). i.due) (sym now) ∙ d)) in (
       search rules,
       (
         subst (λ ds. l < links ds) (sym dims) (subst (λ x. x < links (n ∷ [])) here (number_within n a r within c.requires.port.within c.requires.port.few)),
@@ -55,7 +55,7 @@ pub loop-a-preserved : goal.loop-a-preserved
 loop-a-preserved g c =
     let k = c.loop-a.invariant in
     let e = c.collect.ensures in
-    let xs : List In = c.args.ins.now.items in
+    let xs : List StackIn = c.args.ins.now.items in
     let n : ℕ = length xs in
     let r : ℕ = c.args.rank in
     let a : ℕ = c.loop-a.a in
@@ -67,8 +67,8 @@ loop-a-preserved g c =
     let before : ℕ → Sight = in_sight g.P.Port c.args.port.now in
     let mid : ℕ → Sight = in_sight g.P.Port c.loop-a.port in
     let after : ℕ → Sight = in_sight g.P.Port c.collect.new.port in
-    let x : In = c.index_mut.result.now in
-    let y : In = c.collect.new.self in
+    let x : StackIn = c.index_mut.result.now in
+    let y : StackIn = c.collect.new.self in
     let others : (m : ℕ) → m < n → m ≢ a → after (in_number n r m) ≡ mid (in_number n r m) = λ m w ne. in_seen g.P.Port l c.loop-a.port c.collect.new.port e.elsewhere (number n m r) (λ q. in_apart n r a m c.requires.port.within ne (q ∙ sym here)) in
     let moved : Collected c.args.exchange x y (mid (number n a r)) (after (number n a r)) = subst (λ m. Collected c.args.exchange x y (mid m) (after m)) (sym here) e.moved in
     let vain : Asked x y (mid (number n a r)) (after (number n a r)) = subst (λ m. Asked x y (mid m) (after m)) (sym here) e.in_vain in
@@ -76,21 +76,21 @@ loop-a-preserved g c =
     let starts : a ≡ r → sender_at (g.P.Port.dims c.loop-a.port) l ≡ g.P.Port.rank c.loop-a.port = λ same.
     ap (λ ds. sender_at ds l) dims ∙ (ap (sender_at (n ∷ [])) (sym here) ∙ (number_sender n a r within c.requires.port.within c.requires.port.few ∙ (same ∙ (sym c.requires.port.rank ∙ sym k.left.same_port.rank)))) in
     let link : a ≡ r → l ≡ self = λ same. sym here ∙ ap (λ m. number n m r) same in
-    let own : Begins (g.P.Port.got c.loop-a.port self) (g.P.Port.sent c.loop-a.port self) → Begins (g.P.Port.got c.collect.new.port self) (g.P.Port.sent c.collect.new.port self) = λ b.
+    let own : IsPrefix (g.P.Port.got c.loop-a.port self) (g.P.Port.sent c.loop-a.port self) → IsPrefix (g.P.Port.got c.collect.new.port self) (g.P.Port.sent c.collect.new.port self) = λ b.
     elim (cases_eq a r) [
       | inl same ↦
-          subst (λ m. Begins (g.P.Port.got c.collect.new.port m) (g.P.Port.sent c.collect.new.port m)) (link same)
-          (e.own (starts same) (subst (λ m. Begins (g.P.Port.got c.loop-a.port m) (g.P.Port.sent c.loop-a.port m)) (sym (link same)) b))
+          subst (λ m. IsPrefix (g.P.Port.got c.collect.new.port m) (g.P.Port.sent c.collect.new.port m)) (link same)
+          (e.own (starts same) (subst (λ m. IsPrefix (g.P.Port.got c.loop-a.port m) (g.P.Port.sent c.loop-a.port m)) (sym (link same)) b))
       | inr ne ↦
-          subst (λ log. Begins log (g.P.Port.sent c.collect.new.port self)) (sym (ap (λ (s : Sight). s.log) (others r c.requires.port.within (λ q. ne (sym q)))))
-          (subst (λ logs. Begins (g.P.Port.got c.loop-a.port self) (logs self)) (sym e.left.same_outs.sent) b)
+          subst (λ log. IsPrefix log (g.P.Port.sent c.collect.new.port self)) (sym (ap (λ (s : Sight). s.log) (others r c.requires.port.within (λ q. ne (sym q)))))
+          (subst (λ logs. IsPrefix (g.P.Port.got c.loop-a.port self) (logs self)) (sym e.left.same_outs.sent) b)
     ] in
     record {
-      collected = sweep_more (Collected c.args.exchange) no_in (in_number n r) a xs c.loop-a.ins.items before mid after x y within k.collected c.index_mut.ensures.value moved others;
-      asked = sweep_more Asked no_in (in_number n r) a xs c.loop-a.ins.items before mid after x y within k.asked c.index_mut.ensures.value vain others;
+      collected = sweep_more (Collected c.args.exchange) no_stack_in (in_number n r) a xs c.loop-a.ins.items before mid after x y within k.collected c.index_mut.ensures.value moved others;
+      asked = sweep_more Asked no_stack_in (in_number n r) a xs c.loop-a.ins.items before mid after x y within k.asked c.index_mut.ensures.value vain others;
       calls =
-          let now : x ≡ get_or xs a no_in = sweep_here _ _ _ _ _ _ _ _ _ within k.collected c.index_mut.ensures.value in
-          swept_more _ _ _ (λ m. (get_or xs m no_in).due) (λ m. (get_or xs m no_in).due) (λ m. Collect (number n m r)) a _ _ (λ m less. refl) k.calls e.calls (ap (λ (i : In). i.due) now) (ap Collect (sym here));
+          let now : x ≡ get_or xs a no_stack_in = sweep_here _ _ _ _ _ _ _ _ _ within k.collected c.index_mut.ensures.value in
+          swept_more _ _ _ (λ m. (get_or xs m no_stack_in).due) (λ m. (get_or xs m no_stack_in).due) (λ m. Collect (number n m r)) a _ _ (λ m less. refl) k.calls e.calls (ap (λ (i : StackIn). i.due) now) (ap Collect (sym here));
       own = λ b. own (k.own b);
       left = record {
         grows = λ m. begins_trans _ _ _ (k.left.grows m) (e.left.grows m);
@@ -103,7 +103,7 @@ loop-a-preserved g c =
     }
 
 pub returns-clause-moved : goal.returns-clause-moved
-returns-clause-moved g c = sweep_each (Collected c.args.exchange) no_in _ _ _ _ _ _ (none_collected c.args.exchange) c.loop-a.invariant.collected
+returns-clause-moved g c = sweep_each (Collected c.args.exchange) no_stack_in _ _ _ _ _ _ (none_collected c.args.exchange) c.loop-a.invariant.collected
 
 pub returns-clause-in_vain : goal.returns-clause-in_vain
 returns-clause-in_vain g c = λ a w.

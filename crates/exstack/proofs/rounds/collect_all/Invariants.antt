@@ -1,20 +1,20 @@
 use Rattle.std.proofs.Common.{◌≡◌, ◌++◌, length}
-use Rattle.list_laws.specs.Lists.{Begins}
-use Rattle.exstack.specs.Links.{no_in}
+use Rattle.list_laws.specs.Lists.{IsPrefix}
+use Rattle.exstack.specs.Links.{no_stack_in}
 use Rattle.exstack.specs.State.{number}
-use Rattle.exstack.specs.Steps.{collects_from, LeftByCollects}
+use Rattle.exstack.specs.Steps.{collects_from, LeftByStackCollects}
 use Rattle.exstack.proofs.Sweeps.{Sweep}
 use Rattle.exstack.proofs.Moves.{in_sight, Collected, Asked, in_number}
 use Rattle.exstack.proofs.rounds.collect_all.Given as goal
 
 abbrev pub invariant-loop-a : goal.invariant-loop-a
 invariant-loop-a g l = record {
-  collected : Sweep (Collected l.exchange) no_in (in_number (length l.fn.ins.items) l.rank) l.a l.fn.ins.items l.ins.items
+  collected : Sweep (Collected l.exchange) no_stack_in (in_number (length l.fn.ins.items) l.rank) l.a l.fn.ins.items l.ins.items
       (in_sight g.P.Port l.fn.port) (in_sight g.P.Port l.port);
-  asked : Sweep Asked no_in (in_number (length l.fn.ins.items) l.rank) l.a l.fn.ins.items l.ins.items
+  asked : Sweep Asked no_stack_in (in_number (length l.fn.ins.items) l.rank) l.a l.fn.ins.items l.ins.items
       (in_sight g.P.Port l.fn.port) (in_sight g.P.Port l.port);
   calls : g.P.Port.calls l.port ≡ g.P.Port.calls l.fn.port ++ collects_from (length l.fn.ins.items) l.rank l.fn.ins.items l.a;
-  own : Begins (g.P.Port.got l.fn.port (number (length l.fn.ins.items) l.rank l.rank)) (g.P.Port.sent l.fn.port (number (length l.fn.ins.items) l.rank l.rank))
-      → Begins (g.P.Port.got l.port (number (length l.fn.ins.items) l.rank l.rank)) (g.P.Port.sent l.port (number (length l.fn.ins.items) l.rank l.rank));
-  left : LeftByCollects g.P.Port l.fn.port l.port;
+  own : IsPrefix (g.P.Port.got l.fn.port (number (length l.fn.ins.items) l.rank l.rank)) (g.P.Port.sent l.fn.port (number (length l.fn.ins.items) l.rank l.rank))
+      → IsPrefix (g.P.Port.got l.port (number (length l.fn.ins.items) l.rank l.rank)) (g.P.Port.sent l.port (number (length l.fn.ins.items) l.rank l.rank));
+  left : LeftByStackCollects g.P.Port l.fn.port l.port;
 }

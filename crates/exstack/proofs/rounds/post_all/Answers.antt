@@ -9,7 +9,7 @@ use Rattle.port_bank.proofs.Kept.{law_same}
 use Rattle.std.proofs.lemmas.List.{get_or-set_same}
 use Rattle.port_bank.specs.Calls.Call.{Post}
 use Rattle.port_bank.proofs.Sweeping.{swept_more}
-use Rattle.exstack.specs.Links.{Out, no_out}
+use Rattle.exstack.specs.Links.{StackOut, no_stack_out}
 use Rattle.exstack.specs.State.{number}
 use Rattle.exstack.specs.Steps.{posts_to}
 use Rattle.exstack.proofs.OneHop.{grid_one, number_within, number_sender}
@@ -29,7 +29,7 @@ loop-b-init g c = record {
 pub post-requires : goal.post-requires
 post-requires g c =
     let k = c.loop-b.invariant in
-    let xs : List Out = c.args.outs.now.items in
+    let xs : List StackOut = c.args.outs.now.items in
     let n : ℕ = length xs in
     let r : ℕ = c.args.rank in
     let b : ℕ = c.loop-b.b in
@@ -39,10 +39,10 @@ post-requires g c =
     let l : ℕ = r * c.len-ranks.result + b in
     let here : number n r b ≡ l = ap (λ m. r * m + b) (sym len) in
     let dims : g.P.Port.dims c.loop-b.port ≡ n ∷ [] = k.left.same_port.dims ∙ c.requires.port.dims in
-    let now : c.index_mut.result.now ≡ get_or xs b no_out = sweep_here _ _ _ _ _ _ _ _ _ within k.posted c.index_mut.ensures.value in
+    let now : c.index_mut.result.now ≡ get_or xs b no_stack_out = sweep_here _ _ _ _ _ _ _ _ _ within k.posted c.index_mut.ensures.value in
     let log : g.P.Port.sent c.loop-b.port (number n r b) ≡ g.P.Port.sent c.args.port.now (number n r b) = ap (λ (s : Sight). s.log) (k.posted.shown b (omega arith) within) in
     let due : c.index_mut.result.now.due ≡ true → lasts (g.P.Port.sent c.loop-b.port l) ≡ c.args.epoch = λ d.
-    ap (λ m. lasts (g.P.Port.sent c.loop-b.port m)) (sym here) ∙ (ap lasts log ∙ c.requires.epoch b within (ap (λ (o : Out). o.due) (sym now) ∙ d)) in (
+    ap (λ m. lasts (g.P.Port.sent c.loop-b.port m)) (sym here) ∙ (ap lasts log ∙ c.requires.epoch b within (ap (λ (o : StackOut). o.due) (sym now) ∙ d)) in (
       search rules,
       (
         subst IsGrid (sym dims) (grid_one n some c.requires.port.few),
@@ -63,7 +63,7 @@ pub loop-b-preserved : goal.loop-b-preserved
 loop-b-preserved g c =
     let k = c.loop-b.invariant in
     let e = c.post.ensures in
-    let xs : List Out = c.args.outs.now.items in
+    let xs : List StackOut = c.args.outs.now.items in
     let n : ℕ = length xs in
     let r : ℕ = c.args.rank in
     let b : ℕ = c.loop-b.b in
@@ -74,17 +74,17 @@ loop-b-preserved g c =
     let before : ℕ → Sight = out_sight g.P.Port c.args.port.now in
     let mid : ℕ → Sight = out_sight g.P.Port c.loop-b.port in
     let after : ℕ → Sight = out_sight g.P.Port c.post.new.port in
-    let x : Out = c.index_mut.result.now in
-    let y : Out = c.post.new.self in
+    let x : StackOut = c.index_mut.result.now in
+    let y : StackOut = c.post.new.self in
     let others : (m : ℕ) → m < n → m ≢ b → after (number n r m) ≡ mid (number n r m) = λ m w ne. out_seen g.P.Port l c.loop-b.port c.post.new.port e.elsewhere (number n r m) (λ q. out_apart n r b m ne (q ∙ sym here)) in
     let moved : Posted c.args.last c.args.epoch x y (mid (number n r b)) (after (number n r b)) = subst (λ m. Posted c.args.last c.args.epoch x y (mid m) (after m)) (sym here) e.moved in
     let vain : Served x y (mid (number n r b)) (after (number n r b)) = subst (λ m. Served x y (mid m) (after m)) (sym here) (e.in_vain (search rules)) in
     record {
-      posted = sweep_more (Posted c.args.last c.args.epoch) no_out (number n r) b xs c.loop-b.outs.items before mid after x y within k.posted c.index_mut.ensures.value moved others;
-      served = sweep_more Served no_out (number n r) b xs c.loop-b.outs.items before mid after x y within k.served c.index_mut.ensures.value vain others;
+      posted = sweep_more (Posted c.args.last c.args.epoch) no_stack_out (number n r) b xs c.loop-b.outs.items before mid after x y within k.posted c.index_mut.ensures.value moved others;
+      served = sweep_more Served no_stack_out (number n r) b xs c.loop-b.outs.items before mid after x y within k.served c.index_mut.ensures.value vain others;
       calls =
-          let now : x ≡ get_or xs b no_out = sweep_here _ _ _ _ _ _ _ _ _ within k.posted c.index_mut.ensures.value in
-          swept_more _ _ _ (λ m. (get_or xs m no_out).due) (λ m. (get_or xs m no_out).due) (λ m. Post (number n r m)) b _ _ (λ m less. refl) k.calls c.in_ok-post.ensures.calls (ap (λ (o : Out). o.due) now) (ap Post (sym here));
+          let now : x ≡ get_or xs b no_stack_out = sweep_here _ _ _ _ _ _ _ _ _ within k.posted c.index_mut.ensures.value in
+          swept_more _ _ _ (λ m. (get_or xs m no_stack_out).due) (λ m. (get_or xs m no_stack_out).due) (λ m. Post (number n r m)) b _ _ (λ m less. refl) k.calls c.in_ok-post.ensures.calls (ap (λ (o : StackOut). o.due) now) (ap Post (sym here));
       law = law_same _ _ _ _ _ _ _ _ (sym k.left.same_port.dims) (sym k.left.same_port.rank) refl (sym k.left.same_ins.got) e.law;
       left = record {
         grows = λ m. begins_trans _ _ _ (k.left.grows m) (e.left.grows m);
@@ -97,7 +97,7 @@ pub returns-in_err-post-clause-moved : goal.returns-in_err-post-clause-moved
 returns-in_err-post-clause-moved g c =
     let k = c.loop-b.invariant in
     let e = c.post.ensures in
-    let xs : List Out = c.args.outs.now.items in
+    let xs : List StackOut = c.args.outs.now.items in
     let n : ℕ = length xs in
     let r : ℕ = c.args.rank in
     let b : ℕ = c.loop-b.b in
@@ -108,15 +108,15 @@ returns-in_err-post-clause-moved g c =
     let before : ℕ → Sight = out_sight g.P.Port c.args.port.now in
     let mid : ℕ → Sight = out_sight g.P.Port c.loop-b.port in
     let after : ℕ → Sight = out_sight g.P.Port c.post.new.port in
-    let x : Out = c.index_mut.result.now in
-    let y : Out = c.post.new.self in
+    let x : StackOut = c.index_mut.result.now in
+    let y : StackOut = c.post.new.self in
     let others : (m : ℕ) → m < n → m ≢ b → after (number n r m) ≡ mid (number n r m) = λ m w ne. out_seen g.P.Port l c.loop-b.port c.post.new.port e.elsewhere (number n r m) (λ q. out_apart n r b m ne (q ∙ sym here)) in
     let moved : Posted c.args.last c.args.epoch x y (mid (number n r b)) (after (number n r b)) = subst (λ m. Posted c.args.last c.args.epoch x y (mid m) (after m)) (sym here) e.moved in
-    sweep_each (Posted c.args.last c.args.epoch) no_out (number n r) (b + 1) xs _ before after (none_posted c.args.last c.args.epoch)
-    (sweep_more (Posted c.args.last c.args.epoch) no_out (number n r) b xs c.loop-b.outs.items before mid after x y within k.posted c.index_mut.ensures.value moved others)
+    sweep_each (Posted c.args.last c.args.epoch) no_stack_out (number n r) (b + 1) xs _ before after (none_posted c.args.last c.args.epoch)
+    (sweep_more (Posted c.args.last c.args.epoch) no_stack_out (number n r) b xs c.loop-b.outs.items before mid after x y within k.posted c.index_mut.ensures.value moved others)
 
 pub returns-clause-moved : goal.returns-clause-moved
-returns-clause-moved g c = sweep_each (Posted c.args.last c.args.epoch) no_out _ _ _ _ _ _ (none_posted c.args.last c.args.epoch) c.loop-b.invariant.posted
+returns-clause-moved g c = sweep_each (Posted c.args.last c.args.epoch) no_stack_out _ _ _ _ _ _ (none_posted c.args.last c.args.epoch) c.loop-b.invariant.posted
 
 pub returns-clause-in_vain : goal.returns-clause-in_vain
 returns-clause-in_vain g c = λ ok b w.
@@ -130,14 +130,14 @@ returns-clause-calls g c =
 pub returns-in_err-post-clause-stops : goal.returns-in_err-post-clause-stops
 returns-in_err-post-clause-stops g c =
     let k = c.loop-b.invariant in
-    let xs : List Out = c.args.outs.now.items in
+    let xs : List StackOut = c.args.outs.now.items in
     let n : ℕ = length xs in
     let b : ℕ = c.loop-b.b in
     let within : b < n = omega (arith, c.loop-b-test.true, c.len-b-end.ensures, c.args.outs.now.ok) in
-    let y : Out = c.post.new.self in
+    let y : StackOut = c.post.new.self in
     λ err. record {
       to = b;
       below = within;
-      due = ap (λ (o : Out). o.due) (get_or-set_same c.loop-b.outs.items b y no_out (omega (arith, within, k.posted.count))) ∙ c.in_err-post.ensures.still_due (search rules);
+      due = ap (λ (o : StackOut). o.due) (get_or-set_same c.loop-b.outs.items b y no_stack_out (omega (arith, within, k.posted.count))) ∙ c.in_err-post.ensures.still_due (search rules);
       calls_are = c.in_err-post.ensures.no_post (search rules) ∙ k.calls;
     }

@@ -1,19 +1,19 @@
 use Rattle.std.proofs.Common.{◌≡◌, ◌++◌, length}
 use Rattle.port_bank.specs.Relay.{RelayLaw}
-use Rattle.exstack.specs.Links.{no_out}
+use Rattle.exstack.specs.Links.{no_stack_out}
 use Rattle.exstack.specs.State.{number}
-use Rattle.exstack.specs.Steps.{posts_to, LeftByPosts}
+use Rattle.exstack.specs.Steps.{posts_to, LeftByStackPosts}
 use Rattle.exstack.proofs.Sweeps.{Sweep}
 use Rattle.exstack.proofs.Moves.{out_sight, Posted, Served}
 use Rattle.exstack.proofs.rounds.post_all.Given as goal
 
 abbrev pub invariant-loop-b : goal.invariant-loop-b
 invariant-loop-b g l = record {
-  posted : Sweep (Posted l.last l.epoch) no_out (number (length l.fn.outs.items) l.rank) l.b l.fn.outs.items l.outs.items
+  posted : Sweep (Posted l.last l.epoch) no_stack_out (number (length l.fn.outs.items) l.rank) l.b l.fn.outs.items l.outs.items
       (out_sight g.P.Port l.fn.port) (out_sight g.P.Port l.port);
-  served : Sweep Served no_out (number (length l.fn.outs.items) l.rank) l.b l.fn.outs.items l.outs.items
+  served : Sweep Served no_stack_out (number (length l.fn.outs.items) l.rank) l.b l.fn.outs.items l.outs.items
       (out_sight g.P.Port l.fn.port) (out_sight g.P.Port l.port);
   calls : g.P.Port.calls l.port ≡ g.P.Port.calls l.fn.port ++ posts_to (length l.fn.outs.items) l.rank l.fn.outs.items l.b;
   law : RelayLaw (g.P.Port.dims l.fn.port) (g.P.Port.rank l.fn.port) (g.P.Port.sent l.port) (g.P.Port.got l.fn.port);
-  left : LeftByPosts g.P.Port l.fn.port l.port;
+  left : LeftByStackPosts g.P.Port l.fn.port l.port;
 }

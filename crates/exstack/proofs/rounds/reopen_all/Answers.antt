@@ -1,14 +1,14 @@
 use Rattle.std.proofs.Common.{◌<◌, ◌≤◌, length, arith}
-use Rattle.exstack.specs.Links.{reopened}
+use Rattle.exstack.specs.Links.{stack_out_in_new_epoch}
 use Rattle.list_laws.proofs.Mapping.{mapped_step, mapped_end}
 use Rattle.exstack.proofs.rounds.reopen_all.Goals as goal
 
 pub loop-i-preserved : goal.loop-i-preserved
 loop-i-preserved g c =
     let i : c.loop-i.i < length c.args.links.now.items = omega (arith, c.loop-i-test.true, c.len-i-end.ensures, c.args.links.now.ok) in
-    mapped_step reopened _ _ _ _ _ i c.loop-i.invariant c.index_mut.ensures.value c.reopen.ensures
+    mapped_step stack_out_in_new_epoch _ _ _ _ _ i c.loop-i.invariant c.index_mut.ensures.value c.reopen.ensures
 
 pub returns : goal.returns
 returns g c =
     let i : length c.args.links.now.items ≤ c.loop-i.i = omega (arith, c.loop-i-test.false, c.len-i-end.ensures, c.args.links.now.ok) in
-    mapped_end reopened _ _ _ i c.loop-i.invariant
+    mapped_end stack_out_in_new_epoch _ _ _ i c.loop-i.invariant

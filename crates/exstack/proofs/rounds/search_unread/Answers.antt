@@ -1,6 +1,6 @@
 use Rattle.std.proofs.Common.{◌≡◌, ◌<◌, true, length, get_or, ap, sym, ◌∙◌, arith}
 use Rattle.std.proofs.lemmas.List.{get_or_default}
-use Rattle.exstack.specs.Links.{In, no_in, has_unread}
+use Rattle.exstack.specs.Links.{StackIn, no_stack_in, has_unread}
 use Rattle.exstack.proofs.Places.{place_is, place_none}
 use Rattle.exstack.proofs.rounds.search_unread.Goals as goal
 
@@ -8,10 +8,10 @@ pub returns-then-has_unread : goal.returns-then-has_unread
 returns-then-has_unread g c =
     let xs = c.args.ins.now in
     let w : c.loop-at.at < length c.args.ins.now = omega arith in
-    let x : In = c.index-ins-at.result in
-    let here : has_unread (get_or c.args.ins.now c.loop-at.at no_in) ≡ true =
-    ap has_unread (get_or_default c.args.ins.now c.loop-at.at no_in x w ∙ sym c.index-ins-at.is) ∙ (sym c.has_unread.ensures ∙ c.if-has_unread.true) in
-    place_is has_unread c.args.ins.now c.loop-at.at no_in w c.loop-at.invariant here
+    let x : StackIn = c.index-ins-at.result in
+    let here : has_unread (get_or c.args.ins.now c.loop-at.at no_stack_in) ≡ true =
+    ap has_unread (get_or_default c.args.ins.now c.loop-at.at no_stack_in x w ∙ sym c.index-ins-at.is) ∙ (sym c.has_unread.ensures ∙ c.if-has_unread.true) in
+    place_is has_unread c.args.ins.now c.loop-at.at no_stack_in w c.loop-at.invariant here
 
 pub returns : goal.returns
-returns g c = place_none has_unread c.args.ins.now c.loop-at.at no_in (omega arith) c.loop-at.invariant
+returns g c = place_none has_unread c.args.ins.now c.loop-at.at no_stack_in (omega arith) c.loop-at.invariant

@@ -2,7 +2,7 @@ use Rattle.std.proofs.Common.{◌≡◌, ◌+◌, ◌-◌, ◌*◌, ◌≤◌, �
 use Rattle.std.specs.List.{All}
 use Rattle.mtx_text.specs.Lines.{lines_of, lines_from}
 use Rattle.mtx_text.specs.code.Drafts.{draft_of}
-use Rattle.mtx_text.specs.code.Chains.{IsWithin}
+use Rattle.mtx_text.specs.code.Chains.{IsBelowSide}
 use Rattle.mtx_text.proofs.draft.plain_lines.Given as goal
 
 abbrev pub invariant-loop-left : goal.invariant-loop-left
@@ -13,7 +13,7 @@ invariant-loop-left l = record {
   room : l.run.number + (l.run.left - l.left) + length l.rest ≤ l.run.number + length l.run.rest.now;
   on : length l.rest ≤ length l.run.rest.now;
   less : l.left ≤ l.run.left;
-  within : All (λ t. IsWithin (max l.sizes.rows l.sizes.cols) t) l.fn.entries.items → All (λ t. IsWithin (max l.sizes.rows l.sizes.cols) t) l.entries.items;
+  within : All (λ t. IsBelowSide (max l.sizes.rows l.sizes.cols) t) l.fn.entries.items → All (λ t. IsBelowSide (max l.sizes.rows l.sizes.cols) t) l.entries.items;
   few : length l.entries.items + 2 * l.left ≤ length l.fn.entries.items + 2 * l.run.left;
 }
 

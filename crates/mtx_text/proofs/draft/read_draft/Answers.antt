@@ -5,7 +5,7 @@ use Rattle.mtx_text.proofs.Steps.{draft_bad, draft_over}
 use Rattle.mtx_text.proofs.draft.read_draft.Goals as goal
 
 pub returns-then-run-eq0 : goal.returns-then-run-eq0
-returns-then-run-eq0 c =
+returns-then-run-eq0 g c =
     let run = c.in_ok-run.run' in
     let kept = c.in-Ok.entry.kept in
     let end = c.args.number + length (lines_of c.args.text.now) in
@@ -14,11 +14,11 @@ returns-then-run-eq0 c =
     record {
       draft = rw c.bad-then-run-eq0.ensures (sym step ∙ c.in_ok-run.ensures.draft end ∙ c.loop-entries.invariant.0);
       within = c.in_ok-run.ensures.within c.loop-entries.invariant.2;
-      few = omega (arith, c.in_ok-run.ensures.few, c.loop-entries.invariant.3, c.requires.limits.short);
+      few = omega (arith, c.in_ok-run.ensures.few, c.loop-entries.invariant.3, c.requires.text.limits.short);
     }
 
 pub returns-in-Err-cell : goal.returns-in-Err-cell
-returns-in-Err-cell c =
+returns-in-Err-cell g c =
     let run = c.in_ok-run.run' in
     let kept = c.in-Ok.entry.kept in
     let end = c.args.number + length (lines_of c.args.text.now) in
@@ -27,8 +27,8 @@ returns-in-Err-cell c =
     record {
       draft = rw c.bad-in-Err-cell.ensures (sym step ∙ c.in_ok-run.ensures.draft end ∙ c.loop-entries.invariant.0);
       within = c.in_ok-run.ensures.within c.loop-entries.invariant.2;
-      few = omega (arith, c.in_ok-run.ensures.few, c.loop-entries.invariant.3, c.requires.limits.short);
+      few = omega (arith, c.in_ok-run.ensures.few, c.loop-entries.invariant.3, c.requires.text.limits.short);
     }
 
 pub push-requires : goal.push-requires
-push-requires c = cell_inside c.args.form c.args.sizes _ c.in-Ok-cell.t c.in-Ok.entry.cell c.in-Ok.ensures.next.value c.in-Ok-cell.is
+push-requires g c = cell_inside c.args.form c.args.sizes _ c.in-Ok-cell.t c.in-Ok.entry.cell c.in-Ok.ensures.next.value c.in-Ok-cell.is

@@ -5,7 +5,7 @@ use Rattle.mtx_text.proofs.Decides.{decided}
 use Rattle.mtx_text.proofs.entries.read_entries.Goals as goal
 
 pub returns-in-None : goal.returns-in-None
-returns-in-None c =
+returns-in-None g c =
     let end = c.args.number + length (lines_of c.args.text.now) in
     let lines = lines_from c.args.number (lines_of c.args.text.now) in
     let apart = c.are_apart.ensures (c.in_ok-are_apart.was ∙ ap Ok c.if-not-branch.false) in
@@ -13,7 +13,7 @@ returns-in-None c =
     ∙ ap (verdict_at c.in_ok-entries.field-0.entries.items) c.in-None.is
 
 pub returns-in-Some : goal.returns-in-Some
-returns-in-Some c =
+returns-in-Some g c =
     let end = c.args.number + length (lines_of c.args.text.now) in
     let lines = lines_from c.args.number (lines_of c.args.text.now) in
     let apart = c.are_apart.ensures (c.in_ok-are_apart.was ∙ ap Ok c.if-not-branch.false) in

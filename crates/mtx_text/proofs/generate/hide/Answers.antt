@@ -7,7 +7,7 @@ use Rattle.mtx_text.specs.declared.kind.Kind.TheVariants.{Integer}
 use Rattle.mtx_text.specs.Sparse.{IsEntry}
 use Rattle.mtx_text.specs.Cells.{sparse}
 use Rattle.mtx_text.specs.Seeds.{word, step}
-use Rattle.mtx_text.specs.Generated.{hidden}
+use Rattle.mtx_text.specs.Generated.{hidden_triangle}
 use Rattle.mtx_text.proofs.Bands.{rest_from, rest_start, rest_step, rest_turn, room_start, on_band, hidden_more, entry_inside, as_many}
 use Rattle.mtx_text.proofs.generate.hide.Goals as goal
 
@@ -16,8 +16,8 @@ loop-left-init c =
     let n = c.args.n in
     let none : c.in_ok-entries.entries.items ≡ [] = c.in_ok-entries.ensures.items in
     record {
-      told = ap (λ done. done ++ hidden c.args.rows.now.items c.args.cols.now.items c.args.words (take c.args.m (rest_from n 0 0))) none
-          ∙ ap (λ xs. hidden c.args.rows.now.items c.args.cols.now.items c.args.words (take c.args.m xs)) (rest_start n);
+      told = ap (λ done. done ++ hidden_triangle c.args.rows.now.items c.args.cols.now.items c.args.words (take c.args.m (rest_from n 0 0))) none
+          ∙ ap (λ xs. hidden_triangle c.args.rows.now.items c.args.cols.now.items c.args.words (take c.args.m xs)) (rest_start n);
       room = room_start n c.args.m c.requires.hidden.room;
       place = λ l. l;
       inside = subst (All (λ t. IsEntry (sparse n n Integer []) t)) (sym none) (All-nil (λ t. IsEntry (sparse n n Integer []) t));
@@ -70,8 +70,8 @@ loop-left-preserved-then-row-distance c =
     let size : length (rest_from n l.distance l.row) ≡ suc (length (rest_from n (l.distance + 1) 0)) = ap length rest ∙ ap (λ xs. suc (length xs)) turn in
     let grown : length (l.entries.items ++ x ∷ []) ≡ length l.entries.items + 1 = length_push l.entries.items x in
     record {
-      told = ap₂ (λ es s. es ++ hidden p q s (take (l.left - 1) (rest_from n (l.distance + 1) 0))) new c.draw-word.ensures.state
-          ∙ ap (λ xs. l.entries.items ++ x ∷ [] ++ hidden p q (step l.words) (take (l.left - 1) xs)) (sym turn)
+      told = ap₂ (λ es s. es ++ hidden_triangle p q s (take (l.left - 1) (rest_from n (l.distance + 1) 0))) new c.draw-word.ensures.state
+          ∙ ap (λ xs. l.entries.items ++ x ∷ [] ++ hidden_triangle p q (step l.words) (take (l.left - 1) xs)) (sym turn)
           ∙ hidden_more p q l.words l.left l.row (l.row + l.distance) l.entries.items (rest_from n l.distance l.row) (rest_from n l.distance (l.row + 1)) _ c.loop-left-test.true rest l.invariant.told;
       room = omega (arith, l.invariant.room);
       place = λ h. omega arith;
@@ -95,7 +95,7 @@ loop-left-preserved c =
     let size : length (rest_from n l.distance l.row) ≡ suc (length (rest_from n l.distance (l.row + 1))) = ap length rest in
     let grown : length (l.entries.items ++ x ∷ []) ≡ length l.entries.items + 1 = length_push l.entries.items x in
     record {
-      told = ap₂ (λ es s. es ++ hidden p q s (take (l.left - 1) (rest_from n l.distance (l.row + 1)))) new c.draw-word.ensures.state
+      told = ap₂ (λ es s. es ++ hidden_triangle p q s (take (l.left - 1) (rest_from n l.distance (l.row + 1)))) new c.draw-word.ensures.state
           ∙ hidden_more p q l.words l.left l.row (l.row + l.distance) l.entries.items (rest_from n l.distance l.row) (rest_from n l.distance (l.row + 1)) _ c.loop-left-test.true rest l.invariant.told;
       room = omega (arith, l.invariant.room);
       place = λ h. omega (arith, c.if-row-distance.false);

@@ -3,7 +3,7 @@ use Rattle.std.proofs.lemmas.Option.{slice_get-get_or}
 use Rattle.bale_items.specs.declared.item.Entry.{Entry}
 use Rattle.hop_core.specs.State.{State, pulls}
 use Rattle.hop_core.proofs.Going.{no_entry}
-use Rattle.query_node.specs.Taking.{Answers}
+use Rattle.query_node.specs.Taking.{AnswersQueries}
 use Rattle.query_node.proofs.Answered.{answers_refused, replying_next, reply_sender, refused_to}
 use Rattle.query_node.proofs.answering.push_answers.Goals as goal
 
@@ -33,7 +33,7 @@ returns-in-Full-clause-answers g c =
     let s = c.args.asker.now.value in
     let q : State = c.args.queries.now in
     answers_refused T s g.row.CAP c.sender_of-from.result e.item q (pulls c.loop-entry.count q) c.args.replies.now c.loop-entry.replies c.push_answer.new.replies c.push_answer.result
-    (subst (λ n. Answers T s q (pulls n q) c.args.replies.now c.loop-entry.replies) (sym c.loop-entry.invariant.number) c.loop-entry.invariant.answers) c.push_answer.ensures c.in-Full.is
+    (subst (λ n. AnswersQueries T s q (pulls n q) c.args.replies.now c.loop-entry.replies) (sym c.loop-entry.invariant.number) c.loop-entry.invariant.answers) c.push_answer.ensures c.in-Full.is
 
 pub returns-in-Full-clause-refused : goal.returns-in-Full-clause-refused
 returns-in-Full-clause-refused g c =

@@ -28,5 +28,5 @@ loop-prog-preserved g c = record {
 pub returns : goal.returns
 returns g c =
     record {
-      fresh = making_all g.Q.Program.rules c.args.grid.now g.row.CAP (manner_of c.args.via c.args.steady) c.args.progs c.loop-prog.progs c.loop-prog.all.items c.loop-prog.invariant.making (sym c.take_first.ensures.first ∙ c.in_default.is);
+      fresh = making_all g.Q.Program.rules c.args.grid.now g.row.CAP (manner_of c.args.via c.args.steady) c.args.progs c.loop-prog.progs c.loop-prog.all.items c.loop-prog.invariant.making (sym c.take_first.ensures.first ∙ c.in_default-take_first.is);
     }

@@ -6,7 +6,7 @@ use Rattle.route_tensor.specs.Link.{links}
 use Rattle.rank_group.specs.Ranks.{RankState, IsOrder}
 use Rattle.rank_group.specs.Drives.{progs_of}
 use Rattle.rank_group.specs.Turns.{Scene, IsTurnOf, TurnsOf}
-use Rattle.rank_group.specs.Worlds.{all_progress}
+use Rattle.rank_group.specs.RanksOverBank.{all_progress}
 use Rattle.rank_group.proofs.Ordered.{sweeps_more}
 use Rattle.rank_group.proofs.Driven.{some_goes, each_over, steps_low, steps_lower, driving_none, driving_more, world_now, fewer_left}
 use Rattle.rank_group.proofs.running.run_all.Goals as goal

@@ -2,7 +2,7 @@ use Rattle.std.proofs.Common.{ℕ, ◌+◌, ◌<◌, ◌≤◌, length}
 use Rattle.route_tensor.specs.Link.{links}
 use Rattle.port_bank.specs.Plain.{sent_of, got_of}
 use Rattle.rank_group.specs.Turns.{SweepsOf}
-use Rattle.rank_group.specs.Worlds.{all_progress}
+use Rattle.rank_group.specs.RanksOverBank.{all_progress}
 use Rattle.rank_group.proofs.Driven.{Driving, left}
 use Rattle.rank_group.proofs.running.run_all.Given as goal
 

@@ -1,6 +1,6 @@
 use Rattle.std.proofs.Common.{◌++◌, ◌∷◌, [], ◌≤◌, length, vec_capacity, ap, ◌∙◌, sym, subst, arith, lit<}
 use Rattle.link_slots.specs.Gathering.{Gathering}
-use Rattle.link_slots.specs.Seen.{Identity}
+use Rattle.link_slots.specs.SeatView.{Identity}
 use Rattle.rank_group.specs.Seats.{SeatedState}
 use Rattle.rank_group.proofs.Places.{next_number, next_bank, leave_left, leaving_more}
 use Rattle.rank_group.proofs.seating.gather_all.Goals as goal

@@ -6,7 +6,7 @@ use Rattle.route_tensor.specs.Grid.{ranks}
 use Rattle.port_bank.specs.Plain.{sent_of, got_of}
 use Rattle.rank_group.specs.Ranks.{RankState}
 use Rattle.rank_group.specs.Turns.{Scene, IsTurnOf, TurnsOf}
-use Rattle.rank_group.specs.Worlds.{SweptTo}
+use Rattle.rank_group.specs.RanksOverBank.{SweptTo}
 use Rattle.rank_group.proofs.Ordered.{turns_more}
 use Rattle.rank_group.proofs.Orders.{NoneTurned, sweeping_more, some_turn, swept_none, world_at, order_at}
 use Rattle.rank_group.proofs.sweeping.sweep.Goals as goal

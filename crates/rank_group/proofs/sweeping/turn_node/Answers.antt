@@ -1,7 +1,7 @@
 use Rattle.std.proofs.Common.{rules, ◌≡◌, Ok, ap, ◌∙◌, sym, subst}
 use Rattle.port_bank.specs.Plain.{Bank, sent_of, got_of}
 use Rattle.port_bank.specs.Logs.{starting_at, ending_at}
-use Rattle.rank_node.specs.Movers.{dims_of}
+use Rattle.rank_node.specs.Movers.{mover_dims}
 use Rattle.rank_node.specs.Nodes.{IsNode}
 use Rattle.rank_group.specs.Ranks.{AfterTurn}
 use Rattle.rank_group.proofs.Ranked.{PortTurn, after_turn}
@@ -11,7 +11,7 @@ pub turn-requires : goal.turn-requires
 turn-requires g c =
     let R = g.Q.Program.rules in
     let eb = c.port-port.ensures.bank in
-    let er = c.port-port.ensures.rank in (search rules, record { same_dims = subst (λ (b : Bank). b.dims ≡ dims_of c.args.node.now.mover) (sym eb) (sym c.requires.same_dims); same_rank = er ∙ sym c.requires.same_rank; first = c.requires.node.0; node = subst (λ (b : Bank). IsNode R c.requires.node.0 c.args.node.now (starting_at b.dims c.port-port.result.rank (sent_of b)) (ending_at b.dims c.port-port.result.rank (got_of b))) (sym eb) (subst (λ r. IsNode R c.requires.node.0 c.args.node.now (starting_at c.args.bank.dims r (sent_of c.args.bank)) (ending_at c.args.bank.dims r (got_of c.args.bank))) (sym er) c.requires.node.1) })
+    let er = c.port-port.ensures.rank in (search rules, record { same_dims = subst (λ (b : Bank). b.dims ≡ mover_dims c.args.node.now.mover) (sym eb) (sym c.requires.same_dims); same_rank = er ∙ sym c.requires.same_rank; first = c.requires.node.0; node = subst (λ (b : Bank). IsNode R c.requires.node.0 c.args.node.now (starting_at b.dims c.port-port.result.rank (sent_of b)) (ending_at b.dims c.port-port.result.rank (got_of b))) (sym eb) (subst (λ r. IsNode R c.requires.node.0 c.args.node.now (starting_at c.args.bank.dims r (sent_of c.args.bank)) (ending_at c.args.bank.dims r (got_of c.args.bank))) (sym er) c.requires.node.1) })
 
 pub returns-clause-turned : goal.returns-clause-turned
 returns-clause-turned g c =

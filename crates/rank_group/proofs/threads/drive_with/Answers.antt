@@ -7,14 +7,14 @@ use Rattle.rank_group.proofs.Crosses.{at_port_send}
 use Rattle.route_tensor.specs.Grid.{ranks}
 use Rattle.port_bank.specs.Logs.{starting_at, ending_at}
 use Rattle.port_bank.specs.Round.{Round, IsRound, logs_of}
-use Rattle.link_slots.specs.Closed.{slot_round}
-use Rattle.link_slots.specs.Seen.{Manning, posted_on, collected_from}
+use Rattle.link_slots.specs.ClosedBank.{slot_round}
+use Rattle.link_slots.specs.SeatView.{Manning, posted_on, collected_from}
 use Rattle.link_slots.specs.Shape.{Shape}
 use Rattle.round_program.specs.Canonical.{InRound}
 use Rattle.rank_node.specs.Movers.{manner_of}
 use Rattle.rank_group.specs.declared.closed_round.ClosedRound.TheVariants.{Slots}
 use Rattle.rank_group.specs.Drives.{progs_of, AreFresh}
-use Rattle.rank_group.specs.Told.{Made, TellsRun}
+use Rattle.rank_group.specs.Transcript.{Made, TellsRun}
 use Rattle.rank_group.proofs.Ended.{have_ended}
 use Rattle.rank_group.proofs.Telling.{tells_run}
 use Rattle.rank_group.proofs.Threaded.{sat_at, numbered_at, all_there, history, all_ranked, all_over, all_told}

@@ -7,7 +7,7 @@ use Rattle.route_tensor.specs.Neighbour.{neighbour}
 use Rattle.route_tensor.specs.Tag.{sender_of}
 use Rattle.hop_core.specs.State.{State, in_at, pulls}
 use Rattle.rank_handles.specs.Many.{steps_of, then_idle}
-use Rattle.rank_handles.specs.Kept.{RunOf}
+use Rattle.rank_handles.specs.RankAtBank.{RunOf}
 use Rattle.rank_handles.proofs.Runs.{run_next, past_set}
 use Rattle.rank_handles.proofs.many.copy_batch.Goals as goal
 

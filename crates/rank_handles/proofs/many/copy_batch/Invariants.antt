@@ -2,7 +2,7 @@ use Rattle.std.proofs.Common.{◌++◌, ◌∷◌, [], length, drop, ◌+◌, �
 use Rattle.port_bank.specs.Machine.Step.{Pull, Idle}
 use Rattle.hop_core.specs.State.{State, pulls}
 use Rattle.rank_handles.specs.Many.{steps_of, then_idle}
-use Rattle.rank_handles.specs.Kept.{RunOf}
+use Rattle.rank_handles.specs.RankAtBank.{RunOf}
 use Rattle.rank_handles.proofs.many.copy_batch.Given as goal
 
 abbrev pub invariant-loop-at : goal.invariant-loop-at

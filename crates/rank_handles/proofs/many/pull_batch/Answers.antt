@@ -2,7 +2,7 @@ use Rattle.std.proofs.Common.{◌≡◌, ◌+◌, ◌≤◌, ℕ, length, arith,
 use Rattle.port_bank.specs.Machine.Step.{Pull}
 use Rattle.hop_core.specs.State.{State, in_at, pulls}
 use Rattle.rank_handles.specs.Many.{steps_of}
-use Rattle.rank_handles.specs.Kept.{RunOf}
+use Rattle.rank_handles.specs.RankAtBank.{RunOf}
 use Rattle.rank_handles.proofs.Runs.{run_some}
 use Rattle.rank_handles.proofs.many.pull_batch.Goals.{then-count-there, else-count-there}
 use Rattle.rank_handles.proofs.many.pull_batch.Goals as goal

@@ -1,7 +1,7 @@
 use Rattle.std.proofs.Common.{length, drop, ◌-◌, ◌≡◌, ◌≤◌}
 use Rattle.port_bank.specs.Machine.Step.{Pull}
 use Rattle.rank_handles.specs.Many.{steps_of}
-use Rattle.rank_handles.specs.Kept.{RunOf}
+use Rattle.rank_handles.specs.RankAtBank.{RunOf}
 use Rattle.rank_handles.proofs.many.pull_while_some.Given as goal
 
 abbrev pub invariant-loop-count : goal.invariant-loop-count

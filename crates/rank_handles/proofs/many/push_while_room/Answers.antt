@@ -6,7 +6,7 @@ use Rattle.port_bank.specs.Machine.{Step}
 use Rattle.port_bank.specs.Machine.Step.{Push}
 use Rattle.hop_core.specs.State.{State}
 use Rattle.rank_handles.specs.Many.{steps_of, all_ranks}
-use Rattle.rank_handles.specs.Kept.{RunOf}
+use Rattle.rank_handles.specs.RankAtBank.{RunOf}
 use Rattle.rank_handles.proofs.Runs.{run_zero, run_more, run_stopped, push_same, steps_plus, rank_at}
 use Rattle.rank_handles.proofs.many.push_while_room.Goals as goal
 

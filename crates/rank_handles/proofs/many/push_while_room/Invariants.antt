@@ -1,7 +1,7 @@
 use Rattle.std.proofs.Common.{length, ◌-◌, ◌≤◌}
 use Rattle.port_bank.specs.Machine.Step.{Push}
 use Rattle.rank_handles.specs.Many.{steps_of}
-use Rattle.rank_handles.specs.Kept.{RunOf}
+use Rattle.rank_handles.specs.RankAtBank.{RunOf}
 use Rattle.rank_handles.proofs.many.push_while_room.Given as goal
 
 abbrev pub invariant-loop-count : goal.invariant-loop-count

@@ -1,7 +1,7 @@
 use Rattle.std.proofs.Common.{rules, ℕ, ◌<◌, All, refl}
 use Rattle.bale_items.specs.declared.item.Item.{Item}
 use Rattle.route_tensor.specs.Grid.{ranks}
-use Rattle.exstack.specs.State.{dims_of}
+use Rattle.exstack.specs.State.{stack_dims}
 use Rattle.rank_node.specs.Sending.{to_send}
 use Rattle.rank_node.specs.Runs.{Running, running}
 use Rattle.rank_node.proofs.Ballots.{send_below}
@@ -16,8 +16,8 @@ push_on-run-requires g c =
     let run : Running g.row.Q.Denot = running c.args.run.now in
     let h = c.requires.node.0 in
     let i = c.requires.node.3 in
-    let below : All (λ (e : ℕ × Item). e.0 < ranks (dims_of c.args.exstack.now)) (to_send R run.prog run.sends) =
-    send_below R g.met.Q.Program.laws (ranks (dims_of c.args.exstack.now)) (h run.round) run.prog run.sends i.passed.valid i.passed.all_ranks i.within.emissions (λ v q s. (i.within.vote v q s).0) in
+    let below : All (λ (e : ℕ × Item). e.0 < ranks (stack_dims c.args.exstack.now)) (to_send R run.prog run.sends) =
+    send_below R g.met.Q.Program.laws (ranks (stack_dims c.args.exstack.now)) (h run.round) run.prog run.sends i.passed.valid i.passed.all_ranks i.within.emissions (λ v q s. (i.within.vote v q s).0) in
     (search rules, record { low = i.within.next_low; receivers = below; filling = c.requires.filling; all_pushed = i.within.all_pushed })
 
 pub returns-clause-filled : goal.returns-clause-filled
@@ -41,7 +41,7 @@ returns-clause-cycle g c = λ quota n sent got is.
     let h = c.requires.node.0 in
     let i = c.requires.node.3 in
     let fills = c.push_on-run.ensures in
-    let below : All (λ (e : ℕ × Item). e.0 < ranks (dims_of x)) (to_send R run.prog run.sends) =
-    send_below R g.met.Q.Program.laws (ranks (dims_of x)) (h run.round) run.prog run.sends i.passed.valid i.passed.all_ranks i.within.emissions (λ v q s. (i.within.vote v q s).0) in
+    let below : All (λ (e : ℕ × Item). e.0 < ranks (stack_dims x)) (to_send R run.prog run.sends) =
+    send_below R g.met.Q.Program.laws (ranks (stack_dims x)) (h run.round) run.prog run.sends i.passed.valid i.passed.all_ranks i.within.emissions (λ v q s. (i.within.vote v q s).0) in
     filled_keep R run x c.push_on-run.new.exstack c.push_on-run.result sent got quota n c.requires.filling fills.same (fills.kept n sent got is.agrees)
     (λ f. pushes_one g.row.CAP (to_send R run.prog run.sends) x c.push_on-run.new.exstack run.next c.push_on-run.result i.moving.stack.is_cap.some fills below (is.emptied c.requires.filling) (is.left c.requires.filling f)) is

@@ -1,5 +1,5 @@
 use Rattle.std.proofs.Common.{◌≡◌, None, sym, ap, ◌∙◌}
-use Rattle.exstack.specs.State.{Stack, unread_of, lowest_unread}
+use Rattle.exstack.specs.State.{Stack, stack_unread, lowest_unread_sender}
 use Rattle.rank_node.proofs.Popped.{pops_rest, pops_both, all_read}
 use Rattle.rank_node.proofs.stacking.pop_all.Goals as goal
 
@@ -18,5 +18,5 @@ returns-clause-pops g c =
 
 pub returns-clause-read : goal.returns-clause-read
 returns-clause-read g c =
-    let none : lowest_unread c.loop-sender.exstack ≡ None = sym c.next_sender.ensures.value ∙ c.in_default.is in
-    ap (λ (t : Stack). unread_of t) c.next_sender.ensures.state ∙ all_read c.loop-sender.exstack none
+    let none : lowest_unread_sender c.loop-sender.exstack ≡ None = sym c.next_sender.ensures.value ∙ c.in_default.is in
+    ap (λ (t : Stack). stack_unread t) c.next_sender.ensures.state ∙ all_read c.loop-sender.exstack none

@@ -1,5 +1,5 @@
 use Rattle.std.proofs.Common.{rules, ◌≡◌, ◌==◌, false, length, refl, sym, ap, ◌∙◌, arith}
-use Rattle.exstack.specs.State.{Stack, dims_of, may_proceed, in_proceed}
+use Rattle.exstack.specs.State.{Stack, stack_dims, may_proceed, in_proceed}
 use Rattle.exstack.specs.Standing.{IsStack}
 use Rattle.exstack.proofs.Beginning.{proceed_begun}
 use Rattle.rank_node.specs.Sending.{to_send}
@@ -32,7 +32,7 @@ poll_proceed-polled-requires g c =
         ap (λ (t : Stack). may_proceed t.stage) pops.same ∙ c.requires.may,
         (
           record {
-            same_dims = c.requires.turns.same_dims ∙ sym (ap (λ (t : Stack). dims_of t) pops.same);
+            same_dims = c.requires.turns.same_dims ∙ sym (ap (λ (t : Stack). stack_dims t) pops.same);
             same_rank = c.requires.turns.same_rank ∙ sym (ap (λ (t : Stack). t.rank) pops.same);
             agrees = record { cycle = a.cycle; agrees = pops.kept a.cycle sent got a.agrees };
           },

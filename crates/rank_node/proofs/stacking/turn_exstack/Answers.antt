@@ -1,6 +1,6 @@
 use Rattle.std.proofs.Common.{rules, ◌≡◌, true, refl, sym, ap, subst, ◌∙◌}
 use Rattle.std.proofs.lemmas.Bool.{false≢true}
-use Rattle.exstack.specs.State.{Stack, dims_of, may_proceed, may_exchange}
+use Rattle.exstack.specs.State.{Stack, stack_dims, may_proceed, may_exchange}
 use Rattle.rank_node.specs.Runs.{running}
 use Rattle.list_laws.proofs.Results.{on_ok_map}
 use Rattle.rank_node.specs.Sending.{to_send}
@@ -20,7 +20,7 @@ exchange-requires g c =
     let same = c.fill.ensures.same in
     let h = c.requires.turns.first in
     let filling = ap (λ (t : Stack). may_exchange t.stage) same ∙ ap may_exchange (sym c.stage.ensures.value ∙ c.in-Filling.is) in
-    (search rules, (filling, record { same_dims = c.requires.turns.same_dims ∙ sym (ap (λ (t : Stack). dims_of t) same); same_rank = c.requires.turns.same_rank ∙ sym (ap (λ (t : Stack). t.rank) same); first = h; node = c.fill.ensures.filled.kept h sent got c.requires.turns.node }))
+    (search rules, (filling, record { same_dims = c.requires.turns.same_dims ∙ sym (ap (λ (t : Stack). stack_dims t) same); same_rank = c.requires.turns.same_rank ∙ sym (ap (λ (t : Stack). t.rank) same); first = h; node = c.fill.ensures.filled.kept h sent got c.requires.turns.node }))
 
 pub returns-in-Start-clause-turns : goal.returns-in-Start-clause-turns
 returns-in-Start-clause-turns g c =

@@ -1,13 +1,13 @@
 use Rattle.std.proofs.Common.{length, refl, subst, sym, cond, ◌≡◌, map, slice_set}
 use Rattle.std.proofs.lemmas.Option.{slice_get_read}
-use Rattle.round_examples.specs.Asks.{noted}
+use Rattle.round_examples.specs.Asks.{noted_ask}
 use Rattle.round_examples.proofs.AskSteps.{note_is}
 use Rattle.round_examples.proofs.ask.note.Goals as goal
 
 pub returns : goal.returns
 returns c =
     let items = c.args.queries.now.items in
-    subst (λ b. map (λ l. l.items) (slice_set items c.args.from c.push.new.self) ≡ cond b (noted (map (λ l. l.items) items) c.args.from c.args.item) (map (λ l. l.items) items))
+    subst (λ b. map (λ l. l.items) (slice_set items c.args.from c.push.new.self) ≡ cond b (noted_ask (map (λ l. l.items) items) c.args.from c.args.item) (map (λ l. l.items) items))
     (sym c.map_err.ensures.variant)
     (note_is (λ l. l.items) items c.args.from c.index_mut.result.now c.push.new.self c.args.item _
     (slice_get_read items (length items) c.args.from c.index_mut.result.now refl c.requires c.index_mut.ensures.value)

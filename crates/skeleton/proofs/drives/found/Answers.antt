@@ -1,6 +1,6 @@
 use Rattle.std.proofs.Common.{◌≡◌, ◌≤◌, ◌∙◌, ap, sym, subst, All, length}
 use Rattle.list_laws.proofs.Results.{if_ok_is, if_ok_from}
-use Rattle.reductions.specs.Answers.{owned}
+use Rattle.reductions.specs.Answers.{owned_values}
 use Rattle.skeleton.specs.Found.{IsFound}
 use Rattle.skeleton.proofs.Starts.{all_there}
 use Rattle.skeleton.proofs.drives.found.Goals as goal
@@ -19,6 +19,6 @@ returns c =
     (λ v e. record {
       ends = c.args.progs.now;
       ended = c.requires.ended;
-      each = if_ok_is (λ w. w.items ≡ owned (λ s. s.cells) c.args.progs.now c.cols.result) c.owned.result v e c.owned.ensures
-          ∙ ap (owned (λ s. s.cells) c.args.progs.now) c.cols.ensures;
+      each = if_ok_is (λ w. w.items ≡ owned_values (λ s. s.cells) c.args.progs.now c.cols.result) c.owned.result v e c.owned.ensures
+          ∙ ap (owned_values (λ s. s.cells) c.args.progs.now) c.cols.ensures;
     })

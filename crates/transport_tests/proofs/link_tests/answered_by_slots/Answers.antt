@@ -2,7 +2,7 @@ use Rattle.std.proofs.Common.{◌∙◌, refl, ap, rules}
 use Rattle.item_buffer.specs.Contents.{Contents}
 use Rattle.route_tensor.specs.Link.{links}
 use Rattle.link_slots.specs.Shape.{shipped_all}
-use Rattle.link_slots.specs.Seen.{posted_on, collected_from}
+use Rattle.link_slots.specs.SeatView.{posted_on, collected_from}
 use Rattle.link_slots.proofs.Opening.{no_sent, no_got}
 use Rattle.transport_tests.proofs.ByHand.{begins}
 use Rattle.transport_tests.proofs.link_tests.answered_by_slots.Goals as goal

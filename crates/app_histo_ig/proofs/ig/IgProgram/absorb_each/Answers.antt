@@ -6,7 +6,7 @@ use Rattle.bale_items.specs.declared.Item.{Item}
 use Rattle.round_program.specs.Batches.{all_taken_in}
 use Rattle.round_program.proofs.Batches.{then}
 use Rattle.app_histo_ig.specs.declared.seat.Seat.{Seat}
-use Rattle.app_histo_ig.specs.Igs.{IsIg, ig_rules, replies_from}
+use Rattle.app_histo_ig.specs.Igs.{IsIg, ig_rules, ig_replies_from}
 use Rattle.app_histo_ig.specs.code.IgView.{ig_state}
 use Rattle.app_histo_ig.specs.code.Batches.{all_risen, all_answered}
 use Rattle.app_histo_ig.proofs.IgSent.{same_early}
@@ -23,7 +23,7 @@ invariant_of-self g c =
     let new : (with_items c.self.inside.sums c.rise_each.new.sums).items ≡ all_risen seat s.sums came = with_items_is c.self.inside.sums c.rise_each.new.sums len ∙ is in
     let sums = (with_items c.self.inside.sums c.rise_each.new.sums).items in
     record {
-      state = subst (λ o. IsIg (record s { sums = sums; outgoing = o })) (same_early s.round s.ranks c.self.inside.own.items _ (replies_from s.ranks sums 0 s.queries) (omega (arith, c.if-self-eq0.true)))
+      state = subst (λ o. IsIg (record s { sums = sums; outgoing = o })) (same_early s.round s.ranks c.self.inside.own.items _ (ig_replies_from s.ranks sums 0 s.queries) (omega (arith, c.if-self-eq0.true)))
           (values_valid s seat came sums c.self.invariant.state new);
       count = λ e. absurd (omega (arith, e, c.if-self-eq0.true));
     }
@@ -34,7 +34,7 @@ invariant_of-self-then-self-eq1 g c =
     let v = c.self.invariant.state in
     let queries = map (λ l. l.items) c.note_each.new.queries.items in
     record {
-      state = subst (λ o. IsIg (record s { queries = queries; outgoing = o })) (same_early s.round s.ranks c.self.inside.own.items _ (replies_from s.ranks s.sums 0 queries) (omega (arith, c.if-self-eq1.true)))
+      state = subst (λ o. IsIg (record s { queries = queries; outgoing = o })) (same_early s.round s.ranks c.self.inside.own.items _ (ig_replies_from s.ranks s.sums 0 queries) (omega (arith, c.if-self-eq1.true)))
           (record {
             own_rank = v.own_rank;
             wide = v.wide;
@@ -57,7 +57,7 @@ returns-then-self-eq0-clause-absorbed g c =
     let len = ap length is ∙ all_risen_len seat s.sums came ∙ sym (ap length c.deref_mut.ensures.value) ∙ c.deref_mut.ensures.len in
     let new : (with_items c.self.inside.sums c.rise_each.new.sums).items ≡ all_risen seat s.sums came = with_items_is c.self.inside.sums c.rise_each.new.sums len ∙ is in
     let sums = (with_items c.self.inside.sums c.rise_each.new.sums).items in
-    ap (λ o. record s { sums = sums; outgoing = o }) (same_early s.round s.ranks c.self.inside.own.items (replies_from s.ranks sums 0 s.queries) _ (omega (arith, c.if-self-eq0.true)))
+    ap (λ o. record s { sums = sums; outgoing = o }) (same_early s.round s.ranks c.self.inside.own.items (ig_replies_from s.ranks sums 0 s.queries) _ (omega (arith, c.if-self-eq0.true)))
     ∙ ap (λ (l : List ℕ). record s { sums = l }) new
     ∙ sym (values_taken s seat came c.self.invariant.state c.if-self-eq0.true (record { own = refl; all = refl; wide = refl }))
     ∙ ap (λ t. all_taken_in ig_rules t came) c.self.view_is
@@ -69,7 +69,7 @@ returns-then-self-eq1-clause-absorbed g c =
     let came = g.I.Arrivals.items c.args.came in
     let queries = map (λ l. l.items) c.note_each.new.queries.items in
     then c.note_each.result _ _
-    (λ is. ap (λ o. record s { queries = queries; outgoing = o }) (same_early s.round s.ranks c.self.inside.own.items (replies_from s.ranks s.sums 0 queries) _ (omega (arith, c.if-self-eq1.true)))
+    (λ is. ap (λ o. record s { queries = queries; outgoing = o }) (same_early s.round s.ranks c.self.inside.own.items (ig_replies_from s.ranks s.sums 0 queries) _ (omega (arith, c.if-self-eq1.true)))
     ∙ ap (λ (l : List (List Item)). record s { queries = l }) is
     ∙ sym (queries_taken s seat came c.self.invariant.state c.if-self-eq1.true (record { own = refl; all = refl; wide = refl }))
     ∙ ap (λ t. all_taken_in ig_rules t came) c.self.view_is)

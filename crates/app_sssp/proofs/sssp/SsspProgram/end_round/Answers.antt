@@ -1,6 +1,6 @@
 use Rattle.std.proofs.Common.{ap, ◌∙◌, length}
 use Rattle.std.proofs.lemmas.List.{length-map}
-use Rattle.least_walks.specs.Tables.{offers}
+use Rattle.least_walks.specs.Tables.{offers_by_place}
 use Rattle.least_walks.specs.Vertices.{calm}
 use Rattle.app_sssp.specs.laws.SsspLaws.{table_after_len}
 use Rattle.app_sssp.specs.code.SsspView.{sssp_state}
@@ -26,4 +26,4 @@ pub invariant_of-self-2 : goal.invariant_of-self-2
 invariant_of-self-2 c =
     ended_from (sssp_state c.self.inside) c.saturating_add-self-inside.result c.settle_edges.new.arriving c.settle_edges.new.table c.take_improved-improved.new.self c.swap.new.x.items
     c.self.invariant c.saturating_add-self-inside.ensures c.in_ok-settle_edges.ensures.settled c.in_ok-settle_edges.ensures.table c.take_improved-improved.ensures.calm
-    (ap (λ v. v.items) c.swap.ensures.x_after ∙ c.in_ok-put_offers.ensures ∙ ap (offers c.settle_edges.new.table c.take_improved-improved.new.self) (c.deref.ensures.value ∙ c.take_improved-improved.ensures.places))
+    (ap (λ v. v.items) c.swap.ensures.x_after ∙ c.in_ok-put_offers.ensures ∙ ap (offers_by_place c.settle_edges.new.table c.take_improved-improved.new.self) (c.deref.ensures.value ∙ c.take_improved-improved.ensures.places))

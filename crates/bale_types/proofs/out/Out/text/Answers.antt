@@ -1,7 +1,7 @@
 use Rattle.std.proofs.Common.{◌∙◌, ◌+◌, ◌-◌, ◌<◌, ◌≤◌, length, take, sym, subst, arith, rules}
 use Rattle.std.proofs.lemmas.Grind.{common_steps}
-use Rattle.bale_types.specs.Out.{appended}
-use Rattle.bale_types.specs.Stream.{after, IsFront}
+use Rattle.bale_types.specs.Out.{appended_bytes}
+use Rattle.bale_types.specs.Stream.{taken_with, IsTakenPrefix}
 use Rattle.bale_types.proofs.Moves.{moved_on, part_of_rest, front_held, front_of_front, on_err_any}
 use Rattle.bale_types.proofs.Waiting.{short_of, waits_on}
 use Rattle.bale_types.proofs.out.Out.text.Goals as goal
@@ -9,7 +9,7 @@ use Rattle.bale_types.proofs.out.Out.text.Goals as goal
 pub loop-at-preserved : goal.loop-at-preserved
 loop-at-preserved g c =
     let taken = g.K.Sink.taken in
-    let all = appended g.K.Sink.taken in
+    let all = appended_bytes g.K.Sink.taken in
     let bound : c.in_ok-at.field-0 ≤ length c.args.t.now - c.loop-at.at = grind (arith, common_steps) in
     record {
       within = omega arith;
@@ -30,18 +30,18 @@ loop-at-preserved g c =
 pub returns-in_err-at : goal.returns-in_err-at
 returns-in_err-at g c =
     let taken = g.K.Sink.taken in
-    let all = appended g.K.Sink.taken in
+    let all = appended_bytes g.K.Sink.taken in
     let new = c.fill.new.self in
     let old = c.args.self.now in
     let mid = c.loop-at.self in
     let part = part_of_rest (all new) (all mid) (all old) c.args.t.now c.loop-at.at c.loop-at.invariant.bytes c.in_err-at.ensures.part in
-    let before : IsFront (all old) (all mid) = subst (IsFront (all old)) (sym c.loop-at.invariant.bytes) (front_held (all old) (take c.loop-at.at c.args.t.now)) in
-    let more : IsFront (all mid) (all new) = search rules in
+    let before : IsTakenPrefix (all old) (all mid) = subst (IsTakenPrefix (all old)) (sym c.loop-at.invariant.bytes) (front_held (all old) (take c.loop-at.at c.args.t.now)) in
+    let more : IsTakenPrefix (all mid) (all new) = search rules in
     record {
       written = record {
         ok = search rules;
         err = on_err_any c.from_residual.result
-            (front_of_front (taken new.sink.now) (all new) (after (all old) c.args.t.now) (front_held (taken new.sink.now) (take new.len new.buffer)) part);
+            (front_of_front (taken new.sink.now) (all new) (taken_with (all old) c.args.t.now) (front_held (taken new.sink.now) (take new.len new.buffer)) part);
         sink = record {
           counts = search rules;
           grows = front_of_front (taken old.sink.now) (taken mid.sink.now) (taken new.sink.now) c.loop-at.invariant.grows c.fill.ensures.sink.grows;

@@ -1,5 +1,5 @@
 use Rattle.std.proofs.Common.{◌≢◌, sym, subst, ap, ◌∙◌, ◌++◌}
-use Rattle.least_walks.specs.Tables.{offers}
+use Rattle.least_walks.specs.Tables.{offers_by_place}
 use Rattle.delta_step.specs.declared.phase.Phase.TheVariants.{First}
 use Rattle.delta_step.specs.Deltas.{DeltaState}
 use Rattle.delta_step.specs.code.DeltaView.{delta_state}
@@ -27,4 +27,4 @@ invariant_of-self-2 c =
     c.self.invariant (subst (λ (s : DeltaState). s.phase ≢ First) (sym c.self.view_is) c.requires)
     c.saturating_add-self-inside.ensures c.in_ok-active.ensures.calm.ok c.in_ok-active.ensures.places
     (c.in_ok-extend_from_slice.ensures.items ∙ ap (λ ps. c.self.inside.settled.items ++ ps) c.deref.ensures.value)
-    (ap (λ v. v.items) c.swap.ensures.x_after ∙ c.in_ok-put_offers.ensures ∙ ap (offers c.self.inside.light c.take_bucket.new.self) c.deref-2.ensures.value)
+    (ap (λ v. v.items) c.swap.ensures.x_after ∙ c.in_ok-put_offers.ensures ∙ ap (offers_by_place c.self.inside.light c.take_bucket.new.self) c.deref-2.ensures.value)

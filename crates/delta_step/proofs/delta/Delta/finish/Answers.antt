@@ -1,5 +1,5 @@
 use Rattle.std.proofs.Common.{◌≢◌, refl, sym, subst, ap, ◌∙◌}
-use Rattle.least_walks.specs.Tables.{offers}
+use Rattle.least_walks.specs.Tables.{offers_by_place}
 use Rattle.delta_step.specs.declared.phase.Phase.TheVariants.{First}
 use Rattle.delta_step.specs.Deltas.{DeltaState, ascending}
 use Rattle.delta_step.specs.code.DeltaView.{delta_state}
@@ -25,4 +25,4 @@ invariant_of-self-2 c =
     finished_from (delta_state c.self.inside) c.saturating_add-self-inside.result c.put_in_order.new.places.items c.swap.new.x.items
     c.self.invariant (subst (λ (s : DeltaState). s.phase ≢ First) (sym c.self.view_is) c.requires)
     c.saturating_add-self-inside.ensures (c.put_in_order.ensures ∙ ap (λ n. ascending n c.self.inside.settled.items) c.len.ensures)
-    (ap (λ v. v.items) c.swap.ensures.x_after ∙ c.in_ok-put_offers.ensures ∙ ap (offers c.self.inside.heavy c.self.inside.vertices) c.deref.ensures.value)
+    (ap (λ v. v.items) c.swap.ensures.x_after ∙ c.in_ok-put_offers.ensures ∙ ap (offers_by_place c.self.inside.heavy c.self.inside.vertices) c.deref.ensures.value)

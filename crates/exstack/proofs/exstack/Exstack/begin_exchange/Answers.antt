@@ -1,8 +1,8 @@
 use Rattle.std.proofs.Common.{◌≡◌, true, false, map, List, None, sym, ap, subst, ◌∙◌, rules}
 use Rattle.exstack.specs.declared.stage.Stage.TheVariants.{Exchanging}
-use Rattle.exstack.specs.Links.{Out, In, begun_out, begun_in}
+use Rattle.exstack.specs.Links.{StackOut, StackIn, begun_out, begun_in}
 use Rattle.exstack.specs.State.{Stack, is_exchanging, may_exchange}
-use Rattle.exstack.specs.Standing.{IsKept}
+use Rattle.exstack.specs.Standing.{IsKeptStack}
 use Rattle.exstack.proofs.Beginning.{exchange_kept, exchange_filling}
 use Rattle.exstack.proofs.exstack.Exstack.begin_exchange.Goals as goal
 
@@ -22,7 +22,7 @@ invariant_of-self-2 g c =
     let view : st ≡ now = c.self.view_is in
     let may : may_exchange st.stage ≡ true = ap (λ (t : Stack). may_exchange t.stage) view ∙ c.requires in
     let not_yet : is_exchanging st.stage ≡ false = search rules in
-    let k : IsKept g.row.CAP (record st { stage = Exchanging; outs = map begun_out st.outs; ins = map begun_in st.ins; popped = None }) c.self.inside.from =
+    let k : IsKeptStack g.row.CAP (record st { stage = Exchanging; outs = map begun_out st.outs; ins = map begun_in st.ins; popped = None }) c.self.inside.from =
     exchange_kept g.row.CAP st c.self.inside.from c.self.invariant (exchange_filling st.stage may not_yet) in
-    subst (λ (outs : List Out). IsKept g.row.CAP (record st { stage = Exchanging; outs = outs; ins = c.begin_ins.new.links.items; popped = None }) c.self.inside.from) (sym c.begin_outs.ensures)
-    (subst (λ (ins : List In). IsKept g.row.CAP (record st { stage = Exchanging; outs = map begun_out st.outs; ins = ins; popped = None }) c.self.inside.from) (sym c.begin_ins.ensures) k)
+    subst (λ (outs : List StackOut). IsKeptStack g.row.CAP (record st { stage = Exchanging; outs = outs; ins = c.begin_ins.new.links.items; popped = None }) c.self.inside.from) (sym c.begin_outs.ensures)
+    (subst (λ (ins : List StackIn). IsKeptStack g.row.CAP (record st { stage = Exchanging; outs = map begun_out st.outs; ins = ins; popped = None }) c.self.inside.from) (sym c.begin_ins.ensures) k)

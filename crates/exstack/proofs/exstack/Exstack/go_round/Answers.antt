@@ -1,12 +1,12 @@
 use Rattle.std.proofs.Common.{◌≡◌, ℕ, ◌<◌, ◌++◌, Bool, List, length, get_or, refl, sym, ap, subst, ◌∙◌, arith, rules}
-use Rattle.list_laws.specs.Lists.{Begins}
+use Rattle.list_laws.specs.Lists.{IsPrefix}
 use Rattle.port_bank.specs.Logs.{Logs}
 use Rattle.port_bank.specs.Calls.{Call}
 use Rattle.port_bank.proofs.Kept.{law_same}
-use Rattle.exstack.specs.Links.{no_in}
-use Rattle.exstack.specs.State.{Stack, dims_of, number, link_from}
+use Rattle.exstack.specs.Links.{no_stack_in}
+use Rattle.exstack.specs.State.{Stack, stack_dims, number, stack_link_from}
 use Rattle.exstack.specs.Agreement.{AgreesIn}
-use Rattle.exstack.specs.Steps.{WasCollected, MadeRound, InVain, StopsAt, posts_to, collects_from}
+use Rattle.exstack.specs.Steps.{WasCollected, MadeRound, InVain, StackStopsAt, posts_to, collects_from}
 use Rattle.exstack.specs.Standing.{IsStack}
 use Rattle.exstack.proofs.Making.{after_round, PostsDone, CollectsDone, Before, before, none_done, round_done, stack_done, agrees_done}
 use Rattle.exstack.proofs.exstack.Exstack.go_round.Goals as goal
@@ -34,7 +34,7 @@ invariant_of-self g c =
     let p : PostsDone st c.post_all.new.outs.items c.args.last sent sent' got = record {
       count = e.count;
       moved = e.moved;
-      law = law_same _ _ _ _ _ _ _ _ (ap dims_of view ∙ sym c.requires.at_port.same_dims) (ap (λ (t : Stack). t.rank) view ∙ sym c.requires.at_port.same_rank) refl refl e.law;
+      law = law_same _ _ _ _ _ _ _ _ (ap stack_dims view ∙ sym c.requires.at_port.same_dims) (ap (λ (t : Stack). t.rank) view ∙ sym c.requires.at_port.same_rank) refl refl e.law;
       grows = e.left.grows;
     } in
     let q : CollectsDone st st.ins c.args.exchange sent' got got = none_done st c.args.exchange sent' got in
@@ -67,7 +67,7 @@ returns-in_err-post_all-clause-cycle g c =
     let p : PostsDone st c.post_all.new.outs.items c.args.last sent sent' got = record {
       count = e.count;
       moved = e.moved;
-      law = law_same _ _ _ _ _ _ _ _ (ap dims_of view ∙ sym c.requires.at_port.same_dims) (ap (λ (t : Stack). t.rank) view ∙ sym c.requires.at_port.same_rank) refl refl e.law;
+      law = law_same _ _ _ _ _ _ _ _ (ap stack_dims view ∙ sym c.requires.at_port.same_dims) (ap (λ (t : Stack). t.rank) view ∙ sym c.requires.at_port.same_rank) refl refl e.law;
       grows = e.left.grows;
     } in
     let q : CollectsDone st st.ins c.args.exchange sent' got got = none_done st c.args.exchange sent' got in
@@ -97,17 +97,17 @@ invariant_of-self-2 g c =
     let p : PostsDone st c.post_all.new.outs.items c.args.last sent sent' got = record {
       count = e.count;
       moved = e.moved;
-      law = law_same _ _ _ _ _ _ _ _ (ap dims_of view ∙ sym c.requires.at_port.same_dims) (ap (λ (t : Stack). t.rank) view ∙ sym c.requires.at_port.same_rank) refl refl e.law;
+      law = law_same _ _ _ _ _ _ _ _ (ap stack_dims view ∙ sym c.requires.at_port.same_dims) (ap (λ (t : Stack). t.rank) view ∙ sym c.requires.at_port.same_rank) refl refl e.law;
       grows = e.left.grows;
     } in
     let got' : Logs = g.P.Port.got c.collect_all.new.port in
     let f = c.collect_all.ensures in
     let q : CollectsDone st c.collect_all.new.ins.items c.args.exchange sent' got got' = record {
       count = f.count;
-      moved = subst (λ (logs : Logs). (a : ℕ) → a < length st.ins → WasCollected c.args.exchange (get_or st.ins a no_in) (get_or c.collect_all.new.ins.items a no_in) (logs (number (length st.ins) a st.rank)) (got' (number (length st.ins) a st.rank))) e.left.same_ins.got f.moved;
-      own = subst (λ (logs : Logs). Begins (logs (number (length st.ins) st.rank st.rank)) (sent' (number (length st.ins) st.rank st.rank)) → Begins (got' (number (length st.ins) st.rank st.rank)) (sent' (number (length st.ins) st.rank st.rank))) e.left.same_ins.got
-          (subst (λ (logs : Logs). Begins (g.P.Port.got c.post_all.new.port (number (length st.ins) st.rank st.rank)) (sent' (number (length st.ins) st.rank st.rank)) → Begins (got' (number (length st.ins) st.rank st.rank)) (logs (number (length st.ins) st.rank st.rank))) f.left.same_outs.sent f.own);
-      grows = subst (λ (logs : Logs). (m : ℕ) → Begins (logs m) (got' m)) e.left.same_ins.got f.left.grows;
+      moved = subst (λ (logs : Logs). (a : ℕ) → a < length st.ins → WasCollected c.args.exchange (get_or st.ins a no_stack_in) (get_or c.collect_all.new.ins.items a no_stack_in) (logs (number (length st.ins) a st.rank)) (got' (number (length st.ins) a st.rank))) e.left.same_ins.got f.moved;
+      own = subst (λ (logs : Logs). IsPrefix (logs (number (length st.ins) st.rank st.rank)) (sent' (number (length st.ins) st.rank st.rank)) → IsPrefix (got' (number (length st.ins) st.rank st.rank)) (sent' (number (length st.ins) st.rank st.rank))) e.left.same_ins.got
+          (subst (λ (logs : Logs). IsPrefix (g.P.Port.got c.post_all.new.port (number (length st.ins) st.rank st.rank)) (sent' (number (length st.ins) st.rank st.rank)) → IsPrefix (got' (number (length st.ins) st.rank st.rank)) (logs (number (length st.ins) st.rank st.rank))) f.left.same_outs.sent f.own);
+      grows = subst (λ (logs : Logs). (m : ℕ) → IsPrefix (logs m) (got' m)) e.left.same_ins.got f.left.grows;
     } in
     record {
       standing = stack_done g.row.CAP st c.post_all.new.outs.items c.collect_all.new.ins.items c.args.last c.args.exchange sent sent' got got' s b p q;
@@ -138,17 +138,17 @@ returns-clause-cycle g c =
     let p : PostsDone st c.post_all.new.outs.items c.args.last sent sent' got = record {
       count = e.count;
       moved = e.moved;
-      law = law_same _ _ _ _ _ _ _ _ (ap dims_of view ∙ sym c.requires.at_port.same_dims) (ap (λ (t : Stack). t.rank) view ∙ sym c.requires.at_port.same_rank) refl refl e.law;
+      law = law_same _ _ _ _ _ _ _ _ (ap stack_dims view ∙ sym c.requires.at_port.same_dims) (ap (λ (t : Stack). t.rank) view ∙ sym c.requires.at_port.same_rank) refl refl e.law;
       grows = e.left.grows;
     } in
     let got' : Logs = g.P.Port.got c.collect_all.new.port in
     let f = c.collect_all.ensures in
     let q : CollectsDone st c.collect_all.new.ins.items c.args.exchange sent' got got' = record {
       count = f.count;
-      moved = subst (λ (logs : Logs). (a : ℕ) → a < length st.ins → WasCollected c.args.exchange (get_or st.ins a no_in) (get_or c.collect_all.new.ins.items a no_in) (logs (number (length st.ins) a st.rank)) (got' (number (length st.ins) a st.rank))) e.left.same_ins.got f.moved;
-      own = subst (λ (logs : Logs). Begins (logs (number (length st.ins) st.rank st.rank)) (sent' (number (length st.ins) st.rank st.rank)) → Begins (got' (number (length st.ins) st.rank st.rank)) (sent' (number (length st.ins) st.rank st.rank))) e.left.same_ins.got
-          (subst (λ (logs : Logs). Begins (g.P.Port.got c.post_all.new.port (number (length st.ins) st.rank st.rank)) (sent' (number (length st.ins) st.rank st.rank)) → Begins (got' (number (length st.ins) st.rank st.rank)) (logs (number (length st.ins) st.rank st.rank))) f.left.same_outs.sent f.own);
-      grows = subst (λ (logs : Logs). (m : ℕ) → Begins (logs m) (got' m)) e.left.same_ins.got f.left.grows;
+      moved = subst (λ (logs : Logs). (a : ℕ) → a < length st.ins → WasCollected c.args.exchange (get_or st.ins a no_stack_in) (get_or c.collect_all.new.ins.items a no_stack_in) (logs (number (length st.ins) a st.rank)) (got' (number (length st.ins) a st.rank))) e.left.same_ins.got f.moved;
+      own = subst (λ (logs : Logs). IsPrefix (logs (number (length st.ins) st.rank st.rank)) (sent' (number (length st.ins) st.rank st.rank)) → IsPrefix (got' (number (length st.ins) st.rank st.rank)) (sent' (number (length st.ins) st.rank st.rank))) e.left.same_ins.got
+          (subst (λ (logs : Logs). IsPrefix (g.P.Port.got c.post_all.new.port (number (length st.ins) st.rank st.rank)) (sent' (number (length st.ins) st.rank st.rank)) → IsPrefix (got' (number (length st.ins) st.rank st.rank)) (logs (number (length st.ins) st.rank st.rank))) f.left.same_outs.sent f.own);
+      grows = subst (λ (logs : Logs). (m : ℕ) → IsPrefix (logs m) (got' m)) e.left.same_ins.got f.left.grows;
     } in
     λ n a. subst (λ (logs : Logs). AgreesIn n (after_round st c.post_all.new.outs.items c.collect_all.new.ins.items) logs got') (sym f.left.same_outs.sent)
     (agrees_done g.row.CAP st c.post_all.new.outs.items c.collect_all.new.ins.items c.args.last c.args.exchange sent sent' got got' s b p q n (subst (λ t. AgreesIn n t sent got) (sym view) a))
@@ -176,17 +176,17 @@ returns-clause-round g c =
     let p : PostsDone st c.post_all.new.outs.items c.args.last sent sent' got = record {
       count = e.count;
       moved = e.moved;
-      law = law_same _ _ _ _ _ _ _ _ (ap dims_of view ∙ sym c.requires.at_port.same_dims) (ap (λ (t : Stack). t.rank) view ∙ sym c.requires.at_port.same_rank) refl refl e.law;
+      law = law_same _ _ _ _ _ _ _ _ (ap stack_dims view ∙ sym c.requires.at_port.same_dims) (ap (λ (t : Stack). t.rank) view ∙ sym c.requires.at_port.same_rank) refl refl e.law;
       grows = e.left.grows;
     } in
     let got' : Logs = g.P.Port.got c.collect_all.new.port in
     let f = c.collect_all.ensures in
     let q : CollectsDone st c.collect_all.new.ins.items c.args.exchange sent' got got' = record {
       count = f.count;
-      moved = subst (λ (logs : Logs). (a : ℕ) → a < length st.ins → WasCollected c.args.exchange (get_or st.ins a no_in) (get_or c.collect_all.new.ins.items a no_in) (logs (number (length st.ins) a st.rank)) (got' (number (length st.ins) a st.rank))) e.left.same_ins.got f.moved;
-      own = subst (λ (logs : Logs). Begins (logs (number (length st.ins) st.rank st.rank)) (sent' (number (length st.ins) st.rank st.rank)) → Begins (got' (number (length st.ins) st.rank st.rank)) (sent' (number (length st.ins) st.rank st.rank))) e.left.same_ins.got
-          (subst (λ (logs : Logs). Begins (g.P.Port.got c.post_all.new.port (number (length st.ins) st.rank st.rank)) (sent' (number (length st.ins) st.rank st.rank)) → Begins (got' (number (length st.ins) st.rank st.rank)) (logs (number (length st.ins) st.rank st.rank))) f.left.same_outs.sent f.own);
-      grows = subst (λ (logs : Logs). (m : ℕ) → Begins (logs m) (got' m)) e.left.same_ins.got f.left.grows;
+      moved = subst (λ (logs : Logs). (a : ℕ) → a < length st.ins → WasCollected c.args.exchange (get_or st.ins a no_stack_in) (get_or c.collect_all.new.ins.items a no_stack_in) (logs (number (length st.ins) a st.rank)) (got' (number (length st.ins) a st.rank))) e.left.same_ins.got f.moved;
+      own = subst (λ (logs : Logs). IsPrefix (logs (number (length st.ins) st.rank st.rank)) (sent' (number (length st.ins) st.rank st.rank)) → IsPrefix (got' (number (length st.ins) st.rank st.rank)) (sent' (number (length st.ins) st.rank st.rank))) e.left.same_ins.got
+          (subst (λ (logs : Logs). IsPrefix (g.P.Port.got c.post_all.new.port (number (length st.ins) st.rank st.rank)) (sent' (number (length st.ins) st.rank st.rank)) → IsPrefix (got' (number (length st.ins) st.rank st.rank)) (logs (number (length st.ins) st.rank st.rank))) f.left.same_outs.sent f.own);
+      grows = subst (λ (logs : Logs). (m : ℕ) → IsPrefix (logs m) (got' m)) e.left.same_ins.got f.left.grows;
     } in
     subst (λ (logs : Logs). MadeRound c.args.last c.args.exchange now (after_round st c.post_all.new.outs.items c.collect_all.new.ins.items) sent logs got got') (sym f.left.same_outs.sent)
     (subst (λ (t : Stack). MadeRound c.args.last c.args.exchange t (after_round st c.post_all.new.outs.items c.collect_all.new.ins.items) sent sent' got got') view
@@ -215,7 +215,7 @@ returns-clause-asks g c =
       crowded = search rules;
       asked = λ a w due.
           let u : a < n = omega (arith, w, s.all_ins, ap (λ (t : Stack). t.ranks) view) in
-          let number_is : number n a st.rank ≡ link_from now a = ap (λ m. number m a st.rank) s.all_ins ∙ ap (λ (t : Stack). link_from t a) view in
+          let number_is : number n a st.rank ≡ stack_link_from now a = ap (λ m. number m a st.rank) s.all_ins ∙ ap (λ (t : Stack). stack_link_from t a) view in
           subst (λ l. InVain (g.P.Port.noted c.args.port.now l) (noted' l) (idle' l)) number_is
           (subst (λ (counts : ℕ → ℕ). InVain (counts (number n a st.rank)) (noted' (number n a st.rank)) (idle' (number n a st.rank))) c.post_all.ensures.left.same_ins.noted (c.collect_all.ensures.in_vain a u due));
       calls =
@@ -242,8 +242,8 @@ returns-in_err-post_all-clause-stops g c =
     let all : length st.outs ≡ st.ranks = c.self.invariant.standing.all_outs in
     let before : List Call = g.P.Port.calls c.args.port.now in
     let calls : List Call = g.P.Port.calls c.post_all.new.port in
-    λ err. subst (λ (t : Stack). StopsAt st.ranks st.rank t.outs c.post_all.new.outs.items before calls) view
-    (subst (λ m. StopsAt m st.rank st.outs c.post_all.new.outs.items before calls) all (c.in_err-post_all.ensures.stops (search rules)))
+    λ err. subst (λ (t : Stack). StackStopsAt st.ranks st.rank t.outs c.post_all.new.outs.items before calls) view
+    (subst (λ m. StackStopsAt m st.rank st.outs c.post_all.new.outs.items before calls) all (c.in_err-post_all.ensures.stops (search rules)))
 
 pub returns-in_err-post_all-clause-round : goal.returns-in_err-post_all-clause-round
 returns-in_err-post_all-clause-round g c =
@@ -268,7 +268,7 @@ returns-in_err-post_all-clause-round g c =
     let p : PostsDone st c.post_all.new.outs.items c.args.last sent sent' got = record {
       count = e.count;
       moved = e.moved;
-      law = law_same _ _ _ _ _ _ _ _ (ap dims_of view ∙ sym c.requires.at_port.same_dims) (ap (λ (t : Stack). t.rank) view ∙ sym c.requires.at_port.same_rank) refl refl e.law;
+      law = law_same _ _ _ _ _ _ _ _ (ap stack_dims view ∙ sym c.requires.at_port.same_dims) (ap (λ (t : Stack). t.rank) view ∙ sym c.requires.at_port.same_rank) refl refl e.law;
       grows = e.left.grows;
     } in
     let q : CollectsDone st st.ins c.args.exchange sent' got got = none_done st c.args.exchange sent' got in

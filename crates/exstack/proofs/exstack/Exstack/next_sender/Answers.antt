@@ -1,9 +1,9 @@
 use Rattle.std.proofs.Common.{◌≡◌, Some, None, sym, subst, rules}
 use Rattle.port_bank.specs.Machine.{IsOwnStep}
 use Rattle.port_bank.specs.Machine.Step.{Idle}
-use Rattle.exstack.specs.State.{Stack, lowest_unread}
+use Rattle.exstack.specs.State.{Stack, lowest_unread_sender}
 use Rattle.exstack.specs.Agreement.{AgreesIn}
-use Rattle.exstack.specs.Parts.{part_of}
+use Rattle.exstack.specs.Parts.{stack_part}
 use Rattle.exstack.proofs.Beginning.{agrees_rest}
 use Rattle.exstack.proofs.Stepping.{idle_step}
 use Rattle.exstack.proofs.Batches.{rest_from, rest_at}
@@ -26,7 +26,7 @@ invariant_of-self-2 g c =
     } in
     let now : Stack = c.args.self.now in
     let view : st ≡ now = c.self.view_is in
-    let found : lowest_unread st ≡ Some c.in_ok-sender.sender = search rules in
+    let found : lowest_unread_sender st ≡ Some c.in_ok-sender.sender = search rules in
     rest_at g.row.CAP st c.self.inside.from c.in_ok-sender.sender c.self.invariant found
 
 pub returns-in_err-sender-clause-kept : goal.returns-in_err-sender-clause-kept
@@ -35,7 +35,7 @@ returns-in_err-sender-clause-kept g c = λ n sent got a.
 
 pub returns-in_err-sender-clause-step : goal.returns-in_err-sender-clause-step
 returns-in_err-sender-clause-step g c = λ n sent got a.
-    subst (λ (t : Stack). IsOwnStep Idle (part_of c.args.self.now sent got) (part_of (record t { popped = None }) sent got)) (sym c.self.view_is) (idle_step c.args.self.now n sent got)
+    subst (λ (t : Stack). IsOwnStep Idle (stack_part c.args.self.now sent got) (stack_part (record t { popped = None }) sent got)) (sym c.self.view_is) (idle_step c.args.self.now n sent got)
 
 pub returns-clause-kept : goal.returns-clause-kept
 returns-clause-kept g c = λ n sent got a.
@@ -43,4 +43,4 @@ returns-clause-kept g c = λ n sent got a.
 
 pub returns-clause-step : goal.returns-clause-step
 returns-clause-step g c = λ n sent got a.
-    subst (λ (t : Stack). IsOwnStep Idle (part_of c.args.self.now sent got) (part_of (record t { popped = None }) sent got)) (sym c.self.view_is) (idle_step c.args.self.now n sent got)
+    subst (λ (t : Stack). IsOwnStep Idle (stack_part c.args.self.now sent got) (stack_part (record t { popped = None }) sent got)) (sym c.self.view_is) (idle_step c.args.self.now n sent got)

@@ -3,18 +3,18 @@ use Rattle.port_bank.specs.Logs.{Logs}
 use Rattle.exstack.specs.declared.stage.Stage.{Stage}
 use Rattle.exstack.specs.declared.stage.Stage.TheVariants.{Exchanging}
 use Rattle.exstack.specs.Steps.{AsksOnce}
-use Rattle.exstack.specs.State.{Stack, in_at, number, link_from, is_proceeding, is_exchanging, in_exchange, stage_of_exchange}
+use Rattle.exstack.specs.State.{Stack, stack_in_at, number, stack_link_from, is_proceeding, is_exchanging, in_exchange, stage_of_exchange}
 use Rattle.exstack.specs.Agreement.{AgreesIn, rounds_in}
 use Rattle.exstack.specs.Standing.{IsStack}
 use Rattle.port_bank.specs.Machine.{IsOwnStep}
 use Rattle.port_bank.specs.Machine.Step.{Idle}
-use Rattle.exstack.specs.Parts.{part_of, is_all_done}
+use Rattle.exstack.specs.Parts.{stack_part, is_all_done}
 use Rattle.exstack.proofs.Manners.{Kind, kind_of, and_false}
 use Rattle.exstack.proofs.Polling.{SameLists, Polled, exchange_lists, made_lists, lists_after, idle_poll, exchange_not_all, exchange_stays, exchange_epoch}
 use Rattle.exstack.proofs.Beginning.{Begun, exchange_begun, exchange_agrees}
 use Rattle.exstack.proofs.Settling.{agrees_staged, asks_staged, exchange_rounds}
-use Rattle.exstack.specs.Links.{no_in}
-use Rattle.exstack.specs.Cycles.{exchange_parcel, entries_in}
+use Rattle.exstack.specs.Links.{no_stack_in}
+use Rattle.exstack.specs.Cycles.{exchange_parcel, entries_if_any}
 use Rattle.exstack.proofs.OneLink.{whole_after}
 use Rattle.exstack.proofs.exstack.Exstack.poll_exchange.Goals as goal
 
@@ -182,7 +182,7 @@ returns-clause-step g c =
     let settled : c.settle_exchange.new.self ≡ staged = c.settle_exchange.ensures.state in
     let over : SameLists now staged sent sent' got got' = record { pushed = lists.pushed; pulled = lists.pulled } in
     let polled' : Polled now staged now.done = record { ranks = polled.ranks; epoch = polled.epoch; done_is = polled.done_is; forgotten = polled.forgotten } in
-    subst (λ (t : Stack). IsOwnStep Idle (part_of now sent got) (part_of t sent' got')) (sym settled)
+    subst (λ (t : Stack). IsOwnStep Idle (stack_part now sent got) (stack_part t sent' got')) (sym settled)
     (idle_poll now staged sent sent' got got' polled' (sym (exchange_stays r) ∙ sym (exchange_not_all now.stage c.requires.may)) over)
 
 pub returns-in_err-missing-clause-whole : goal.returns-in_err-missing-clause-whole
@@ -200,11 +200,11 @@ returns-in_err-missing-clause-whole g c =
     let now_in : AgreesIn n b sent got = subst (λ (t : Stack). AgreesIn n t sent got) (sym is) (exchange_agrees g.row.CAP n now sent got s c.requires.may agrees) in
     let within : a < b.ranks = subst (λ m. a < m) (sym k.ranks) w in
     let standing : IsStack g.row.CAP b = c.go_round.ensures.standing in
-    let open' = (standing.each_in a no_in (omega (arith, within, standing.all_ins))).due_open in
+    let open' = (standing.each_in a no_stack_in (omega (arith, within, standing.all_ins))).due_open in
     let epoch : b.epoch ≡ now.epoch = ap (λ (t : Stack). t.epoch) is ∙ exchange_epoch now in
-    whole_after b.epoch n (rounds_in n b.stage) true (in_at b a) (in_at h a) (got (link_from b a)) (got' (link_from b a)) open' (now_in.ins a within)
-    (λ x. ap (rounds_in n) k.stage_is) refl (ap (λ (t : Stack). (in_at t a).due) is ∙ due) came (c.go_round.ensures.round.collected a within)
-    ∙ (λ i. entries_in (exchange_parcel (epoch i) n (got' (number (k.ranks i) a (k.rank i)))))
+    whole_after b.epoch n (rounds_in n b.stage) true (stack_in_at b a) (stack_in_at h a) (got (stack_link_from b a)) (got' (stack_link_from b a)) open' (now_in.ins a within)
+    (λ x. ap (rounds_in n) k.stage_is) refl (ap (λ (t : Stack). (stack_in_at t a).due) is ∙ due) came (c.go_round.ensures.round.collected a within)
+    ∙ (λ i. entries_if_any (exchange_parcel (epoch i) n (got' (number (k.ranks i) a (k.rank i)))))
 
 pub returns-clause-whole : goal.returns-clause-whole
 returns-clause-whole g c =
@@ -221,10 +221,10 @@ returns-clause-whole g c =
     let now_in : AgreesIn n b sent got = subst (λ (t : Stack). AgreesIn n t sent got) (sym is) (exchange_agrees g.row.CAP n now sent got s c.requires.may agrees) in
     let within : a < b.ranks = subst (λ m. a < m) (sym k.ranks) w in
     let standing : IsStack g.row.CAP b = c.go_round.ensures.standing in
-    let open' = (standing.each_in a no_in (omega (arith, within, standing.all_ins))).due_open in
+    let open' = (standing.each_in a no_stack_in (omega (arith, within, standing.all_ins))).due_open in
     let epoch : b.epoch ≡ now.epoch = ap (λ (t : Stack). t.epoch) is ∙ exchange_epoch now in
     let settled = c.settle_exchange.ensures.state in
-    ap (λ (t : Stack). (in_at t a).unread) settled
-    ∙ (whole_after b.epoch n (rounds_in n b.stage) true (in_at b a) (in_at h a) (got (link_from b a)) (got' (link_from b a)) open' (now_in.ins a within)
-    (λ x. ap (rounds_in n) k.stage_is) refl (ap (λ (t : Stack). (in_at t a).due) is ∙ due) (sym (ap (λ (t : Stack). (in_at t a).due) settled) ∙ came) (c.go_round.ensures.round.collected a within)
-    ∙ (λ i. entries_in (exchange_parcel (epoch i) n (got' (number (k.ranks i) a (k.rank i))))))
+    ap (λ (t : Stack). (stack_in_at t a).unread) settled
+    ∙ (whole_after b.epoch n (rounds_in n b.stage) true (stack_in_at b a) (stack_in_at h a) (got (stack_link_from b a)) (got' (stack_link_from b a)) open' (now_in.ins a within)
+    (λ x. ap (rounds_in n) k.stage_is) refl (ap (λ (t : Stack). (stack_in_at t a).due) is ∙ due) (sym (ap (λ (t : Stack). (stack_in_at t a).due) settled) ∙ came) (c.go_round.ensures.round.collected a within)
+    ∙ (λ i. entries_if_any (exchange_parcel (epoch i) n (got' (number (k.ranks i) a (k.rank i))))))

@@ -6,7 +6,7 @@ use Rattle.exstack.specs.State.{Stack, is_proceeding, is_exchanging, in_proceed,
 use Rattle.exstack.specs.Steps.{AsksOnce}
 use Rattle.exstack.specs.Agreement.{AgreesIn, rounds_in, cycle_after}
 use Rattle.exstack.specs.Standing.{IsStack}
-use Rattle.exstack.specs.Parts.{part_of, is_all_done, AreOwnSteps, proceed_steps}
+use Rattle.exstack.specs.Parts.{stack_part, is_all_done, AreOwnSteps, proceed_steps}
 use Rattle.exstack.proofs.Manners.{Kind, kind_of, and_true}
 use Rattle.exstack.proofs.Polling.{SameLists, Polled, proceed_lists, made_lists, lists_after, proceed_poll, may_not_all, proceed_epoch}
 use Rattle.exstack.proofs.Beginning.{Begun, proceed_begun, proceed_agrees}
@@ -177,5 +177,5 @@ returns-clause-steps g c =
     let settled : c.settle_proceed.new.self ≡ staged = c.settle_proceed.ensures.state in
     let over : SameLists now staged sent sent' got got' = record { pushed = lists.pushed; pulled = lists.pulled } in
     let polled' : Polled now staged c.args.done = record { ranks = polled.ranks; epoch = polled.epoch; done_is = polled.done_is; forgotten = polled.forgotten } in
-    subst (λ (t : Stack). AreOwnSteps (proceed_steps now.done c.args.done (is_all_done t.stage)) (part_of now sent got) (part_of t sent' got')) (sym settled)
+    subst (λ (t : Stack). AreOwnSteps (proceed_steps now.done c.args.done (is_all_done t.stage)) (stack_part now sent got) (stack_part t sent' got')) (sym settled)
     (proceed_poll now staged c.args.done sent sent' got got' polled' c.requires.done_stays (may_not_all now.stage c.requires.may) over)

@@ -3,9 +3,9 @@ use Rattle.port_bank.specs.Machine.{IsOwnStep}
 use Rattle.port_bank.specs.Machine.Step.{Reset}
 use Rattle.exstack.specs.declared.stage.Stage.TheVariants.{AllDone}
 use Rattle.exstack.specs.State.{Stack, after_reset}
-use Rattle.exstack.specs.Standing.{IsStack, IsKept}
+use Rattle.exstack.specs.Standing.{IsStack, IsKeptStack}
 use Rattle.exstack.specs.Agreement.{AgreesIn}
-use Rattle.exstack.specs.Parts.{part_of}
+use Rattle.exstack.specs.Parts.{stack_part}
 use Rattle.exstack.proofs.Resetting.{reset_agrees, reset_step}
 use Rattle.exstack.proofs.Calls.{reset_kept}
 use Rattle.exstack.proofs.exstack.Exstack.reset.Goals as goal
@@ -23,9 +23,9 @@ invariant_of-self g c =
       popped = c.self.inside.popped;
     } in
     let all : st.stage ≡ AllDone = ap (λ (t : Stack). t.stage) c.self.view_is ∙ c.requires.all_done in
-    let k : IsKept g.row.CAP (after_reset st) c.self.inside.from = reset_kept g.row.CAP st c.self.inside.from c.self.invariant all in
-    subst (λ outs. IsKept g.row.CAP (record (after_reset st) { outs = outs; ins = c.resume_all.new.links.items }) c.self.inside.from) (sym c.reopen_all.ensures)
-    (subst (λ ins. IsKept g.row.CAP (record (after_reset st) { ins = ins }) c.self.inside.from) (sym c.resume_all.ensures) k)
+    let k : IsKeptStack g.row.CAP (after_reset st) c.self.inside.from = reset_kept g.row.CAP st c.self.inside.from c.self.invariant all in
+    subst (λ outs. IsKeptStack g.row.CAP (record (after_reset st) { outs = outs; ins = c.resume_all.new.links.items }) c.self.inside.from) (sym c.reopen_all.ensures)
+    (subst (λ ins. IsKeptStack g.row.CAP (record (after_reset st) { ins = ins }) c.self.inside.from) (sym c.resume_all.ensures) k)
 
 pub returns-clause-kept : goal.returns-clause-kept
 returns-clause-kept g c =
@@ -61,4 +61,4 @@ returns-clause-step g c =
     let is : record (after_reset st) { outs = c.reopen_all.new.links.items; ins = c.resume_all.new.links.items } ≡ after_reset now =
     (λ k. record (after_reset st) { outs = c.reopen_all.ensures k; ins = c.resume_all.ensures k }) ∙ ap after_reset c.self.view_is in
     let s : IsStack g.row.CAP c.args.self.now = subst (IsStack g.row.CAP) c.self.view_is c.self.invariant.standing in
-    λ n sent got a. subst (λ (t : Stack). IsOwnStep Reset (part_of now sent got) (part_of t sent got)) (sym is) (reset_step g.row.CAP n now sent got s c.requires.all_done a)
+    λ n sent got a. subst (λ (t : Stack). IsOwnStep Reset (stack_part now sent got) (stack_part t sent got)) (sym is) (reset_step g.row.CAP n now sent got s c.requires.all_done a)

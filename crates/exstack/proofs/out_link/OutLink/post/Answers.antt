@@ -1,7 +1,7 @@
 use Rattle.std.proofs.Common.{◌≡◌, rules, ap, sym, subst, ◌∙◌, Ok}
 use Rattle.std.specs.List.{All}
 use Rattle.bale_items.specs.declared.item.Entry.{Entry}
-use Rattle.item_buffer.specs.Contents.{shipped}
+use Rattle.item_buffer.specs.Contents.{as_shipped}
 use Rattle.port_bank.specs.Logs.{Logs}
 use Rattle.port_bank.specs.Relay.{RelayLaw}
 use Rattle.exstack.specs.Links.{no_tag}
@@ -20,7 +20,7 @@ post-requires g c =
             search rules,
             (
               search rules,
-              plain_law _ _ _ _ _ (shipped c.set_last.new.self) c.requires.grid c.requires.one_hop c.requires.link (subst (All (λ (e : Entry). e.tag ≡ no_tag)) (sym same) c.self.invariant.1) c.requires.law,
+              plain_law _ _ _ _ _ (as_shipped c.set_last.new.self) c.requires.grid c.requires.one_hop c.requires.link (subst (All (λ (e : Entry). e.tag ≡ no_tag)) (sym same) c.self.invariant.1) c.requires.law,
             ),
           ),
         ),
@@ -30,5 +30,5 @@ post-requires g c =
 pub returns-in-Ok-Sent-clause-law : goal.returns-in-Ok-Sent-clause-law
 returns-in-Ok-Sent-clause-law g c =
     let same : c.set_last.new.self.untaken ≡ c.self.inside.parcel.untaken = ap (λ p. p.untaken) c.set_last.ensures ∙ ap (λ p. p.untaken) c.set_epoch.ensures in
-    let law = plain_law _ _ _ _ _ (shipped c.set_last.new.self) c.requires.grid c.requires.one_hop c.requires.link (subst (All (λ (e : Entry). e.tag ≡ no_tag)) (sym same) c.self.invariant.1) c.requires.law in
+    let law = plain_law _ _ _ _ _ (as_shipped c.set_last.new.self) c.requires.grid c.requires.one_hop c.requires.link (subst (All (λ (e : Entry). e.tag ≡ no_tag)) (sym same) c.self.invariant.1) c.requires.law in
     subst (λ (logs : Logs). RelayLaw (g.P.Port.dims c.args.port.now) (g.P.Port.rank c.args.port.now) logs (g.P.Port.got c.args.port.now)) (sym (c.post.ensures.sent (c.in-Ok-Sent.is ∙ ap Ok c.in-Ok-Sent.field-0-is))) law

@@ -2,7 +2,7 @@ use Rattle.std.proofs.Common.{◌<◌, ◌/◌, [], pos, All, length, sym, ap, �
 use Rattle.std.proofs.lemmas.List.{length-map}
 use Rattle.std.proofs.lemmas.List.Elements.{All-replicate}
 use Rattle.least_walks.specs.declared.table.Span.{Span}
-use Rattle.least_walks.specs.code.Spans.{in_span, lists_of, IsWithin}
+use Rattle.least_walks.specs.code.Spans.{in_span, lists_of, IsSpanWithin}
 use Rattle.least_walks.proofs.Rows.{table_none, table_more, table_len}
 use Rattle.least_walks.proofs.Spans.{none_of}
 use Rattle.least_walks.proofs.table.Table.of.Goals as goal
@@ -15,7 +15,7 @@ loop-t-init c =
     record {
       lists = ap (λ es. lists_of es c.in_ok-spans.spans.items) c.in_ok-edges.ensures.items ∙ ap (λ ss. lists_of [] ss) made ∙ none_of c.args.places
           ∙ sym (table_none c.args.ranks c.args.places c.args.low c.args.high);
-      within = subst (λ ss. All (IsWithin edges) ss) (sym made) (All-replicate (IsWithin edges) c.args.places nothing ((omega arith), (omega arith)));
+      within = subst (λ ss. All (IsSpanWithin edges) ss) (sym made) (All-replicate (IsSpanWithin edges) c.args.places nothing ((omega arith), (omega arith)));
     }
 
 pub keep-requires-clause-inside : goal.keep-requires-clause-inside

@@ -1,8 +1,8 @@
 use Rattle.std.proofs.Common.{arith, ◌≡◌, ◌+◌, ◌<◌, ℕ, List, set, get_or, sym, ap, subst, ◌∙◌, length, map}
-use Rattle.item_buffer.specs.Contents.{Contents, shipped, blank}
+use Rattle.item_buffer.specs.Contents.{Contents, as_shipped, blank}
 use Rattle.route_tensor.specs.Link.{links}
 use Rattle.route_tensor.specs.Ends.{hop_at, sender_at, reader_at}
-use Rattle.port_bank.specs.Logs.{lasts, added}
+use Rattle.port_bank.specs.Logs.{lasts, with_parcel}
 use Rattle.link_slots.specs.declared.seat.ends.InEnd.{InEnd}
 use Rattle.link_slots.specs.declared.seat.ear.Ear.{Ear}
 use Rattle.link_slots.specs.declared.table.wire.Wire.{Wire}
@@ -11,11 +11,11 @@ use Rattle.link_slots.specs.Doorbell.{LookedFor}
 use Rattle.link_slots.specs.Logs.{InLog, Lists, in_of, got_of, listens}
 use Rattle.link_slots.specs.View.{own_logs}
 use Rattle.link_slots.specs.Shape.{Shape, MayFollow}
-use Rattle.link_slots.specs.Told.{IsManned}
-use Rattle.list_laws.specs.Counts.{counted}
+use Rattle.link_slots.specs.WordSteps.{IsManned}
+use Rattle.list_laws.specs.Counts.{saturated_count}
 use Rattle.link_slots.specs.Counts.{IsWire, IsInEnd, IsHeard, AreGood, ElseKept, ended_after}
 use Rattle.link_slots.specs.Seat.{IsSeat}
-use Rattle.link_slots.specs.Seen.{Identity, Manning, collected_from, known, hears_noted, noted_at}
+use Rattle.link_slots.specs.SeatView.{Identity, Manning, collected_from, known_on, hears_noted, noted_at}
 use Rattle.port_bank.specs.Port.{changed}
 use Rattle.link_slots.proofs.Wires.{hop_small}
 use Rattle.link_slots.proofs.Seating.{seat_collected, got_one, got_none, collects_added, collects_same, next_good, ended_case, noted_changed, none_waiting}
@@ -79,7 +79,7 @@ returns-clause-got g c got =
     let mine : reader_at v.shape.dims l ≡ c.self.inside.rank = subst (λ (z : Manning). reader_at z.shape.dims l ≡ z.rank) (sym c.self.view_is) c.requires.ends_here in
     let w = (c.self.invariant.each_in l c.index_mut-end.result.now inside mine).waiting_is in
     collects_added c.bank.inside.board.shared.key v.pick l (own_logs v) (own_logs c.collect_on-answer.new.place.me.0) f.left.others (omega arith) f.seen c.collect_on-answer.new.parcel (f.taken got) (f.parcel got)
-    ∙ ap (λ (z : Manning). added (collected_from z) l (shipped c.collect_on-answer.new.parcel)) c.self.view_is
+    ∙ ap (λ (z : Manning). with_parcel (collected_from z) l (as_shipped c.collect_on-answer.new.parcel)) c.self.view_is
 
 pub returns-clause-not_got : goal.returns-clause-not_got
 returns-clause-not_got g c none =
@@ -106,7 +106,7 @@ returns-clause-noted g c =
     let inside : l < links v.shape.dims = subst (λ (z : Manning). l < links z.shape.dims) (sym c.self.view_is) c.requires.link in
     let x' : Lists Contents = own_logs c.collect_on-answer.new.place.me.0 in
     noted_changed c.self.inside.ins.items l c.collect_on-answer.new.end (own_logs v) x' (let n = s.ins_many in omega arith) c.collect_on-answer.ensures.left.others.look_ins c.collect_on-answer.ensures.noted
-    ∙ ap (λ (z : Manning). changed (noted_at z) l (counted (listens (in_of x' l)))) c.self.view_is
+    ∙ ap (λ (z : Manning). changed (noted_at z) l (saturated_count (listens (in_of x' l)))) c.self.view_is
 
 pub invariant_of-self : goal.invariant_of-self
 invariant_of-self g c =
@@ -119,8 +119,8 @@ invariant_of-self g c =
     let w = (s.each_in l c.index_mut-end.result.now inside mine).waiting_is in
     let m' = c.collect_on-answer.new.place.me in let x : Lists Contents = own_logs v in let x' : Lists Contents = own_logs m'.0 in
     let n : ℕ = get_or c.self.inside.ended.items l 0 in
-    let was : n ≡ counted (lasts (map shipped (got_of x l))) = s.each_ended l 0 inside mine in
-    let now : ended_after c.collect_on-answer.result c.last.result n ≡ counted (lasts (map shipped (got_of x' l))) = ended_case c.collect_on-answer.result (got_of x l) (got_of x' l) c.collect_on-answer.new.parcel c.last.result n
+    let was : n ≡ saturated_count (lasts (map as_shipped (got_of x l))) = s.each_ended l 0 inside mine in
+    let now : ended_after c.collect_on-answer.result c.last.result n ≡ saturated_count (lasts (map as_shipped (got_of x' l))) = ended_case c.collect_on-answer.result (got_of x l) (got_of x' l) c.collect_on-answer.new.parcel c.last.result n
     (λ got. got_one key v.pick l x x' f.left.others (omega arith) f.seen c.collect_on-answer.new.parcel (f.taken got) (f.parcel got)) (λ none. got_none key v.pick l x x' f.left.others (omega arith) f.seen (f.not_taken none)) (sym c.last.ensures) was in
     subst (λ (z : List ℕ). IsSeat g.row.CAP m'.0.shape m' c.self.inside.rank c.self.inside.outs.items (set c.self.inside.ins.items l c.collect_on-answer.new.end) (set c.self.inside.ears c.index-wire.result.now.hop c.collect_on-answer.new.ear) z) (sym c.note_last.ensures)
     (seat_collected g.row.CAP v.shape c.self.inside.place.me m' c.self.inside.rank l c.self.inside.outs.items c.self.inside.ins.items c.self.inside.ears c.self.inside.ended.items s
@@ -143,6 +143,6 @@ returns-clause-looked_for g c all =
     let inside : l < links v.shape.dims = subst (λ (z : Manning). l < links z.shape.dims) (sym c.self.view_is) c.requires.link in
     let mine : reader_at v.shape.dims l ≡ c.self.inside.rank = subst (λ (z : Manning). reader_at z.shape.dims l ≡ z.rank) (sym c.self.view_is) c.requires.ends_here in
     let is : end ≡ get_or c.self.inside.ins.items l end = c.index_mut-end.ensures.value in
-    let none : end.waiting ≡ 0 = ap (λ (i : InEnd). i.waiting) is ∙ none_waiting (in_of (own_logs v) l) (get_or c.self.inside.ins.items l end).waiting (c.self.invariant.each_in l end inside mine).waiting_is (subst (λ (z : Manning). length (collected_from z l) ≡ known z l) (sym c.self.view_is) all) in
+    let none : end.waiting ≡ 0 = ap (λ (i : InEnd). i.waiting) is ∙ none_waiting (in_of (own_logs v) l) (get_or c.self.inside.ins.items l end).waiting (c.self.invariant.each_in l end inside mine).waiting_is (subst (λ (z : Manning). length (collected_from z l) ≡ known_on z l) (sym c.self.view_is) all) in
     let noted : end.noted ≡ hears_noted c.args.self.now l = ap (λ (i : InEnd). i.noted) is ∙ sym (get_or-map (λ (i : InEnd). i.noted) c.self.inside.ins.items l end 0 (let n = c.self.invariant.ins_many in omega arith)) ∙ ap (λ (z : Manning). hears_noted z l) c.self.view_is in
     subst (λ (z : ℕ × InLog Contents). LookedFor z.0 z.1 (in_of (own_logs c.collect_on-answer.new.place.me.0) l)) (λ k. (noted k, (in_of (c.self.view_is k).lists l))) (c.collect_on-answer.ensures.looked none)

@@ -1,17 +1,17 @@
 use Rattle.std.proofs.Common.{arith, ◌≡◌, ◌<◌, ◌≤◌, ℕ, sym, ap, subst, ◌∙◌, length, map}
-use Rattle.item_buffer.specs.Contents.{shipped}
+use Rattle.item_buffer.specs.Contents.{as_shipped}
 use Rattle.route_tensor.specs.Link.{links}
 use Rattle.route_tensor.specs.Ends.{sender_at}
-use Rattle.port_bank.specs.Logs.{lasts, added}
+use Rattle.port_bank.specs.Logs.{lasts, with_parcel}
 use Rattle.port_bank.specs.Relay.{RelayLaw}
 use Rattle.link_slots.specs.declared.seat.ends.OutEnd.{OutEnd}
 use Rattle.link_slots.specs.declared.table.wire.Wire.{Wire}
 use Rattle.link_slots.specs.Logs.{out_of, with_out, sent_of, got_of, sent_more}
 use Rattle.link_slots.specs.View.{own_logs}
 use Rattle.link_slots.specs.Shape.{Shape, MayFollow, KeepsLaw, shipped_all}
-use Rattle.link_slots.specs.Told.{IsManned}
+use Rattle.link_slots.specs.WordSteps.{IsManned}
 use Rattle.link_slots.specs.Counts.{IsWire, IsOutEnd, HasPosted}
-use Rattle.link_slots.specs.Seen.{Identity, Manning, posted_on, collected_from}
+use Rattle.link_slots.specs.SeatView.{Identity, Manning, posted_on, collected_from}
 use Rattle.link_slots.proofs.Seating.{law_for, may_follow, seat_posted}
 use Rattle.link_slots.proofs.seat.SlotSeat.post.Goals as goal
 
@@ -22,9 +22,9 @@ post_on-answer-requires g c =
     let e : v.shape ≡ key = ap (λ (z : Manning). z.shape) c.self.view_is ∙ (c.requires.bank.1 ∙ sym (ap (λ (z : Identity). z.shape) c.bank.view_is)) in
     let inside : l < links v.shape.dims = subst (λ (z : Manning). l < links z.shape.dims) (sym c.self.view_is) c.requires.link in
     let mine : sender_at v.shape.dims l ≡ c.self.inside.rank = subst (λ (z : Manning). sender_at z.shape.dims l ≡ z.rank) (sym c.self.view_is) c.requires.starts_here in
-    let law : RelayLaw v.shape.dims c.self.inside.rank (added (shipped_all (sent_of (own_logs v))) l (shipped c.args.parcel.now)) (shipped_all (got_of (own_logs v))) =
-    subst (λ (z : Manning). RelayLaw z.shape.dims z.rank (added (posted_on z) l (shipped c.args.parcel.now)) (collected_from z)) (sym c.self.view_is) c.requires.law in
-    let epoch : c.args.parcel.now.epoch ≡ lasts (map shipped (sent_of (own_logs v) l)) = subst (λ (z : Manning). c.args.parcel.now.epoch ≡ lasts (posted_on z l)) (sym c.self.view_is) c.requires.epoch in
+    let law : RelayLaw v.shape.dims c.self.inside.rank (with_parcel (shipped_all (sent_of (own_logs v))) l (as_shipped c.args.parcel.now)) (shipped_all (got_of (own_logs v))) =
+    subst (λ (z : Manning). RelayLaw z.shape.dims z.rank (with_parcel (posted_on z) l (as_shipped c.args.parcel.now)) (collected_from z)) (sym c.self.view_is) c.requires.law in
+    let epoch : c.args.parcel.now.epoch ≡ lasts (map as_shipped (sent_of (own_logs v) l)) = subst (λ (z : Manning). c.args.parcel.now.epoch ≡ lasts (posted_on z l)) (sym c.self.view_is) c.requires.epoch in
     let long : l < length (own_logs v).outs = (let n = s.lists_out in omega arith) in
     let end : OutEnd = c.index_mut-end.result.now in
     let counts : IsOutEnd v.shape.slots (out_of (own_logs v) l) end.sent end.spare =

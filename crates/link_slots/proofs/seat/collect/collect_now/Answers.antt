@@ -1,12 +1,12 @@
-use Rattle.port_bank.specs.Flow.{Begins}
+use Rattle.port_bank.specs.Flow.{IsPrefix}
 use Rattle.std.proofs.Common.{arith, ◌≡◌, ◌+◌, ◌-◌, ◌<◌, ◌^◌, ℕ, suc, refl, sym, ap, subst, ◌∙◌, length, min, false, eqb}
 use Rattle.item_buffer.specs.Contents.{Contents}
 use Rattle.route_tensor.specs.Ends.{hop_at}
 use Rattle.link_slots.specs.Logs.{InLog, Lists, out_of, in_of, with_in, taken_more}
 use Rattle.link_slots.specs.View.{own_logs, with_logs, Speaks}
 use Rattle.link_slots.specs.Shape.{Shape, wiring}
-use Rattle.link_slots.specs.Told.{Knowing}
-use Rattle.list_laws.specs.Counts.{counted}
+use Rattle.link_slots.specs.WordSteps.{Knowing}
+use Rattle.list_laws.specs.Counts.{saturated_count}
 use Rattle.link_slots.specs.Counts.{IsInEnd, IsHeard, ElseKept}
 use Rattle.link_slots.specs.Doorbell.{is_due, HeardWhere}
 use Rattle.link_slots.proofs.Moves.{own_with, in_here, in_there, in_same}
@@ -33,12 +33,12 @@ returns-clause-left g c =
           let a = at v2 v3 l c.receive.ensures.released f.left.stays.seat.speaks (let w = f.left.others.long in let u = c.requires.reads.long in let h = c.requires.reads.at.below in omega arith) in
           let k : ℕ = c.find_parcel.new.end.waiting - 1 in
           let more : c.find_parcel.new.end.waiting ≡ suc k = (let n = c.if-find_parcel-eq0.false in let w = c.find_parcel.ensures.waiting in omega arith) in
-          let hs : c.find_parcel.new.ear.hears ≡ counted i2.hears = f.left.ear.heard l c.requires.reads.at.below c.requires.reads.at.own refl in
+          let hs : c.find_parcel.new.ear.hears ≡ saturated_count i2.hears = f.left.ear.heard l c.requires.reads.at.below c.requires.reads.at.own refl in
           end_taken key.slots i2 (in_of (own_logs v3) l) c.find_parcel.new.end.taken k c.find_parcel.new.end.noted _ _
           (subst (λ (z : ℕ). IsInEnd key.slots i2 c.find_parcel.new.end.taken z c.find_parcel.new.end.noted) more f.left.end)
           (ap (λ (z : InLog Contents). z.seen) a) (ap (λ (z : InLog Contents). z.taken) a)
           refl
-          (hs ∙ sym (ap (λ (z : InLog Contents). counted z.hears) a)));
+          (hs ∙ sym (ap (λ (z : InLog Contents). saturated_count z.hears) a)));
       ear = (let key : Shape = c.args.top.now.key in let f = c.find_parcel.ensures in let v : Knowing = c.args.place.now.me.0 in let v2 : Knowing = c.find_parcel.new.place.me.0 in let v3 : Knowing = c.receive.new.place.me.0 in let l : ℕ = c.args.link in
           let i : InLog Contents = taken_more (in_of (own_logs v2) l) (in_of (own_logs v3) l).released_at in
           let o = own v2 v3 l c.receive.ensures.released f.left.stays.seat.speaks in
@@ -68,7 +68,7 @@ returns-clause-own g c _ from =
     let o = own v2 v3 l c.receive.ensures.released f.left.stays.seat.speaks in
     let a = at v2 v3 l c.receive.ensures.released f.left.stays.seat.speaks (let w = f.left.others.long in let u = c.requires.reads.long in let h = c.requires.reads.at.below in omega arith) in
     let p : v2.pick ≡ c.args.place.now.me.0.pick = ap (λ (z : Knowing). z.pick) f.left.here in
-    subst (λ (z : InLog Contents × Lists Contents). Begins z.0.seen (out_of z.1 l).sent) (λ k. (sym a k, sym o k)) (c.receive.ensures.own (from ∙ sym p))
+    subst (λ (z : InLog Contents × Lists Contents). IsPrefix z.0.seen (out_of z.1 l).sent) (λ k. (sym a k, sym o k)) (c.receive.ensures.own (from ∙ sym p))
 
 pub returns-clause-no_looking : goal.returns-clause-no_looking
 returns-clause-no_looking g c some =
@@ -92,5 +92,5 @@ returns-clause-noted g c =
     let f = c.find_parcel.ensures in let v2 : Knowing = c.find_parcel.new.place.me.0 in let v3 : Knowing = c.receive.new.place.me.0 in let l : ℕ = c.args.link in
     let i2 : InLog Contents = in_of (own_logs v2) l in
     let a = at v2 v3 l c.receive.ensures.released f.left.stays.seat.speaks (let w = f.left.others.long in let u = c.requires.reads.long in let h = c.requires.reads.at.below in omega arith) in
-    let hs : c.find_parcel.new.ear.hears ≡ counted i2.hears = f.left.ear.heard l c.requires.reads.at.below c.requires.reads.at.own refl in
-    hs ∙ sym (ap (λ (z : InLog Contents). counted z.hears) a)
+    let hs : c.find_parcel.new.ear.hears ≡ saturated_count i2.hears = f.left.ear.heard l c.requires.reads.at.below c.requires.reads.at.own refl in
+    hs ∙ sym (ap (λ (z : InLog Contents). saturated_count z.hears) a)

@@ -1,12 +1,12 @@
-use Rattle.port_bank.specs.Flow.{Begins}
+use Rattle.port_bank.specs.Flow.{IsPrefix}
 use Rattle.std.proofs.Common.{arith, ◌≡◌, ◌+◌, ◌-◌, ◌<◌, ◌^◌, ℕ, suc, refl, sym, ap, subst, ◌∙◌, length, min, false, eqb}
 use Rattle.item_buffer.specs.Contents.{Contents}
 use Rattle.route_tensor.specs.Ends.{hop_at}
 use Rattle.link_slots.specs.Logs.{InLog, Lists, out_of, in_of, with_in, taken_more}
 use Rattle.link_slots.specs.View.{own_logs, with_logs, Speaks}
 use Rattle.link_slots.specs.Shape.{Shape, wiring}
-use Rattle.link_slots.specs.Told.{Knowing}
-use Rattle.list_laws.specs.Counts.{counted}
+use Rattle.link_slots.specs.WordSteps.{Knowing}
+use Rattle.list_laws.specs.Counts.{saturated_count}
 use Rattle.link_slots.specs.Counts.{IsInEnd, IsHeard, ElseKept}
 use Rattle.link_slots.specs.Doorbell.{is_due, HeardWhere}
 use Rattle.link_slots.proofs.Moves.{own_with, in_here, in_there, in_same}
@@ -24,7 +24,7 @@ returns-then-ear-end-clause-unmarked g c _ =
 pub returns-then-ear-end-clause-looked : goal.returns-then-ear-end-clause-looked
 returns-then-ear-end-clause-looked g c _ =
     let i : InLog Contents = in_of (own_logs c.args.place.now.me.0) c.args.link in
-    let hs : c.args.ear.now.hears ≡ counted i.hears = c.requires.reads.ear.heard c.args.link c.requires.reads.at.below c.requires.reads.at.own refl in
+    let hs : c.args.ear.now.hears ≡ saturated_count i.hears = c.requires.reads.ear.heard c.args.link c.requires.reads.at.below c.requires.reads.at.own refl in
     let none = bit_unset c.args.ear.now.marks ((wiring c.args.top.now.key).bit c.args.link) c.args.wire.now.mask c.requires.reads.wire.mask_is c.if-ear-wire-eq0.true in
     let unmarked : i.marked ≡ false = c.requires.reads.ear.marked c.args.link c.requires.reads.at.below c.requires.reads.at.own refl ∙ ap (λ (z : ℕ). eqb z 1) none in
     looked_for c.args.end.now.noted i i i i.seen

@@ -4,7 +4,7 @@ use Rattle.item_buffer.specs.Contents.{Contents}
 use Rattle.link_slots.specs.Logs.{InLog, Lists, in_of}
 use Rattle.link_slots.specs.View.{own_logs, with_logs}
 use Rattle.link_slots.specs.Shape.{Shape}
-use Rattle.link_slots.specs.Told.{Knowing}
+use Rattle.link_slots.specs.WordSteps.{Knowing}
 use Rattle.link_slots.specs.Counts.{IsHeard, ElseKept}
 use Rattle.link_slots.specs.Doorbell.{is_due, HeardWhere, looked_where_marked}
 use Rattle.link_slots.proofs.Moves.{in_here, in_there}

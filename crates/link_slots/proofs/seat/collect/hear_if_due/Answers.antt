@@ -7,10 +7,10 @@ use Rattle.route_tensor.specs.Link.{links}
 use Rattle.route_tensor.specs.Ends.{hop_at, reader_at}
 use Rattle.link_slots.specs.Logs.{InLog, Lists, in_of, listens}
 use Rattle.link_slots.specs.View.{own_logs, with_logs, Speaks}
-use Rattle.link_slots.specs.Plays.{after_hear, heard_by}
+use Rattle.link_slots.specs.StepEffects.{after_hear, heard_by}
 use Rattle.link_slots.specs.Shape.{Shape, IsShape, wiring}
-use Rattle.link_slots.specs.Told.{Knowing}
-use Rattle.list_laws.specs.Counts.{counted}
+use Rattle.link_slots.specs.WordSteps.{Knowing}
+use Rattle.list_laws.specs.Counts.{saturated_count}
 use Rattle.link_slots.specs.Counts.{IsHeard, ElseKept, noted_by}
 use Rattle.link_slots.specs.Doorbell.{is_due}
 use Rattle.link_slots.proofs.Moves.{own_with}
@@ -66,9 +66,9 @@ returns-then-ear-end-clause-due g c _ =
     let i : InLog Contents = in_of (own_logs c.args.place.now.me.0) c.args.link in
     let a = at c.args.place.now.me.0 c.hear.new.place.me.0 c.args.top.now.key c.requires.reads.at.board.shape c.args.link c.hear.result c.hear.ensures.heard c.requires.reads.at.manned.speaks c.requires.reads.at.below c.requires.reads.at.own c.requires.reads.long in
     let e : suc (listens i) ≡ listens (in_of (own_logs c.hear.new.place.me.0) c.args.link) = (let h = ap (λ (i : InLog Contents). i.hears) a in let k = ap (λ (i : InLog Contents). i.look_ins) a in omega arith) in
-    let hs : c.args.ear.now.hears ≡ counted i.hears = c.requires.reads.ear.heard c.args.link c.requires.reads.at.below c.requires.reads.at.own refl in
+    let hs : c.args.ear.now.hears ≡ saturated_count i.hears = c.requires.reads.ear.heard c.args.link c.requires.reads.at.below c.requires.reads.at.own refl in
     let low = c.requires.reads.end.noted_before in
-    subst (λ (z : ℕ). RoseOrFull (noted_by c.args.end.now.noted i) (counted z)) e (rises c.args.end.now.noted i low)
+    subst (λ (z : ℕ). RoseOrFull (noted_by c.args.end.now.noted i) (saturated_count z)) e (rises c.args.end.now.noted i low)
 
 pub returns-then-ear-end-clause-heard : goal.returns-then-ear-end-clause-heard
 returns-then-ear-end-clause-heard g c m inside mine hop =
@@ -76,7 +76,7 @@ returns-then-ear-end-clause-heard g c m inside mine hop =
     let i : InLog Contents = in_of x l in
     let none = bit_unset c.args.ear.now.marks ((wiring key).bit l) c.args.wire.now.mask c.requires.reads.wire.mask_is c.if-ear-wire-eq0.true in
     let unmarked : i.marked ≡ false = c.requires.reads.ear.marked l c.requires.reads.at.below c.requires.reads.at.own refl ∙ ap (λ (z : ℕ). eqb z 1) none in
-    let hs : c.args.ear.now.hears ≡ counted i.hears = c.requires.reads.ear.heard l c.requires.reads.at.below c.requires.reads.at.own refl in
+    let hs : c.args.ear.now.hears ≡ saturated_count i.hears = c.requires.reads.ear.heard l c.requires.reads.at.below c.requires.reads.at.own refl in
     let o = own c.args.place.now.me.0 c.hear.new.place.me.0 key c.requires.reads.at.board.shape l c.hear.result c.hear.ensures.heard c.requires.reads.at.manned.speaks c.requires.reads.at.below c.requires.reads.at.own c.requires.reads.long in
     heard_where (in_of x m) (in_of (own_logs c.hear.new.place.me.0) m) (bit_at c.hear.result ((wiring key).bit m)) (is_due c.args.end.now.noted i)
     (due c.args.end.now.noted i unmarked (let t = c.if-ear-end.true in omega arith))
@@ -86,7 +86,7 @@ returns-then-ear-end-clause-heard g c m inside mine hop =
 pub returns-else-ear-wire-eq0-clause-due : goal.returns-else-ear-wire-eq0-clause-due
 returns-else-ear-wire-eq0-clause-due g c unmarked =
     let i : InLog Contents = in_of (own_logs c.args.place.now.me.0) c.args.link in
-    let hs : c.args.ear.now.hears ≡ counted i.hears = c.requires.reads.ear.heard c.args.link c.requires.reads.at.below c.requires.reads.at.own refl in
+    let hs : c.args.ear.now.hears ≡ saturated_count i.hears = c.requires.reads.ear.heard c.args.link c.requires.reads.at.below c.requires.reads.at.own refl in
     elim c.else-ear-wire-eq0.branch [
       | else-ear-wire-eq0-via-then-ear-wire-eq0+else-ear-end w ↦ rose c.args.end.now.noted i (let t = w.if-ear-end.false in omega arith)
       | else-ear-wire-eq0-via-else-ear-wire-eq0 w ↦
@@ -99,7 +99,7 @@ returns-else-ear-wire-eq0-clause-due g c unmarked =
 pub returns-else-ear-wire-eq0-clause-heard : goal.returns-else-ear-wire-eq0-clause-heard
 returns-else-ear-wire-eq0-clause-heard g c m inside mine hop =
     let i : InLog Contents = in_of (own_logs c.args.place.now.me.0) c.args.link in
-    let hs : c.args.ear.now.hears ≡ counted i.hears = c.requires.reads.ear.heard c.args.link c.requires.reads.at.below c.requires.reads.at.own refl in
+    let hs : c.args.ear.now.hears ≡ saturated_count i.hears = c.requires.reads.ear.heard c.args.link c.requires.reads.at.below c.requires.reads.at.own refl in
     heard_nowhere (in_of (own_logs c.args.place.now.me.0) m) (in_of (own_logs c.args.place.now.me.0) m) (is_due c.args.end.now.noted i)
     (elim c.else-ear-wire-eq0.branch [
       | else-ear-wire-eq0-via-then-ear-wire-eq0+else-ear-end w ↦ not_due_heard c.args.end.now.noted i (let t = w.if-ear-end.false in omega arith)

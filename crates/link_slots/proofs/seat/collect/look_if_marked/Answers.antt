@@ -5,8 +5,8 @@ use Rattle.route_tensor.specs.Ends.{hop_at}
 use Rattle.link_slots.specs.Logs.{InLog, Lists, in_of, with_in}
 use Rattle.link_slots.specs.View.{own_logs, with_logs}
 use Rattle.link_slots.specs.Shape.{Shape, wiring}
-use Rattle.link_slots.specs.Told.{Knowing}
-use Rattle.list_laws.specs.Counts.{counted}
+use Rattle.link_slots.specs.WordSteps.{Knowing}
+use Rattle.list_laws.specs.Counts.{saturated_count}
 use Rattle.link_slots.specs.Counts.{IsInEnd, IsHeard, ElseKept}
 use Rattle.link_slots.proofs.Moves.{own_with}
 use Rattle.link_slots.proofs.Manning.{in_after, same_in}

@@ -3,7 +3,7 @@ use Rattle.item_buffer.specs.Contents.{Contents}
 use Rattle.link_slots.specs.Logs.{OutLog, out_of, sent_more, all_offered}
 use Rattle.link_slots.specs.View.{own_logs}
 use Rattle.link_slots.specs.Shape.{Shape, MayFollow}
-use Rattle.link_slots.specs.Told.{Knowing}
+use Rattle.link_slots.specs.WordSteps.{Knowing}
 use Rattle.link_slots.specs.Counts.{IsOutEnd}
 use Rattle.link_slots.proofs.Manning.{out_after, speaks_after, long_after, then_out, out_itself, law_after}
 use Rattle.link_slots.proofs.Counting.{end_posted}

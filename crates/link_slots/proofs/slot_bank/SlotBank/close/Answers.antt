@@ -3,11 +3,11 @@ use Rattle.item_buffer.specs.Contents.{Contents}
 use Rattle.port_bank.specs.Logs.{starting_at, ending_at}
 use Rattle.port_bank.specs.Round.{Round, IsRound, logs_of}
 use Rattle.link_slots.specs.Logs.{Lists}
-use Rattle.link_slots.specs.Own.{IsOwn}
+use Rattle.link_slots.specs.OwnLinks.{IsOwn}
 use Rattle.link_slots.specs.Shape.{Shape}
-use Rattle.link_slots.specs.Seen.{Identity}
+use Rattle.link_slots.specs.SeatView.{Identity}
 use Rattle.link_slots.specs.Gathering.{Gathering}
-use Rattle.link_slots.specs.Closed.{slot_round, lists_of, AllThere, IsEnding}
+use Rattle.link_slots.specs.ClosedBank.{slot_round, first_lists, AllThere, IsEnding}
 use Rattle.link_slots.proofs.Settling.{sent_there, got_there}
 use Rattle.link_slots.proofs.slot_bank.SlotBank.close.Goals as goal
 
@@ -21,9 +21,9 @@ pub returns-clause-in_order : goal.returns-clause-in_order
 returns-clause-in_order g c =
     let key : Shape = c.self.inside.board.shared.key in
     let shape : record { dims = c.self.inside.grid; slots = c.self.inside.slots } ≡ key = λ k. record { dims = c.self.invariant.grid_is k; slots = c.self.invariant.slots_is k } in
-    let kept : lists_of c.of-last.result.value.views ≡ lists_of c.into_badge-badge.result.views = ap (λ z. lists_of z.views) c.of-last.ensures in
-    let back : lists_of c.into_badge-badge.result.views ≡ c.into_seat.result.me.0.lists = ap lists_of c.into_seat.ensures.2 in
-    let was : lists_of c.into_badge-badge.result.views ≡ c.g.inside.place.me.0.lists = ap lists_of c.into_badge-badge.ensures.2 in
+    let kept : first_lists c.of-last.result.value.views ≡ first_lists c.into_badge-badge.result.views = ap (λ z. first_lists z.views) c.of-last.ensures in
+    let back : first_lists c.into_badge-badge.result.views ≡ c.into_seat.result.me.0.lists = ap first_lists c.into_seat.ensures.2 in
+    let was : first_lists c.into_badge-badge.result.views ≡ c.g.inside.place.me.0.lists = ap first_lists c.into_badge-badge.ensures.2 in
     let there : AllThere key c.into_seat.result.me.0.lists = subst (λ (z : Shape × AllLists). AllThere z.0 z.1)
     (λ k. (sym (ap (λ (z : Identity). z.shape) c.self.view_is) k, (sym (ap (λ (z : Gathering). z.lists) c.g.view_is) ∙ sym was ∙ back) k)) c.requires.all_there in
     subst (λ (z : Shape × AllLists). IsRound (slot_round z.0 g.row.CAP z.1)) (λ k. (sym shape k, sym (kept ∙ back) k)) (c.close_table.ensures there)
@@ -32,9 +32,9 @@ pub invariant_of-result : goal.invariant_of-result
 invariant_of-result g c =
     let key : Shape = c.self.inside.board.shared.key in
     let shape : record { dims = c.self.inside.grid; slots = c.self.inside.slots } ≡ key = λ k. record { dims = c.self.invariant.grid_is k; slots = c.self.invariant.slots_is k } in
-    let kept : lists_of c.of-last.result.value.views ≡ lists_of c.into_badge-badge.result.views = ap (λ z. lists_of z.views) c.of-last.ensures in
-    let back : lists_of c.into_badge-badge.result.views ≡ c.into_seat.result.me.0.lists = ap lists_of c.into_seat.ensures.2 in
-    let was : lists_of c.into_badge-badge.result.views ≡ c.g.inside.place.me.0.lists = ap lists_of c.into_badge-badge.ensures.2 in
+    let kept : first_lists c.of-last.result.value.views ≡ first_lists c.into_badge-badge.result.views = ap (λ z. first_lists z.views) c.of-last.ensures in
+    let back : first_lists c.into_badge-badge.result.views ≡ c.into_seat.result.me.0.lists = ap first_lists c.into_seat.ensures.2 in
+    let was : first_lists c.into_badge-badge.result.views ≡ c.g.inside.place.me.0.lists = ap first_lists c.into_badge-badge.ensures.2 in
     let same : c.g.inside.place.me.0.shape ≡ key = ap (λ (z : Gathering). z.shape) c.g.view_is ∙ c.requires.bank.1 ∙ sym (ap (λ (z : Identity). z.shape) c.self.view_is) in
     let there : AllThere key c.into_seat.result.me.0.lists = subst (λ (z : Shape × AllLists). AllThere z.0 z.1)
     (λ k. (sym (ap (λ (z : Identity). z.shape) c.self.view_is) k, (sym (ap (λ (z : Gathering). z.lists) c.g.view_is) ∙ sym was ∙ back) k)) c.requires.all_there in
@@ -47,8 +47,8 @@ invariant_of-result g c =
 pub returns-clause-round : goal.returns-clause-round
 returns-clause-round g c =
     let shape : record { dims = c.self.inside.grid; slots = c.self.inside.slots } ≡ c.self.inside.board.shared.key = λ k. record { dims = c.self.invariant.grid_is k; slots = c.self.invariant.slots_is k } in
-    let kept : lists_of c.of-last.result.value.views ≡ lists_of c.into_badge-badge.result.views = ap (λ z. lists_of z.views) c.of-last.ensures in
-    let was : lists_of c.into_badge-badge.result.views ≡ c.g.inside.place.me.0.lists = ap lists_of c.into_badge-badge.ensures.2 in
+    let kept : first_lists c.of-last.result.value.views ≡ first_lists c.into_badge-badge.result.views = ap (λ z. first_lists z.views) c.of-last.ensures in
+    let was : first_lists c.into_badge-badge.result.views ≡ c.g.inside.place.me.0.lists = ap first_lists c.into_badge-badge.ensures.2 in
     λ k. slot_round ((shape ∙ ap (λ (z : Identity). z.shape) c.self.view_is) k) g.row.CAP ((kept ∙ was ∙ ap (λ (z : Gathering). z.lists) c.g.view_is) k)
 
 pub returns-clause-sent : goal.returns-clause-sent

@@ -2,7 +2,7 @@ use Rattle.std.proofs.Common.{rules, ◌≡◌, arith, refl, ap, ◌∙◌, sym,
 use Rattle.atomic_table.specs.Table.{Me}
 use Rattle.item_buffer.specs.Contents.{Contents}
 use Rattle.link_slots.specs.Shape.{wiring}
-use Rattle.link_slots.specs.Told.{Knowing, IsManned, heard}
+use Rattle.link_slots.specs.WordSteps.{Knowing, IsManned, heard}
 use Rattle.link_slots.proofs.Manning.{manned_with}
 use Rattle.link_slots.proofs.Tells as tells
 use Rattle.link_slots.proofs.table.steps.hear.Goals as goal

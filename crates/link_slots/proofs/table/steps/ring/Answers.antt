@@ -1,7 +1,7 @@
 use Rattle.std.proofs.Common.{rules, ◌≡◌, arith, ap, ◌∙◌, sym, subst}
 use Rattle.atomic_table.specs.Table.{Me}
 use Rattle.item_buffer.specs.Contents.{Contents}
-use Rattle.link_slots.specs.Told.{Knowing, IsManned, rung}
+use Rattle.link_slots.specs.WordSteps.{Knowing, IsManned, rung}
 use Rattle.link_slots.proofs.Manning.{manned_with}
 use Rattle.link_slots.proofs.Tells as tells
 use Rattle.link_slots.proofs.table.steps.ring.Goals as goal

@@ -6,7 +6,7 @@ use Rattle.link_slots.specs.Logs.{out_of}
 use Rattle.link_slots.specs.View.{own_logs}
 use Rattle.link_slots.specs.Wiring.{slot_of, posted_word}
 use Rattle.link_slots.specs.Shape.{Shape, wiring}
-use Rattle.link_slots.specs.Told.{Knowing, IsLawful, IsManned, posted, post_told}
+use Rattle.link_slots.specs.WordSteps.{Knowing, IsLawful, IsManned, posted, post_told}
 use Rattle.link_slots.proofs.Manning.{manned_with}
 use Rattle.link_slots.proofs.Tells as tells
 use Rattle.link_slots.proofs.table.steps.send.Goals as goal

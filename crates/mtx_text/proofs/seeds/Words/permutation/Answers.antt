@@ -4,7 +4,7 @@ use Rattle.std.proofs.lemmas.List.FromFn.{length-range_with_len}
 use Rattle.std.proofs.lemmas.List.Sorted.{IsPermutation-refl}
 use Rattle.std.proofs.lemmas.Nat.{mod_below}
 use Rattle.mtx_text.specs.Permutations.{Permutes}
-use Rattle.mtx_text.specs.Seeds.{shuffled}
+use Rattle.mtx_text.specs.Seeds.{shuffle_of}
 use Rattle.mtx_text.proofs.Shuffles.{shuffled_step, permutes_swap}
 use Rattle.mtx_text.proofs.seeds.Words.permutation.Goals as goal
 
@@ -16,7 +16,7 @@ loop-i-init c =
     record {
       size = list.ok.0 ∙ ap length e ∙ length-range_with_len 0 n;
       high = omega arith;
-      left = ap (λ ks. shuffled (n - 1) ks c.args.self.now) e;
+      left = ap (λ ks. shuffle_of (n - 1) ks c.args.self.now) e;
       permutes = subst (Permutes n) (sym e) (IsPermutation-refl (range_with_len 0 n));
     }
 
@@ -31,7 +31,7 @@ loop-i-preserved c =
       size = search rules;
       high = omega (arith, c.loop-i.invariant.high);
       left =
-          ap₂ (λ ks s. shuffled (i - 1 - 1) ks s) (e ∙ ap (λ w. swap list.items (i - 1) (w % (i - 1 + 1))) c.draw.ensures.word) c.draw.ensures.state
+          ap₂ (λ ks s. shuffle_of (i - 1 - 1) ks s) (e ∙ ap (λ w. swap list.items (i - 1) (w % (i - 1 + 1))) c.draw.ensures.word) c.draw.ensures.state
           ∙ sym (shuffled_step i list.items c.loop-i.self c.loop-i-test.true)
           ∙ c.loop-i.invariant.left;
       permutes = subst (Permutes c.args.n) (sym e)

@@ -1,8 +1,8 @@
 use Rattle.std.proofs.Common.{sym, subst, arith, ◌<◌, ◌≡◌}
-use Rattle.item_buffer.specs.Contents.{shipped}
+use Rattle.item_buffer.specs.Contents.{as_shipped}
 use Rattle.route_tensor.specs.Link.{links}
 use Rattle.route_tensor.specs.Ends.{sender_at}
-use Rattle.port_bank.specs.Logs.{lasts, added, starting_at, ending_at}
+use Rattle.port_bank.specs.Logs.{lasts, with_parcel, starting_at, ending_at}
 use Rattle.port_bank.specs.Relay.{RelayLaw}
 use Rattle.port_bank.specs.Plain.{Bank, sent_of, got_of}
 use Rattle.port_bank.proofs.Turns.{channel_read, kept_by_post}
@@ -19,8 +19,8 @@ invariant_of-self g c =
       kept_by_post g.row.CAP b l c.index_mut.result.now c.post.new.self c.post.result c.args.p.now c.self.invariant.0 within here
           (omega (arith, c.known.ensures.within))
           (subst (λ (x : Bank). c.args.p.now.epoch ≡ lasts (sent_of x l)) (sym c.self.view_is) c.requires.epoch)
-          (law_of_all b.dims (sender_at b.dims l) (sent_of b) (got_of b) l (shipped c.args.p.now) c.self.invariant.0.grid
-          (subst (λ (x : Bank). RelayLaw x.dims (sender_at x.dims l) (added (starting_at x.dims (sender_at x.dims l) (sent_of x)) l (shipped c.args.p.now)) (ending_at x.dims (sender_at x.dims l) (got_of x)))
+          (law_of_all b.dims (sender_at b.dims l) (sent_of b) (got_of b) l (as_shipped c.args.p.now) c.self.invariant.0.grid
+          (subst (λ (x : Bank). RelayLaw x.dims (sender_at x.dims l) (with_parcel (starting_at x.dims (sender_at x.dims l) (sent_of x)) l (as_shipped c.args.p.now)) (ending_at x.dims (sender_at x.dims l) (got_of x)))
           (sym c.self.view_is) c.requires.law))
           c.post.ensures.does,
       rings_set c.self.inside.links.items c.self.inside.rings.items l c.post.new.self c.post.new.ring c.self.invariant.1 (omega (arith, within, c.self.invariant.0.number)) c.post.ensures.ring,

@@ -1,5 +1,5 @@
 use Rattle.std.proofs.Common.{◌≡◌, ℕ, List, ◌<◌, length, arith, sym, ap, subst}
-use Rattle.item_buffer.specs.Contents.{shipped}
+use Rattle.item_buffer.specs.Contents.{as_shipped}
 use Rattle.route_tensor.specs.Link.{links}
 use Rattle.route_tensor.specs.Ends.{sender_at, reader_at}
 use Rattle.port_bank.specs.Plain.{Bank}
@@ -11,14 +11,14 @@ returns-clause-crowded_here g c =
     let b = c.args.self.now.bank in
     let within : c.args.link < length b.channels = omega (arith, c.requires.link, c.known.ensures.number) in
     crowded_here c.args.self.now.rank b c.collect-answer.new.self c.args.link
-    (collect_turn b c.collect-answer.new.self c.args.link c.collect-answer.result (shipped c.collect-answer.new.p) within c.collect-answer.ensures.does.got c.collect-answer.ensures.does.nothing)
+    (collect_turn b c.collect-answer.new.self c.args.link c.collect-answer.result (as_shipped c.collect-answer.new.p) within c.collect-answer.ensures.does.got c.collect-answer.ensures.does.nothing)
 
 pub returns-clause-idle_here : goal.returns-clause-idle_here
 returns-clause-idle_here g c =
     let b = c.args.self.now.bank in
     let within : c.args.link < length b.channels = omega (arith, c.requires.link, c.known.ensures.number) in
     idle_here c.args.self.now.rank b c.collect-answer.new.self c.args.link
-    (collect_turn b c.collect-answer.new.self c.args.link c.collect-answer.result (shipped c.collect-answer.new.p) within c.collect-answer.ensures.does.got c.collect-answer.ensures.does.nothing)
+    (collect_turn b c.collect-answer.new.self c.args.link c.collect-answer.result (as_shipped c.collect-answer.new.p) within c.collect-answer.ensures.does.got c.collect-answer.ensures.does.nothing)
 
 pub returns-clause-own : goal.returns-clause-own
 returns-clause-own g c = λ is from.
@@ -35,11 +35,11 @@ returns-clause-listens g c =
     let b = c.args.self.now.bank in
     let within : c.args.link < length b.channels = omega (arith, c.requires.link, c.known.ensures.number) in
     none_falls (λ x. x.listens) b c.collect-answer.new.self c.args.link
-    (collect_turn b c.collect-answer.new.self c.args.link c.collect-answer.result (shipped c.collect-answer.new.p) within c.collect-answer.ensures.does.got c.collect-answer.ensures.does.nothing) c.collect-answer.ensures.listens
+    (collect_turn b c.collect-answer.new.self c.args.link c.collect-answer.result (as_shipped c.collect-answer.new.p) within c.collect-answer.ensures.does.got c.collect-answer.ensures.does.nothing) c.collect-answer.ensures.listens
 
 pub returns-clause-looks_in : goal.returns-clause-looks_in
 returns-clause-looks_in g c =
     let b = c.args.self.now.bank in
     let within : c.args.link < length b.channels = omega (arith, c.requires.link, c.known.ensures.number) in
     none_falls (λ x. x.looks_in) b c.collect-answer.new.self c.args.link
-    (collect_turn b c.collect-answer.new.self c.args.link c.collect-answer.result (shipped c.collect-answer.new.p) within c.collect-answer.ensures.does.got c.collect-answer.ensures.does.nothing) c.collect-answer.ensures.looks
+    (collect_turn b c.collect-answer.new.self c.args.link c.collect-answer.result (as_shipped c.collect-answer.new.p) within c.collect-answer.ensures.does.got c.collect-answer.ensures.does.nothing) c.collect-answer.ensures.looks

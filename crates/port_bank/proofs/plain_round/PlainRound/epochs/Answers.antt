@@ -1,7 +1,7 @@
 use Rattle.std.proofs.Common.{◌≡◌, ◌<◌, List, length, map, ap, ◌∙◌, arith}
 use Rattle.std.proofs.lemmas.List.{length-map}
 use Rattle.route_tensor.specs.Link.{links}
-use Rattle.list_laws.specs.Counts.{counted}
+use Rattle.list_laws.specs.Counts.{saturated_count}
 use Rattle.port_bank.specs.Plain.{Channel}
 use Rattle.port_bank.specs.Round.{ended_by_all, epochs_of}
 use Rattle.port_bank.proofs.Closing.{some_links, least_more, least_all}
@@ -22,4 +22,4 @@ returns-clause-value c =
     let same : length (map (λ (x : Channel). x.got) items) ≡ length items = length-map items (λ x. x.got) in
     let read : length c.deref-link-items.result.now ≡ length items = ap length c.deref-link-items.ensures.value in
     least_all c.deref-link-items.result.now c.loop-link.link-index c.loop-link.least (omega arith) c.loop-link-test.false c.loop-link.invariant.some
-    ∙ (ap (λ (xs : List Channel). counted (ended_by_all (map (λ x. x.got) xs))) c.deref-link-items.ensures.value ∙ ap (λ x. counted (epochs_of x)) c.self.view_is)
+    ∙ (ap (λ (xs : List Channel). saturated_count (ended_by_all (map (λ x. x.got) xs))) c.deref-link-items.ensures.value ∙ ap (λ x. saturated_count (epochs_of x)) c.self.view_is)

@@ -1,5 +1,5 @@
 use Rattle.std.proofs.Common.{◌≡◌, ◌<◌, List, [], ◌∷◌, ◌++◌, length, get_or, ◌∙◌, ap, sym, subst, arith}
-use Rattle.item_buffer.specs.Contents.{Contents, Shipped, shipped, arrived, blank}
+use Rattle.item_buffer.specs.Contents.{Contents, Shipped, as_shipped, as_arrived, blank}
 use Rattle.port_bank.specs.Ring.{IsRing}
 use Rattle.port_bank.proofs.Turning.{IsAfter, sent_empty, sent_way, sent_ring}
 use Rattle.port_bank.proofs.ring.Ring.send.Goals as goal
@@ -13,7 +13,7 @@ invariant_of-self-2 g c =
     let read : c.swap.new.y ≡ get_or xs c.place_after-place.result c.swap.new.y = subst (λ z. z ≡ get_or xs c.place_after-place.result z) (sym c.swap.ensures.y_after) c.index_mut.ensures.value in
     sent_ring g.row.CAP c.in_ok-self-inside.field-0 c.self.inside.waiting c.place_after-place.result xs c.swap.new.x c.swap.new.y is room
     (omega (arith, c.place_after-place.ensures.within, count)) (subst (λ n. IsAfter n c.in_ok-self-inside.field-0 c.self.inside.waiting c.place_after-place.result) count c.place_after-place.ensures.round) read
-    (subst (λ (z : Contents). z ≡ arrived (shipped z)) (sym c.swap.ensures.x_after) c.requires.fresh)
+    (subst (λ (z : Contents). z ≡ as_arrived (as_shipped z)) (sym c.swap.ensures.x_after) c.requires.fresh)
 
 pub returns-clause-sent : goal.returns-clause-sent
 returns-clause-sent g c =
@@ -24,7 +24,7 @@ returns-clause-sent g c =
     let read : c.swap.new.y ≡ get_or xs c.place_after-place.result c.swap.new.y = subst (λ z. z ≡ get_or xs c.place_after-place.result z) (sym c.swap.ensures.y_after) c.index_mut.ensures.value in
     sent_way g.row.CAP c.in_ok-self-inside.field-0 c.self.inside.waiting c.place_after-place.result xs c.swap.new.x c.swap.new.y is room
     (omega (arith, c.place_after-place.ensures.within, count)) (subst (λ n. IsAfter n c.in_ok-self-inside.field-0 c.self.inside.waiting c.place_after-place.result) count c.place_after-place.ensures.round) read
-    ∙ (ap (λ (s : List Shipped). s ++ shipped c.swap.new.x ∷ []) (c.in_ok-self-inside.ensures.same ∙ c.self.view_is) ∙ ap (λ (z : Contents). c.args.self.now ++ shipped z ∷ []) c.swap.ensures.x_after)
+    ∙ (ap (λ (s : List Shipped). s ++ as_shipped c.swap.new.x ∷ []) (c.in_ok-self-inside.ensures.same ∙ c.self.view_is) ∙ ap (λ (z : Contents). c.args.self.now ++ as_shipped z ∷ []) c.swap.ensures.x_after)
 
 pub returns-clause-emptied : goal.returns-clause-emptied
 returns-clause-emptied g c =

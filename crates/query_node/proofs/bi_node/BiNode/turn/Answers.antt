@@ -4,10 +4,10 @@ use Rattle.list_laws.proofs.Results.{on_ok_from}
 use Rattle.hop_core.specs.State.{State}
 use Rattle.convey.specs.Buffers.{is_complete}
 use Rattle.round_program.specs.Replies.{asks_of}
-use Rattle.query_node.specs.Taking.{Pushes, Answers, RefusesAnswer}
+use Rattle.query_node.specs.Taking.{PushesQueries, AnswersQueries, RefusesAnswer}
 use Rattle.rank_node.specs.Movers.{AllRead}
 use Rattle.query_node.specs.States.{BiState, Sides, IsBiNode, HasAsked, HasAnswered}
-use Rattle.query_node.specs.Still.{IsStuck, Known}
+use Rattle.query_node.specs.Still.{IsStuckBoth, Known}
 use Rattle.query_node.proofs.Turned.{Advances, works_on, was_served, has_completed, same_asks, count_is, asked_count, receivers, low, all_pushed, begun1, agrees1, stays_done, dims2, open2, answers2, epoch2, pulled2, begun3, agrees3, over3, halfway, first4, heard4, turned}
 use Rattle.rank_node.proofs.Halted.{Advanced}
 use Rattle.query_node.proofs.Stopped.{complete_from, advances_once, read_or, stuck}
@@ -42,7 +42,7 @@ advance-asked-requires g c =
     let q1 = c.push_queries-self-inside.new.conveyor in
     let next = c.push_queries-self-inside.result in
     let count = c.count.result in
-    let push : Pushes (asks_of T inside.asker) g.row.CAP inside.next next inside.queries q1 = c.push_queries-self-inside.ensures in
+    let push : PushesQueries (asks_of T inside.asker) g.row.CAP inside.next next inside.queries q1 = c.push_queries-self-inside.ensures in
     let counted = c.count.ensures ∙ ap (λ s. length (T.queries s)) c.deref.ensures in
     let e = ap (λ (m : BiState g.row.A.Denot). m.queries) c.self.view_is in (
       search rules,
@@ -69,7 +69,7 @@ answer_open-refused-requires g c =
     let q1 = c.push_queries-self-inside.new.conveyor in
     let next = c.push_queries-self-inside.result in
     let count = c.count.result in
-    let push : Pushes (asks_of T inside.asker) g.row.CAP inside.next next inside.queries q1 = c.push_queries-self-inside.ensures in
+    let push : PushesQueries (asks_of T inside.asker) g.row.CAP inside.next next inside.queries q1 = c.push_queries-self-inside.ensures in
     let counted = c.count.ensures ∙ ap (λ s. length (T.queries s)) c.deref.ensures in
     let q2 = c.advance-asked.new.self in
     let qs' = g.P.Port.sent c.advance-asked.new.port in
@@ -108,7 +108,7 @@ advance-replied-requires g c =
     let q1 = c.push_queries-self-inside.new.conveyor in
     let next = c.push_queries-self-inside.result in
     let count = c.count.result in
-    let push : Pushes (asks_of T inside.asker) g.row.CAP inside.next next inside.queries q1 = c.push_queries-self-inside.ensures in
+    let push : PushesQueries (asks_of T inside.asker) g.row.CAP inside.next next inside.queries q1 = c.push_queries-self-inside.ensures in
     let counted = c.count.ensures ∙ ap (λ s. length (T.queries s)) c.deref.ensures in
     let q2 = c.advance-asked.new.self in
     let qs' = g.P.Port.sent c.advance-asked.new.port in
@@ -126,7 +126,7 @@ advance-replied-requires g c =
     } in
     let q3 = c.answer_open-refused.new.queries in
     let r1 = c.answer_open-refused.new.replies in
-    let ans : Answers T inside.asker q2 q3 inside.replies r1 = c.answer_open-refused.ensures.answers in
+    let ans : AnswersQueries T inside.asker q2 q3 inside.replies r1 = c.answer_open-refused.ensures.answers in
     let over = c.is_over-over.result in
     let is_over : over ≡ is_complete q3.phase = c.is_over-over.ensures ∙ ap is_complete c.phase.ensures.value in
     let e = ap (λ (m : BiState g.row.A.Denot). m.replies) c.self.view_is in (
@@ -154,7 +154,7 @@ hear_all-requires g c =
     let q1 = c.push_queries-self-inside.new.conveyor in
     let next = c.push_queries-self-inside.result in
     let count = c.count.result in
-    let push : Pushes (asks_of T inside.asker) g.row.CAP inside.next next inside.queries q1 = c.push_queries-self-inside.ensures in
+    let push : PushesQueries (asks_of T inside.asker) g.row.CAP inside.next next inside.queries q1 = c.push_queries-self-inside.ensures in
     let counted = c.count.ensures ∙ ap (λ s. length (T.queries s)) c.deref.ensures in
     let q2 = c.advance-asked.new.self in
     let qs' = g.P.Port.sent c.advance-asked.new.port in
@@ -172,7 +172,7 @@ hear_all-requires g c =
     } in
     let q3 = c.answer_open-refused.new.queries in
     let r1 = c.answer_open-refused.new.replies in
-    let ans : Answers T inside.asker q2 q3 inside.replies r1 = c.answer_open-refused.ensures.answers in
+    let ans : AnswersQueries T inside.asker q2 q3 inside.replies r1 = c.answer_open-refused.ensures.answers in
     let over = c.is_over-over.result in
     let is_over : over ≡ is_complete q3.phase = c.is_over-over.ensures ∙ ap is_complete c.phase.ensures.value in
     let r2 = c.advance-replied.new.self in
@@ -204,7 +204,7 @@ returns-clause-kept g c = λ start was.
     let q1 = c.push_queries-self-inside.new.conveyor in
     let next = c.push_queries-self-inside.result in
     let count = c.count.result in
-    let push : Pushes (asks_of T inside.asker) g.row.CAP inside.next next inside.queries q1 = c.push_queries-self-inside.ensures in
+    let push : PushesQueries (asks_of T inside.asker) g.row.CAP inside.next next inside.queries q1 = c.push_queries-self-inside.ensures in
     let counted = c.count.ensures ∙ ap (λ s. length (T.queries s)) c.deref.ensures in
     let q2 = c.advance-asked.new.self in
     let qs' = g.P.Port.sent c.advance-asked.new.port in
@@ -222,7 +222,7 @@ returns-clause-kept g c = λ start was.
     } in
     let q3 = c.answer_open-refused.new.queries in
     let r1 = c.answer_open-refused.new.replies in
-    let ans : Answers T inside.asker q2 q3 inside.replies r1 = c.answer_open-refused.ensures.answers in
+    let ans : AnswersQueries T inside.asker q2 q3 inside.replies r1 = c.answer_open-refused.ensures.answers in
     let over = c.is_over-over.result in
     let is_over : over ≡ is_complete q3.phase = c.is_over-over.ensures ∙ ap is_complete c.phase.ensures.value in
     let r2 = c.advance-replied.new.self in
@@ -262,7 +262,7 @@ returns-clause-unanswered g c =
     let q1 = c.push_queries-self-inside.new.conveyor in
     let next = c.push_queries-self-inside.result in
     let count = c.count.result in
-    let push : Pushes (asks_of T inside.asker) g.row.CAP inside.next next inside.queries q1 = c.push_queries-self-inside.ensures in
+    let push : PushesQueries (asks_of T inside.asker) g.row.CAP inside.next next inside.queries q1 = c.push_queries-self-inside.ensures in
     let counted = c.count.ensures ∙ ap (λ s. length (T.queries s)) c.deref.ensures in
     let q2 = c.advance-asked.new.self in
     let qs' = g.P.Port.sent c.advance-asked.new.port in
@@ -280,7 +280,7 @@ returns-clause-unanswered g c =
     } in
     let q3 = c.answer_open-refused.new.queries in
     let r1 = c.answer_open-refused.new.replies in
-    let ans : Answers T inside.asker q2 q3 inside.replies r1 = c.answer_open-refused.ensures.answers in
+    let ans : AnswersQueries T inside.asker q2 q3 inside.replies r1 = c.answer_open-refused.ensures.answers in
     let n' : BiState g.row.A.Denot = record { asker = c.hear_all.new.asker.value; next = next; lines = c.hear_all.new.lines.items; queries = q3; replies = c.hear_all.new.replies } in
     let refused = c.answer_open-refused.result in
     subst (λ (m : BiState g.row.A.Denot). HasAnswered T g.row.CAP m n' qs qg qs' qg') c.self.view_is
@@ -334,7 +334,7 @@ returns-clause-stuck g c = on_ok_from c.turn_of.result (λ answer ok start was s
     let q1 = c.push_queries-self-inside.new.conveyor in
     let next = c.push_queries-self-inside.result in
     let count = c.count.result in
-    let push : Pushes (asks_of T inside.asker) g.row.CAP inside.next next inside.queries q1 = c.push_queries-self-inside.ensures in
+    let push : PushesQueries (asks_of T inside.asker) g.row.CAP inside.next next inside.queries q1 = c.push_queries-self-inside.ensures in
     let counted = c.count.ensures ∙ ap (λ s. length (T.queries s)) c.deref.ensures in
     let q2 = c.advance-asked.new.self in
     let qs' = g.P.Port.sent c.advance-asked.new.port in
@@ -352,7 +352,7 @@ returns-clause-stuck g c = on_ok_from c.turn_of.result (λ answer ok start was s
     } in
     let q3 = c.answer_open-refused.new.queries in
     let r1 = c.answer_open-refused.new.replies in
-    let ans : Answers T inside.asker q2 q3 inside.replies r1 = c.answer_open-refused.ensures.answers in
+    let ans : AnswersQueries T inside.asker q2 q3 inside.replies r1 = c.answer_open-refused.ensures.answers in
     let over = c.is_over-over.result in
     let is_over : over ≡ is_complete q3.phase = c.is_over-over.ensures ∙ ap is_complete c.phase.ensures.value in
     let r2 = c.advance-replied.new.self in
@@ -393,7 +393,7 @@ returns-clause-stuck g c = on_ok_from c.turn_of.result (λ answer ok start was s
     let known : Known = record { crowded = g.P.Port.crowded c.advance-asked.new.port; idle = g.P.Port.idle c.advance-asked.new.port; replies_crowded = g.R.Port.crowded c.advance-replied.new.port; replies_idle = g.R.Port.idle c.advance-replied.new.port } in
     let n' : BiState g.row.A.Denot = record { asker = c.hear_all.new.asker.value; next = next; lines = c.hear_all.new.lines.items; queries = q3; replies = c.hear_all.new.replies } in
     let done_is = ap (λ k. next == k) (count_is T laws start inside qs qg rs rg is count counted ∙ ap length (sym (same_asks T laws start inside qs qg rs rg is))) in
-    subst (λ (m : BiState g.row.A.Denot). IsStuck m n' old new known) c.self.view_is
+    subst (λ (m : BiState g.row.A.Denot). IsStuckBoth m n' old new known) c.self.view_is
     (stuck T inside (asks_of T inside.asker) g.row.CAP next (next == count) over c.hear_all.new.asker.value c.hear_all.new.lines.items q1 q2 q3 r1 r2 c.hear_all.new.replies c.answer_open-refused.result old new known
     push done_is (agrees1 T laws start inside qs qg rs rg is g.row.CAP next count q1 push counted) adv served ans c.answer_open-refused.ensures.read c.answer_open-refused.ensures.refused (agrees3 T laws start inside qs qg rs rg is g.row.CAP next count q1 push counted q2 qs' qg' adv q3 r1 ans) is_over adv' served'
     c.hear_all.ensures.hears c.phase.ensures.stands.grid c.phase.ensures.stands.rank c.known-2.ensures.grid c.known-2.ensures.rank s1 g1 s2 g2))
@@ -412,7 +412,7 @@ returns-clause-between g c =
     let q1 = c.push_queries-self-inside.new.conveyor in
     let next = c.push_queries-self-inside.result in
     let count = c.count.result in
-    let push : Pushes (asks_of T inside.asker) g.row.CAP inside.next next inside.queries q1 = c.push_queries-self-inside.ensures in
+    let push : PushesQueries (asks_of T inside.asker) g.row.CAP inside.next next inside.queries q1 = c.push_queries-self-inside.ensures in
     let counted = c.count.ensures ∙ ap (λ s. length (T.queries s)) c.deref.ensures in
     let q2 = c.advance-asked.new.self in
     let qs' = g.P.Port.sent c.advance-asked.new.port in
@@ -439,8 +439,8 @@ returns-clause-moments g c = λ start now was m.
     let q1 = c.push_queries-self-inside.new.conveyor in
     let q2 = c.advance-asked.new.self in
     let q3 = c.answer_open-refused.new.queries in
-    let push : Pushes (asks_of T c.self.inside.asker.value) g.row.CAP c.self.inside.next c.push_queries-self-inside.result c.self.inside.queries q1 = c.push_queries-self-inside.ensures in
-    let ans : Answers T c.self.inside.asker.value q2 q3 c.self.inside.replies c.answer_open-refused.new.replies = c.answer_open-refused.ensures.answers in
+    let push : PushesQueries (asks_of T c.self.inside.asker.value) g.row.CAP c.self.inside.next c.push_queries-self-inside.result c.self.inside.queries q1 = c.push_queries-self-inside.ensures in
+    let ans : AnswersQueries T c.self.inside.asker.value q2 q3 c.self.inside.replies c.answer_open-refused.new.replies = c.answer_open-refused.ensures.answers in
     let after : BiState g.row.A.Denot = record { asker = c.hear_all.new.asker.value; next = c.push_queries-self-inside.result; lines = c.hear_all.new.lines.items; queries = q3; replies = c.hear_all.new.replies } in
     own_at T start c.args.self.now.queries.dims c.args.self.now.queries.rank c.args.self.now after
     (sides_of_ports g.P.Port g.R.Port c.args.queries.now c.args.replies.now) (sides_of_ports g.P.Port g.R.Port c.advance-asked.new.port c.advance-replied.new.port) now

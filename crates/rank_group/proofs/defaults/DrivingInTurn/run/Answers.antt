@@ -8,8 +8,8 @@ use Rattle.rank_node.specs.Movers.{Manner, manner_of}
 use Rattle.rank_group.specs.declared.drive.Finished.{Finished}
 use Rattle.rank_group.specs.declared.defaults.Settings.{Settings}
 use Rattle.rank_group.specs.Defaults.{count_of, HasDriven}
-use Rattle.rank_group.specs.Driven.{HasFinished, HasSwept}
-use Rattle.rank_group.specs.Told.{Made}
+use Rattle.rank_group.specs.DrivePromises.{HasFinished, HasSwept}
+use Rattle.rank_group.specs.Transcript.{Made}
 use Rattle.rank_group.specs.Turns.{SweptBy}
 use Rattle.rank_group.proofs.defaults.DrivingInTurn.run.Goals as goal
 

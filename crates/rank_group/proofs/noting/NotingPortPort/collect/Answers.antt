@@ -1,5 +1,5 @@
 use Rattle.std.proofs.Common.{◌≡◌, true≢false, ap, ◌∙◌}
-use Rattle.item_buffer.specs.Contents.{shipped}
+use Rattle.item_buffer.specs.Contents.{as_shipped}
 use Rattle.rank_group.proofs.NotedMoves.{no_less_same, not_same, no_less_collected, has_collected}
 use Rattle.rank_group.proofs.noting.NotingPortPort.collect.Goals as goal
 
@@ -11,8 +11,8 @@ invariant_of-self g c =
     let got = c.collect-collected.ensures.got c.in-Got.is in
     record {
       noted = λ none. absurd (true≢false none);
-      grew = no_less_collected x y z c.args.link (shipped c.collect-collected.new.p) c.args.self.now.grew c.collect-collected.ensures.same_outs.sent got;
-      went = λ some. has_collected x y z c.args.link (shipped c.collect-collected.new.p) c.args.self.now.grew got;
+      grew = no_less_collected x y z c.args.link (as_shipped c.collect-collected.new.p) c.args.self.now.grew c.collect-collected.ensures.same_outs.sent got;
+      went = λ some. has_collected x y z c.args.link (as_shipped c.collect-collected.new.p) c.args.self.now.grew got;
     }
 
 pub invariant_of-self-in-Nothing : goal.invariant_of-self-in-Nothing

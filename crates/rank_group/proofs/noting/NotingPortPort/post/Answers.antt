@@ -1,5 +1,5 @@
 use Rattle.std.proofs.Common.{◌≡◌, true≢false, ap, Ok}
-use Rattle.item_buffer.specs.Contents.{shipped}
+use Rattle.item_buffer.specs.Contents.{as_shipped}
 use Rattle.rank_group.proofs.NotedMoves.{no_less_posted, has_posted}
 use Rattle.rank_group.proofs.noting.NotingPortPort.post.Goals as goal
 
@@ -11,6 +11,6 @@ invariant_of-self-in-Sent g c =
     let sent = c.in_ok-posted.ensures.sent (ap Ok c.in-Sent.is) in
     record {
       noted = λ none. absurd (true≢false none);
-      grew = no_less_posted x y z c.args.link (shipped c.args.p.now) c.args.self.now.grew sent c.post.ensures.same_ins.got;
-      went = λ some. has_posted x y z c.args.link (shipped c.args.p.now) c.args.self.now.grew sent;
+      grew = no_less_posted x y z c.args.link (as_shipped c.args.p.now) c.args.self.now.grew sent c.post.ensures.same_ins.got;
+      went = λ some. has_posted x y z c.args.link (as_shipped c.args.p.now) c.args.self.now.grew sent;
     }

@@ -11,7 +11,7 @@ use denote.Struct.Owning.{shape, fields, to}
 use Rattle.std_alloc.proofs.SendSync.{quiet, lies}
 use Rattle.std.proofs.Crossing.{frees}
 use Rattle.rank_handles.specs.declared.part.Part.{Part}
-use Rattle.rank_handles.specs.Holds.{holds, heap}
+use Rattle.rank_handles.specs.Ownership.{holds, heap}
 use Rattle.rank_handles.specs.contracts.part.Part as part
 use Rattle.rank_handles.proofs.Crosses.{part_send}
 use Rattle.rank_handles.specs.contracts.held.Held.{the_row, the_type}

@@ -29,7 +29,7 @@ use Rattle.std.proofs.raw_atomic.Walks.{proved_at, leaves}
 use Rattle.rank_handles.specs.declared.part.Part.{Part}
 use Rattle.rank_handles.specs.contracts.part.Part as part
 use Rattle.rank_handles.specs.contracts.held.Held as held
-use Rattle.rank_handles.specs.Holds.{holds}
+use Rattle.rank_handles.specs.Ownership.{holds}
 use Rattle.rank_handles.proofs.Values.{both, loose_good, loose_in}
 use Rattle.rank_handles.proofs.HeldValues.{lone_ptr, held_out, the_part}
 use Rattle.rank_handles.specs.contracts.held.Held.into_loose.{ended, clauses}

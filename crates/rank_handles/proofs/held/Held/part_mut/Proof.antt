@@ -30,7 +30,7 @@ use Rattle.std.proofs.raw_atomic.Walks.{proved}
 use Rattle.rank_handles.specs.declared.part.Part.{Part}
 use Rattle.rank_handles.specs.contracts.part.Part as part
 use Rattle.rank_handles.specs.contracts.held.Held as held
-use Rattle.rank_handles.specs.Holds.{holds, heap}
+use Rattle.rank_handles.specs.Ownership.{holds, heap}
 use Rattle.rank_handles.specs.Lends.{with_part}
 use Rattle.rank_handles.proofs.HeldValues.{lone_ptr, held_in, held_out, the_part}
 use Rattle.rank_handles.specs.contracts.held.Held.part_mut.{ended, clauses}

@@ -1,11 +1,12 @@
 use Rattle.std.proofs.Common.{◌≡◌, refl, sym, ap, ◌∙◌, subst}
 use Rattle.std.specs.Arc.{arc_value}
 use Rattle.route_tensor.specs.Grid.{ranks}
-use Rattle.link_slots.specs.Seen.{Identity, Manning}
+use Rattle.link_slots.specs.SeatView.{Identity, Manning}
 use Rattle.hop_core.specs.State.{State}
 use Rattle.rank_handles.specs.Grouped.{NewRank}
 use Rattle.rank_handles.proofs.Moves.{at}
-use Rattle.rank_handles.proofs.Starts.{seated_at, new_at}
+use Rattle.rank_handles.proofs.Starts.{seated_at, new_at, none_sent, none_got}
+use Rattle.rank_handles.proofs.Counting.{statistics_none}
 use Rattle.rank_handles.proofs.rank.Rank.new.Goals as goal
 
 pub invariant_of-result : goal.invariant_of-result
@@ -14,13 +15,18 @@ invariant_of-result g c =
     let given : arc_value c.args.bank.now ≡ c.deref.result.now = sym (there ∙ c.in-Ok.ensures) in
     record {
       there = refl;
-      at_bank = subst (λ (b : Identity). Rattle.rank_handles.specs.Kept.IsAtBank b c.seat-seat.result c.in_ok-conveyor.conveyor) there
+      at_bank = subst (λ (b : Identity). Rattle.rank_handles.specs.RankAtBank.IsAtBank b c.seat-seat.result c.in_ok-conveyor.conveyor) there
           (seated_at c.deref.result.now c.args.grid.now c.args.rank g.row.CAP c.args.steady c.seat-seat.result c.in_ok-conveyor.conveyor
           (c.requires.seat.at_gather.grid_is ∙ ap (λ (b : Identity). b.shape.dims) given) (ap (λ (m : Manning). m.id) seat) (ap (λ (m : Manning). m.shape) seat) (ap (λ (m : Manning). m.rank) seat)
           (ap (λ (m : Manning). m.lists) seat) is c.in_ok-conveyor.ensures.agrees);
       count_is = c.ranks.ensures.value ∙ ap ranks (sym (ap (λ (z : State). z.dims) is));
       epoch_is = sym (ap (λ (z : State). z.epoch) is);
       done_is = sym (ap (λ (z : State). z.done) is);
+      counted = c.none.ensures ∙ statistics_none c.seat-seat.result (none_sent c.deref.result.now c.args.grid.now c.args.rank g.row.CAP c.args.steady c.seat-seat.result c.in_ok-conveyor.conveyor
+          (c.requires.seat.at_gather.grid_is ∙ ap (λ (b : Identity). b.shape.dims) given) (ap (λ (m : Manning). m.id) seat) (ap (λ (m : Manning). m.shape) seat) (ap (λ (m : Manning). m.rank) seat)
+          (ap (λ (m : Manning). m.lists) seat) is c.in_ok-conveyor.ensures.agrees) (none_got c.deref.result.now c.args.grid.now c.args.rank g.row.CAP c.args.steady c.seat-seat.result c.in_ok-conveyor.conveyor
+          (c.requires.seat.at_gather.grid_is ∙ ap (λ (b : Identity). b.shape.dims) given) (ap (λ (m : Manning). m.id) seat) (ap (λ (m : Manning). m.shape) seat) (ap (λ (m : Manning). m.rank) seat)
+          (ap (λ (m : Manning). m.lists) seat) is c.in_ok-conveyor.ensures.agrees);
     }
 
 pub returns-clause-made : goal.returns-clause-made

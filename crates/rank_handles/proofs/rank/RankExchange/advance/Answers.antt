@@ -1,5 +1,5 @@
 use Rattle.std.proofs.Common.{◌≡◌, ◌≢◌, ◌&&◌, not, Bool, true, false, sym, ap, ◌∙◌, subst}
-use Rattle.link_slots.specs.Seen.{Manning}
+use Rattle.link_slots.specs.SeatView.{Manning}
 use denote.Enum.Bare.{sameb}
 use Rattle.hop_core.specs.contracts.phase.Phase.{the_type}
 use Rattle.hop_core.specs.declared.phase.Phase.{Phase}
@@ -8,7 +8,7 @@ use Rattle.convey.specs.Buffers.{is_complete}
 use Rattle.convey.specs.Progress.{advance_step}
 use Rattle.rank_handles.specs.Seated.{Seated}
 use Rattle.rank_handles.specs.Calls.{Advances}
-use Rattle.rank_handles.specs.Kept.{seat_in, IsAtBank}
+use Rattle.rank_handles.specs.RankAtBank.{seat_in, IsAtBank}
 use Rattle.std.specs.Arc.{arc_value}
 use Rattle.rank_handles.proofs.Moves.{at, moved_on, advances_on, advanced_answer, progress_begun, progress_undone}
 use Rattle.rank_handles.proofs.Runs.{with_false}

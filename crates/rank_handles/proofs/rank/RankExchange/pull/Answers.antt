@@ -7,7 +7,7 @@ use Rattle.rank_handles.specs.declared.answer.Answer.{Answer}
 use Rattle.rank_handles.specs.declared.answer.Answer.TheVariants.{Nothing}
 use Rattle.rank_handles.specs.Seated.{Seated, Moved}
 use Rattle.rank_handles.specs.Answers.{item_or_nothing, pull_result}
-use Rattle.rank_handles.specs.Kept.{seat_in}
+use Rattle.rank_handles.specs.RankAtBank.{seat_in}
 use Rattle.rank_handles.proofs.Moves.{at, begun_pull, never_not_begun, pull_moved, pulls_begun, seated_still, pulled_phase, pulled_rank, pulled_dims, pulled_epoch, pulled_done}
 use Rattle.std.specs.Arc.{arc_value}
 use Rattle.rank_handles.proofs.rank.RankExchange.pull.Goals as goal
@@ -29,6 +29,6 @@ returns-in_default g c =
 pub invariant_of-self : goal.invariant_of-self
 invariant_of-self g c =
     let old = c.self.inside.conveyor in let l = lowest_unread old in let is = c.pull.ensures.state in
-    seated_still (arc_value c.self.inside.bank) c.self.inside.seat old c.pull.new.self c.self.inside.ranks c.self.inside.epoch c.self.inside.done c.self.invariant c.pull.ensures.kept
+    seated_still (arc_value c.self.inside.bank) c.self.inside.seat old c.pull.new.self c.self.inside.ranks c.self.inside.epoch c.self.inside.done c.self.inside.statistics c.self.invariant c.pull.ensures.kept
     (ap (λ (z : State). z.rank) is ∙ pulled_rank old l) (ap (λ (z : State). z.dims) is ∙ pulled_dims old l) (ap (λ (z : State). z.phase) is ∙ pulled_phase old l)
     (ap (λ (z : State). z.epoch) is ∙ pulled_epoch old l) (ap (λ (z : State). z.done) is ∙ pulled_done old l)

@@ -7,7 +7,7 @@ use Rattle.hop_core.specs.declared.phase.Phase.TheVariants.{Dormant}
 use Rattle.hop_core.specs.State.{State}
 use Rattle.rank_handles.specs.Seated.{Seated}
 use Rattle.rank_handles.specs.Many.{steps_of, then_idle, PullsMany}
-use Rattle.rank_handles.specs.Kept.{seat_in}
+use Rattle.rank_handles.specs.RankAtBank.{seat_in}
 use Rattle.rank_handles.proofs.Moves.{at, begun_good}
 use Rattle.rank_handles.proofs.Runs.{ran_of, pull_none}
 use Rattle.rank_handles.proofs.rank.RankExchange.pull_many.Goals as goal

@@ -6,7 +6,7 @@ use Rattle.hop_core.specs.declared.phase.Phase.TheVariants.{Working}
 use Rattle.hop_core.specs.State.{State}
 use Rattle.rank_handles.specs.Seated.{Seated}
 use Rattle.rank_handles.specs.Calls.{Pushes}
-use Rattle.rank_handles.specs.Kept.{seat_in}
+use Rattle.rank_handles.specs.RankAtBank.{seat_in}
 use Rattle.rank_handles.proofs.Moves.{at, moved, pushes_good, pushes_full, push_good}
 use Rattle.rank_handles.proofs.Runs.{push_full}
 use Rattle.rank_handles.proofs.rank.RankExchange.push.Goals.{in-Accepted, in-Full}

@@ -6,7 +6,7 @@ use Rattle.hop_core.specs.State.{State}
 use Rattle.rank_handles.specs.declared.answer.Answer.TheVariants.{Good}
 use Rattle.rank_handles.specs.Seated.{Seated}
 use Rattle.rank_handles.specs.Many.{steps_of, then_idle, all_ranks, push_many_answer, PushesMany}
-use Rattle.rank_handles.specs.Kept.{seat_in}
+use Rattle.rank_handles.specs.RankAtBank.{seat_in}
 use Rattle.rank_handles.proofs.Moves.{at, all_good}
 use Rattle.rank_handles.proofs.Runs.{ran_of, rank_at, push_full}
 use Rattle.rank_handles.proofs.rank.RankExchange.push_many.Goals as goal

@@ -5,7 +5,7 @@ use Rattle.hop_core.specs.declared.phase.Phase.TheVariants.{Dormant}
 use Rattle.hop_core.specs.State.{State}
 use Rattle.rank_handles.specs.Seated.{Seated}
 use Rattle.rank_handles.specs.Calls.{Resets}
-use Rattle.rank_handles.specs.Kept.{seat_in}
+use Rattle.rank_handles.specs.RankAtBank.{seat_in}
 use Rattle.rank_handles.proofs.Moves.{at, moved, resets_good, ended_good}
 use Rattle.rank_handles.proofs.rank.RankExchange.reset.Goals as goal
 

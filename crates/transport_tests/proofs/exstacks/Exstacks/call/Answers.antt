@@ -2,7 +2,7 @@ use Rattle.std.proofs.Common.{◌≡◌, ◌<◌, ◌∷◌, [], length, get_or,
 use Rattle.std.proofs.lemmas.List.{length-set}
 use Rattle.route_tensor.specs.Grid.{ranks}
 use Rattle.port_bank.specs.Plain.{IsBank, sent_of, got_of}
-use Rattle.exstack.specs.Law.{AgreeTogether}
+use Rattle.exstack.specs.Law.{StacksAgree}
 use Rattle.exstack.proofs.OneHop.{ranks_one}
 use Rattle.transport_tests.specs.declared.exstack_side.Side.{Side}
 use Rattle.transport_tests.proofs.OverPlain.{changes, together_port, together_poll, WantsPort, Polls}
@@ -44,5 +44,5 @@ invariant_of-result-2 g c =
     (changes (λ s. s.stack) sides c.args.rank c.index_mut.result.now c.make.new.self d within c.index_mut.ensures.value)
     c.port-port.ensures.bank c.port-port.ensures.rank a c.into_bank-bank.ensures.bank in (
       (polled c.make.new.self).0 ∙ (c.self.invariant.0 ∙ ap (λ n. n ∷ []) (sym count)),
-      λ d. subst (λ n. AgreeTogether n g.row.CAP c.into_bank-bank.result.slots (λ r. (get_or (set sides c.args.rank c.make.new.self) r d).stack) (sent_of c.into_bank-bank.result) (got_of c.into_bank-bank.result)) (sym count) (polled d).1,
+      λ d. subst (λ n. StacksAgree n g.row.CAP c.into_bank-bank.result.slots (λ r. (get_or (set sides c.args.rank c.make.new.self) r d).stack) (sent_of c.into_bank-bank.result) (got_of c.into_bank-bank.result)) (sym count) (polled d).1,
     )

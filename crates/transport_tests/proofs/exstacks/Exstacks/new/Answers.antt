@@ -3,7 +3,7 @@ use Rattle.list_laws.specs.Lists.{EachAt}
 use Rattle.list_laws.proofs.Lists.{each_push}
 use Rattle.route_tensor.specs.Grid.{ranks}
 use Rattle.exstack.proofs.OneHop.{dims_one}
-use Rattle.transport_tests.specs.Exstacks.{StartsOut}
+use Rattle.transport_tests.specs.Exstacks.{StackStartsOut}
 use Rattle.transport_tests.proofs.OverPlain.{one_more, together_first, together_start}
 use Rattle.transport_tests.proofs.exstacks.Exstacks.new.Goals as goal
 
@@ -13,7 +13,7 @@ loop-rank-preserved g c =
     let one = c.in_ok-new.field-0 in
     record {
       all = one_more before _ one _ c.in_ok-push.ensures.items c.loop-rank.invariant.all;
-      each = subst (EachAt (λ r s. StartsOut g.row.CAP c.args.grid.now r s.stack)) (sym c.in_ok-push.ensures.items) (each_push (λ r s. StartsOut g.row.CAP c.args.grid.now r s.stack) before one c.loop-rank.invariant.each (record {
+      each = subst (EachAt (λ r s. StackStartsOut g.row.CAP c.args.grid.now r s.stack)) (sym c.in_ok-push.ensures.items) (each_push (λ r s. StackStartsOut g.row.CAP c.args.grid.now r s.stack) before one c.loop-rank.invariant.each (record {
         same_ranks = c.in_ok-new.ensures.starts.same_ranks;
         same_rank = c.in_ok-new.ensures.starts.same_rank ∙ sym c.loop-rank.invariant.all;
         agrees = c.in_ok-new.ensures.starts.agrees;

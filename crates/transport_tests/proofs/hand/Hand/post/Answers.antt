@@ -1,7 +1,7 @@
 use Rattle.std.proofs.Common.{◌≡◌, ◌∙◌, List, ℕ, refl, sym, ap, subst, lit<, rules, Ok}
-use Rattle.item_buffer.specs.Contents.{Contents, shipped, blank}
+use Rattle.item_buffer.specs.Contents.{Contents, as_shipped, blank}
 use Rattle.route_tensor.specs.Grid.{IsGrid}
-use Rattle.port_bank.specs.Logs.{added}
+use Rattle.port_bank.specs.Logs.{with_parcel}
 use Rattle.port_bank.proofs.Kept.{law_same}
 use Rattle.transport_tests.proofs.ByHand.{first_posted, filled, none_ended, still_none}
 use Rattle.transport_tests.proofs.hand.Hand.post.Goals as goal
@@ -40,8 +40,8 @@ invariant_of-hand g c =
     record {
       same_dims = same.dims ∙ old.same_dims;
       is_grid = old.is_grid;
-      law = law_same (g.P.Port.dims port) _ (g.P.Port.rank port) _ (added (g.P.Port.sent port) c.args.link (shipped p)) _ (g.P.Port.got port) _ same.dims same.rank more c.post.ensures.same_ins.got law;
-      none_sent = none_ended (g.P.Port.sent port) _ c.args.link (shipped p) more (ap (λ (x : Contents). x.last) pushed) old.none_sent;
+      law = law_same (g.P.Port.dims port) _ (g.P.Port.rank port) _ (with_parcel (g.P.Port.sent port) c.args.link (as_shipped p)) _ (g.P.Port.got port) _ same.dims same.rank more c.post.ensures.same_ins.got law;
+      none_sent = none_ended (g.P.Port.sent port) _ c.args.link (as_shipped p) more (ap (λ (x : Contents). x.last) pushed) old.none_sent;
       none_got = still_none (g.P.Port.got port) _ c.post.ensures.same_ins.got old.none_got;
       out_empty = c.clear.ensures ∙ ap (λ (x : Contents). blank x.epoch) (c.post.ensures.emptied sent) ∙ ap (λ (x : Contents). blank x.epoch) pushed;
       into_empty = old.into_empty;

@@ -8,7 +8,7 @@ use Rattle.link_slots.specs.declared.seat.ends.InEnd.{InEnd}
 use Rattle.link_slots.specs.declared.seat.rank_ends.RankEnds.{RankEnds}
 use Rattle.link_slots.specs.View.{no_logs, own_logs, without_pick, pick_alone, speaking_for}
 use Rattle.link_slots.specs.Shape.{Shape, wiring, IsBlank, MayFollow, KeepsLaw}
-use Rattle.link_slots.specs.Told.{Knowing, IsLawful}
+use Rattle.link_slots.specs.WordSteps.{Knowing, IsLawful}
 use Rattle.link_slots.specs.Gathering.{Gathering, IsGathering, is_gone}
 use Rattle.link_slots.proofs.Seats as seats
 use Rattle.link_slots.proofs.Giving.{any_default, map-replicate, speaks_for, alone_own, given_seat, left_gathering, rank_word}

@@ -7,10 +7,10 @@ use Rattle.route_tensor.specs.Ends.{reader_at}
 use Rattle.list_laws.proofs.Lists.{map_set}
 use Rattle.link_slots.specs.View.{own_logs, gathered, spent}
 use Rattle.link_slots.specs.Shape.{Shape, nowhere, wiring, IsBlank, MayFollow, KeepsLaw}
-use Rattle.link_slots.specs.Told.{Knowing, IsLawful}
-use Rattle.link_slots.specs.Own.{IsOwn}
+use Rattle.link_slots.specs.WordSteps.{Knowing, IsLawful}
+use Rattle.link_slots.specs.OwnLinks.{IsOwn}
 use Rattle.link_slots.specs.Gathering.{Gathering, IsGathering, is_gone}
-use Rattle.link_slots.specs.Seen.{Manning}
+use Rattle.link_slots.specs.SeatView.{Manning}
 use Rattle.link_slots.proofs.Seats as seats
 use Rattle.link_slots.proofs.Giving.{more_gathered, rank_word}
 use Rattle.link_slots.proofs.slot_bank.gather.GatherSeat.take_in.Goals as goal

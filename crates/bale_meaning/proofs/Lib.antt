@@ -1,4 +1,0 @@
-pub mod Asked
-pub mod Columns
-pub mod Serial
-pub mod Tallies

@@ -1,0 +1,99 @@
+-- All ranks over two plain banks, and what a sweep over them leaves.
+use Rattle.std.specs.Prelude.{◌≡◌, ℕ, ◌+◌, ◌*◌, ◌<◌, ◌≤◌, ◌&&◌, Bool, List, length, map, Some, slice_get}
+use Rattle.std.specs.List.{sum_by}
+use Rattle.route_tensor.specs.Grid.{ranks}
+use Rattle.route_tensor.specs.Link.{links}
+use Rattle.route_tensor.specs.Ends.{reader_at}
+use Rattle.port_bank.specs.Plain.{Bank, IsBank, sent_of, got_of}
+use Rattle.convey.specs.Buffers.{in_of, is_complete}
+use Rattle.round_program.specs.Talks.{Talk}
+use Rattle.rank_group.specs.Ranks.{crowded_in, idle_in}
+use Rattle.query_node.specs.States.{BiState, Sides}
+use Rattle.query_node.specs.Still.{Known, IsStuckBoth}
+use Rattle.query_node.specs.Ranks.{sides_at, HasBiRank}
+use Rattle.biconvey.specs.Ways.{bi_moves, AreConveyorsOver, AfterBiAdvance}
+
+-- The lists of a plain bank of queries and one of replies.
+abbrev pub sides_of : Bank → Bank → Sides
+sides_of q r = record { asking = sent_of q; asked = got_of q; replying = sent_of r; replied = got_of r }
+
+-- Two banks of one grid, capacity and number of slots.
+pub record AreBanks (cap : ℕ) (dims : List ℕ) (slots : ℕ) (q r : Bank) : Type 0 where
+  pub queries : IsBank cap q
+  pub replies : IsBank cap r
+  pub queries_dims : q.dims ≡ dims
+  pub replies_dims : r.dims ≡ dims
+  pub queries_slots : q.slots ≡ slots
+  pub replies_slots : r.slots ≡ slots
+
+-- What the ports of rank r know of its links.
+abbrev pub known_at : List ℕ → ℕ → ℕ → Sides → Known
+known_at dims slots r s = record {
+  crowded = crowded_in dims slots r s.asking s.asked;
+  idle = idle_in dims r s.asking s.asked;
+  replies_crowded = crowded_in dims slots r s.replying s.replied;
+  replies_idle = idle_in dims r s.replying s.replied;
+}
+
+-- Whether both ways of a rank are complete.
+abbrev pub is_over : {S : Type 0} → BiState S → Bool
+is_over n = is_complete n.queries.phase && is_complete n.replies.phase
+
+-- What the turn of rank r leaves.
+pub record AfterBiRank {S : Type 0} (T : Talk S) (dims : List ℕ) (cap slots r : ℕ) (n n' : BiState S)
+    (s s' : Sides) : Type 0 where
+  pub queries : AfterBiAdvance dims cap r n.queries n'.queries s.asking s.asked s'.asking s'.asked
+  pub replies : AfterBiAdvance dims cap r n.replies n'.replies s.replying s.replied s'.replying s'.replied
+  pub kept : (start : S) → HasBiRank T dims r start n s → HasBiRank T dims r start n' s'
+  pub stuck : (start : S) → HasBiRank T dims r start n s → s' ≡ s
+      → IsStuckBoth n n' (sides_at dims r s) (sides_at dims r s') (known_at dims slots r s')
+
+-- A rank at rest: its turn moved no parcel, and no entry out of an inbox.
+pub record BiRests {S : Type 0} (T : Talk S) (dims : List ℕ) (slots r : ℕ) (n : BiState S) (s : Sides) : Type 0 where
+  pub before : BiState S
+  pub start : S
+  pub has : HasBiRank T dims r start before s
+  pub kept_queries : (l : ℕ) → l < links dims → reader_at dims l ≡ r
+      → length (in_of before.queries l).parcel.untaken ≤ length (in_of n.queries l).parcel.untaken
+  pub kept_replies : (l : ℕ) → l < links dims → reader_at dims l ≡ r
+      → length (in_of before.replies l).parcel.untaken ≤ length (in_of n.replies l).parcel.untaken
+  pub stuck : IsStuckBoth before n (sides_at dims r s) (sides_at dims r s) (known_at dims slots r s)
+
+-- All ranks over two banks; rank r began in the state `starts r`.
+pub record BiWorld {S : Type 0} (T : Talk S) (dims : List ℕ) (cap slots : ℕ) (steady : Bool) (starts : ℕ → S)
+    (ns : List (BiState S)) (s : Sides) : Type 0 where
+  pub queries : AreConveyorsOver dims cap slots steady (map (λ n. n.queries) ns) s.asking s.asked
+  pub replies : AreConveyorsOver dims cap slots steady (map (λ n. n.replies) ns) s.replying s.replied
+  pub some : 0 < slots
+  pub some_cap : 0 < cap
+  pub each : (r : ℕ) (n : BiState S) → slice_get ns r ≡ Some n → HasBiRank T dims r (starts r) n s
+
+-- Between two states of the banks no link of either way got more parcels than there were turns.
+abbrev pub PostedWithin : List ℕ → Sides → ℕ → Sides → ℕ → Type 0
+PostedWithin dims s steps s' steps' = (l : ℕ) → l < links dims
+    → (length (s'.asking l) + steps ≤ length (s.asking l) + steps')
+    × (length (s'.replying l) + steps ≤ length (s.replying l) + steps')
+
+-- What moved on both ways.
+abbrev pub all_moves : {S : Type 0} → List ℕ → List (BiState S) → Sides → ℕ
+all_moves dims ns s =
+    bi_moves dims (map (λ n. n.queries) ns) s.asking s.asked + bi_moves dims (map (λ n. n.replies) ns) s.replying s.replied
+
+-- What the turns of the first i ranks of an order leave of all ranks.
+-- rests: where nothing moved, each rank that was turned is at rest.
+pub record BiSweptTo {S : Type 0} (T : Talk S) (dims : List ℕ) (cap slots : ℕ) (steady : Bool) (starts : ℕ → S)
+    (order : List ℕ) (i : ℕ) (ns0 : List (BiState S)) (s0 : Sides) (ns : List (BiState S)) (s : Sides) : Type 0 where
+  pub world : BiWorld T dims cap slots steady starts ns s
+  pub grown : all_moves dims ns0 s0 ≤ all_moves dims ns s
+  pub rests : all_moves dims ns s ≤ all_moves dims ns0 s0 → (j r : ℕ) → j < i → slice_get order j ≡ Some r
+      → (n : BiState S) → slice_get ns r ≡ Some n → BiRests T dims slots r n s
+
+-- How many queries the ranks have.
+abbrev pub queries_in : {S : Type 0} → Talk S → List (BiState S) → ℕ
+queries_in T ns = sum_by (λ n. length (T.queries n.asker)) ns
+
+-- How many turns an exchange of so many queries takes at most: each sweep but the last moves
+-- something on one of the ways, and a parcel or an entry moves at most so often.
+-- For two ranks in one hop and three queries it is 2 * 2 * (3 * 4 + 2 * 4 + 1) = 84.
+abbrev pub bi_turns_of : List ℕ → ℕ → ℕ
+bi_turns_of dims queries = 2 * (ranks dims * (queries * (3 * length dims + 1) + 2 * links dims + 1))

@@ -1,0 +1,57 @@
+-- What is asked of programs that are driven, and what a drive promises of their run.
+use Rattle.std.specs.Prelude.{◌≡◌, ℕ, ◌+◌, ◌*◌, ◌<◌, ◌≤◌, Bool, true, List, [], ◌∷◌, length}
+use Rattle.route_tensor.specs.Grid.{ranks}
+use Rattle.route_tensor.specs.Link.{links}
+use Rattle.port_bank.specs.Round.{logs_of}
+use Rattle.round_program.specs.Rules.{Rules}
+use Rattle.round_program.specs.Canonical.{InRound, HasRounds, EndsWithin, HaveEnded}
+use Rattle.rank_node.specs.declared.via.Via.{Via}
+use Rattle.rank_node.specs.declared.via.Via.TheVariants.{Exstack}
+use Rattle.rank_node.specs.Movers.{Manner}
+use Rattle.rank_group.specs.declared.closed_round.ClosedRound.{ClosedRound}
+use Rattle.rank_group.specs.declared.drive.Finished.{Finished}
+use Rattle.rank_group.specs.Rounds.{round_inside}
+use Rattle.rank_group.specs.Transcript.{Made, TellsRun, turns_within}
+use Rattle.rank_group.specs.Turns.{SweptBy}
+
+-- Programs that may be driven on a grid.
+pub record MayRun {S : Type 0} (R : Rules S) (dims : List ℕ) (via : Via) (starts : List S) : Type 0 where
+  -- Exstacks go over one hop.
+  pub one_hop : via ≡ Exstack → length dims ≡ 1
+  -- They begin one run in round 0, one for each rank, and it ends.
+  pub begins : (shape : List ℕ) × (most : ℕ) × InRound R (ranks dims) 0 shape most starts × EndsWithin R starts most
+
+-- What a drive leaves of a run of the programs `starts`, over a bank that was made as said.
+pub record HasFinished {S : Type 0} (R : Rules S) (starts : List S) (made : Made) (manner : Manner)
+    (run : Finished S) : Type 0 where
+  -- The programs are as the canonical run leaves them.
+  pub ended : HaveEnded R starts run.progs
+  -- One closed round tells what was exchanged.
+  pub rounds : (c : ClosedRound) × (run.rounds ≡ c ∷ [])
+      × ((n : ℕ) → HasRounds R starts n → TellsRun R starts n made manner (round_inside c))
+
+-- What it further leaves on one thread, which counts its turns from `before` to `after`.
+pub record HasSwept {S : Type 0} (R : Rules S) (starts : List S) (made : Made) (manner : Manner) (turned : List ℕ)
+    (before after : ℕ) (run : Finished S) : Type 0 where
+  -- It made sweeps in the order given, and no other turn.
+  pub order : SweptBy R made.dims made.cap made.slots manner starts turned before after run.progs
+  -- The closed round tells the logs that these turns left.
+  pub exchanged : (c : ClosedRound) → run.rounds ≡ c ∷ [] → (l : ℕ)
+      → (logs_of (round_inside c).sent l ≡ order.last.sent l) × (logs_of (round_inside c).got l ≡ order.last.got l)
+  -- Each rank made a turn in each epoch at least: one of its work and one of its votes in each
+  -- round.
+  pub fewest : (n : ℕ) → HasRounds R starts n → before + 2 * n * ranks made.dims ≤ after
+  -- No link has more parcels than the run had turns.
+  pub posted : (c : ClosedRound) → run.rounds ≡ c ∷ [] → (l : ℕ) → l < links made.dims
+      → length (logs_of (round_inside c).sent l) + before ≤ after
+
+-- From `before` turns to `after` there are no more than a run of these programs takes at most.
+abbrev pub WithinTurns : {S : Type 0} → Rules S → List S → Manner → List ℕ → ℕ → ℕ → Type 0
+WithinTurns R starts manner dims before after = (n : ℕ) → HasRounds R starts n
+    → after ≤ before + turns_within R manner dims starts n
+
+-- `told` holds of the turns of each rank, by the rank's number and their own: in a run of n rounds,
+-- which has 2 * n epochs, of
+-- 2 * n turns at least.
+abbrev pub ToldOfTurns : {S : Type 0} → Rules S → List S → List ℕ → (ℕ → ℕ → Bool) → Type 0
+ToldOfTurns R starts dims told = (n r m : ℕ) → HasRounds R starts n → r < ranks dims → m < 2 * n → told r m ≡ true

@@ -1,0 +1,156 @@
+-- All ranks of a drive over one plain bank, and what a sweep over them leaves.
+use Rattle.std.specs.Prelude.{◌≡◌, ◌⊎◌, ⊤, true, ℕ, ◌+◌, ◌-◌, ◌^◌, ◌<◌, ◌≤◌, false, List, [], length, Option, Some}
+use Rattle.std.specs.Prelude.{if◌then◌else◌}
+use Rattle.std.specs.Prelude.{None, slice_get}
+use Rattle.std.specs.List.{flat_map}
+use Rattle.bale_items.specs.declared.item.Entry.{Entry}
+use Rattle.item_buffer.specs.Contents.{Shipped}
+use Rattle.list_laws.specs.Sums.{total}
+use Rattle.route_tensor.specs.Grid.{ranks}
+use Rattle.route_tensor.specs.Link.{links}
+use Rattle.route_tensor.specs.Ends.{reader_at}
+use Rattle.port_bank.specs.Logs.{Logs, starting_at, ending_at}
+use Rattle.port_bank.specs.Link.{LinkLaw}
+use Rattle.port_bank.specs.Machine.{Part}
+use Rattle.port_bank.specs.Plain.{Bank, IsBank}
+use Rattle.port_bank.specs.Relay.{RelayLaw}
+use Rattle.hop_core.specs.Lent.Lent.{Given}
+use Rattle.hop_core.specs.declared.phase.Phase.TheVariants.{Dormant}
+use Rattle.hop_core.specs.State.{State}
+use Rattle.convey.specs.Buffers.{in_of}
+use Rattle.round_program.specs.Rules.{Rules}
+use Rattle.round_program.specs.Canonical.{HasRounds, InRound}
+use Rattle.rank_node.specs.Movers.{MoverState, Manner, part_in, lying}
+use Rattle.rank_node.specs.Movers.MoverState.{Conveying, Stacking}
+use Rattle.rank_node.specs.Next.{with_next}
+use Rattle.rank_group.specs.Ranks.{RankState, AllRanks, IsLeft, progress, crowded_in, idle_in}
+use Rattle.rank_group.specs.RoundProgress.{quota_of, most_rounds, MoverMade, KeepsCycle}
+
+-- the entries of some parcels
+abbrev pub parcel_entries : List Shipped → List Entry
+parcel_entries log = flat_map (λ p. p.entries) log
+
+-- a rank that has none: no state of a conveyor
+abbrev pub no_conveyor : State
+no_conveyor = record {
+  dims = [];
+  rank = 0;
+  cap = 0;
+  steady = false;
+  outs = [];
+  ins = [];
+  done = false;
+  phase = Dormant;
+  epoch = 0;
+  lent = Given;
+  pulled = None;
+}
+
+abbrev pub mover_in : {S : Type 0} → Option (RankState S) → MoverState
+mover_in None = Conveying no_conveyor
+mover_in (Some n) = n.node.mover
+
+abbrev pub progress_in : {S : Type 0} → Option (RankState S) → ℕ
+progress_in None = 0
+progress_in (Some n) = progress n
+
+-- how many epochs all ranks have completed
+abbrev pub all_progress : {S : Type 0} → List ℕ → List (RankState S) → ℕ
+all_progress dims rs = total (ranks dims) (λ r. progress_in (slice_get rs r))
+
+-- a history with the state in which a run has ended
+abbrev pub history_in : {S : Type 0} → (ℕ → S) → Option (RankState S) → ℕ → S
+history_in h None = h
+history_in h (Some n) = if n.over then with_next h (n.node.run.round + 1) n.node.run.prog else h
+
+abbrev pub part_at : {S : Type 0} → List ℕ → List (RankState S) → Logs → Logs → ℕ → Part
+part_at dims rs sent got r = part_in (mover_in (slice_get rs r)) (starting_at dims r sent) (ending_at dims r got)
+
+-- how many entries lie in the inbox of a link
+abbrev pub inbox : {S : Type 0} → List ℕ → List (RankState S) → ℕ → ℕ
+inbox dims rs l = lying (mover_in (slice_get rs (reader_at dims l))) l
+
+-- all ranks over one plain bank
+-- keeps: over exstacks each rank is in some cycle of its epoch
+pub record World {S : Type 0} (R : Rules S) (dims : List ℕ) (cap slots : ℕ) (manner : Manner) (starts : List S)
+    (h : ℕ → ℕ → S) (rs : List (RankState S)) (sent got : Logs) : Type 0 where
+  pub ranked : AllRanks R dims cap slots manner starts h rs sent got
+  pub none_past : (l : ℕ) → links dims ≤ l → (sent l ≡ []) × (got l ≡ [])
+  pub relays : (r : ℕ) → r < ranks dims → RelayLaw dims r sent got
+  pub some : 0 < cap
+  pub inboxes : (l : ℕ) → l < links dims → inbox dims rs l ≤ length (parcel_entries (got l))
+  pub cycle : ℕ → ℕ
+  pub keeps : (r : ℕ) (x : RankState S) → slice_get rs r ≡ Some x
+      → KeepsCycle R (quota_of R (ranks dims) starts r) (cycle r) x (starting_at dims r sent) (ending_at dims r got)
+
+-- what moved so far
+abbrev pub move_of : {S : Type 0} → List ℕ → List (RankState S) → Logs → Logs → ℕ → ℕ
+move_of dims rs sent got l = length (sent l) + length (got l) + (length (parcel_entries (got l)) - inbox dims rs l)
+
+abbrev pub moves : {S : Type 0} → List ℕ → List (RankState S) → Logs → Logs → ℕ
+moves dims rs sent got = total (links dims) (move_of dims rs sent got)
+
+-- what holds of the logs of all ranks over a bank
+pub record Lawful (dims : List ℕ) (cap slots : ℕ) (sent got : Logs) : Type 0 where
+  pub links_keep : (l : ℕ) → l < links dims → LinkLaw cap slots (sent l) (got l)
+  pub none_past : (l : ℕ) → links dims ≤ l → (sent l ≡ []) × (got l ≡ [])
+  pub relays : (r : ℕ) → r < ranks dims → RelayLaw dims r sent got
+
+-- a rank at rest over a conveyor, over lists that its turn didn't change
+pub record Rests (dims : List ℕ) (slots r : ℕ) (c' : State) (sent got : Logs) : Type 0 where
+  pub c : State
+  pub same_dims : c.dims ≡ dims
+  pub same_rank : c.rank ≡ r
+  pub same_epoch : c.epoch ≡ c'.epoch
+  pub kept : (l : ℕ) → l < links dims → reader_at dims l ≡ r
+      → length (in_of c l).parcel.untaken ≤ length (in_of c' l).parcel.untaken
+  pub left : IsLeft c c' (starting_at dims r sent) (ending_at dims r got) (starting_at dims r sent)
+      (ending_at dims r got) (crowded_in dims slots r sent got) (idle_in dims r sent got)
+
+-- of ranks over exstacks nothing is said
+abbrev pub RestsBy : List ℕ → ℕ → ℕ → MoverState → Logs → Logs → Type 0
+RestsBy dims slots r (Conveying c') sent got = Rests dims slots r c' sent got
+RestsBy dims slots r (Stacking cap x) sent got = ⊤
+
+-- Every rank, in its cycle, has made j halves of rounds.
+abbrev pub AllMade : {S : Type 0} → (ℕ → ℕ) → ℕ → (ℕ → ℕ) → List (RankState S) → Type 0
+AllMade {S} most j cycle rs = (r : ℕ) (x : RankState S) → slice_get rs r ≡ Some x
+    → MoverMade most j x.over (cycle r) x.node.mover
+
+-- What turns leave of the plain bank that they began with.
+pub record KeepsBank (cap : ℕ) (before after : Bank) : Type 0 where
+  -- It is lawful.
+  pub lawful : IsBank cap after
+  -- It has the same grid and as many slots.
+  pub same_dims : after.dims ≡ before.dims
+  pub same_slots : after.slots ≡ before.slots
+
+-- What a drive is given: programs that begin one run of n rounds, and links with some slots.
+pub record DrivePlan {S : Type 0} (R : Rules S) (dims : List ℕ) (slots : ℕ) (starts : List S) (n : ℕ) : Type 0 where
+  pub shape : List ℕ
+  pub most : ℕ
+  pub start : InRound R (ranks dims) 0 shape most starts
+  pub rounds : HasRounds R starts n
+  pub few : n < 2 ^ 62
+  pub some : 0 < slots
+
+-- What the turns of the first i ranks of an order leave of all ranks, which were in some cycles.
+-- forward: no rank goes back. grown: what moved stays moved.
+-- rests: where nothing moved, each rank that was turned and is in its epoch still is at rest.
+-- made: over exstacks, where every rank had made j halves of rounds, each still has, and one that
+-- was turned has made one more.
+pub record SweptTo {S : Type 0} (R : Rules S) (dims : List ℕ) (cap slots : ℕ) (manner : Manner) (starts : List S)
+    (order : List ℕ) (i : ℕ) (cycle0 : ℕ → ℕ) (rs0 : List (RankState S)) (sent0 got0 : Logs) (rs : List (RankState S))
+    (sent got : Logs) : Type 0 where
+  pub h : ℕ → ℕ → S
+  pub world : World R dims cap slots manner starts h rs sent got
+  pub grown : moves dims rs0 sent0 got0 ≤ moves dims rs sent got
+  pub forward : (r : ℕ) (x0 x : RankState S) → slice_get rs0 r ≡ Some x0 → slice_get rs r ≡ Some x
+      → progress x0 ≤ progress x
+  pub rests : moves dims rs sent got ≤ moves dims rs0 sent0 got0 → (j r : ℕ) → j < i → slice_get order j ≡ Some r
+      → (x0 x : RankState S) → slice_get rs0 r ≡ Some x0 → slice_get rs r ≡ Some x
+      → x.over ≡ false → progress x ≡ progress x0 → RestsBy dims slots r x.node.mover sent got
+  pub made : (j : ℕ) → AllMade (most_rounds R (ranks dims) starts) j cycle0 rs0
+      → AllMade (most_rounds R (ranks dims) starts) j world.cycle rs
+      × ((p r : ℕ) → p < i → slice_get order p ≡ Some r → (x : RankState S) → slice_get rs r ≡ Some x
+      → (x.over ≡ true) ⊎ MoverMade (most_rounds R (ranks dims) starts) (j + 1) x.over (world.cycle r) x.node.mover)

@@ -10,8 +10,8 @@ use bale_runs::{RunEnd, drives_serially, run_command, run_serially};
 use bale_subjects::{Refusal, Subject, read_words, report, subject_for};
 use bale_types::{Sink, Source};
 use bale_words::Command;
-use mtx_text::OneThread;
-use rank_group::{Gate, Rounds, Steps};
+use mtx_text::{OnThreads, OneThread};
+use rank_group::{Gate, Rounds, Steps, threads_for};
 use std::alloc::Global;
 use std::sync::Wait;
 use std::sync::ledger::Ledger;
@@ -139,10 +139,19 @@ fn answer_of<R: Threads + Wait + Sync, S: Source, K: Sink, G: Gate + Sync>(
         S.left S.faults source.old source.new K.taken K.faults out.old out.new result }
 {
     let serial = drives_serially(command);
-    match subject_for(&OneThread, alloc, command, source, serial) {
+    let execution = OnThreads::new(rt, threads_to_read(rt, command, serial));
+    match subject_for(&execution, alloc, command, source, serial) {
         Ok(subject) => run_command(rt, alloc, command, &subject, out, gate),
         Err(refusal) => Err(refusal),
     }
+}
+
+/// On how many threads a matrix is read: as many as turn the ranks.
+fn threads_to_read<R: Threads>(rt: &R, command: &Command, serial: bool) -> u32 {
+    if serial {
+        return 1;
+    }
+    threads_for(rt, command.grid.ranks()) as u32
 }
 
 /// The run of a command with all ranks on this thread, and its answer on out, or why there is none.

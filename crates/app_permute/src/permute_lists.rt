@@ -9,8 +9,8 @@ use bale_items::{NoMemory, Triple};
 use mtx_text::Cells;
 use std::alloc::Global;
 
-/// Moves the cells that came in round 0 or 1 into `list`, in order; those of a later round stay, in
-/// order too, and the list is empty.
+/// Moves the cells that came in round 0 or 1 into `list`, in order; those of a later round stay,
+/// and the list is empty.
 pub(crate) fn take_cells(cells: &mut Cells, list: &mut Vec<Triple>, round: u64)
     ensures came { list.new.items ≡ (if nat_lt round 2 then cells.old else []) }
     ensures kept { cells.new ≡ (if nat_lt round 2 then [] else cells.old) }
@@ -18,7 +18,6 @@ pub(crate) fn take_cells(cells: &mut Cells, list: &mut Vec<Triple>, round: u64)
     if round < 2 {
         cells.take_entries(list);
     } else {
-        cells.settle();
         *list = Vec::new(*list.allocator());
     }
 }

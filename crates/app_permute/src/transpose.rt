@@ -153,8 +153,6 @@ impl Program for Transpose {
 
     fn end_round(&mut self, votes: u64) -> Result<bool, NoMemory> {
         self.round = self.round.saturating_add(1);
-        // Here each rank puts its own cells in order, all at once on threads.
-        self.cells.settle();
         // What was sent makes room for the matrix.
         self.outgoing = Vec::new(*self.outgoing.allocator());
         Ok(false)

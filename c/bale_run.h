@@ -63,20 +63,20 @@ typedef void bale_work(bale_rank *rank, uint32_t me, void *context);
 /* Pulls all that has come, and calls take with each item: how many there were, or below 0 what is
    wrong. */
 static inline int64_t bale_drain(bale_rank *rank, bale_take *take, void *context) {
-    enum { AT_ONCE = 256 };
-    bale_item items[AT_ONCE];
-    uint32_t from[AT_ONCE];
-    int64_t all = 0, count;
-    while ((count = bale_pull_many(rank, items, AT_ONCE, from, AT_ONCE)) > 0) {
-        for (int64_t k = 0; k < count; k++)
-            take(context, &items[k], from[k]);
-        all += count;
-        if (count < AT_ONCE)
-            return all;
+    const bale_entry *entries;
+    size_t count;
+    uint32_t from;
+    int64_t all = 0;
+    int32_t answer;
+    while ((answer = bale_view(rank, &entries, &count, &from)) == BALE_OK) {
+        for (size_t k = 0; k < count; k++)
+            take(context, &entries[k].item, from);
+        bale_pulled(rank, count);
+        all += (int64_t)count;
     }
-    if (count < 0)
-        BALE_FAILED("bale_drain", (int32_t)count);
-    return count < 0 ? count : all;
+    if (answer < 0)
+        BALE_FAILED("bale_drain", answer);
+    return answer < 0 ? answer : all;
 }
 
 /* Drains, and gives the processor away if nothing had come. */

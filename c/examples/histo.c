@@ -1,52 +1,89 @@
-/* A histogram, as bale's histo makes it: each of four ranks has 1,000,000 random indices into a
-   table that is dealt out over all ranks, and sends each one to the rank that has its place, which
-   counts it. */
-#include <bale_run.h>
-#include "ranks.h"
+/* A histogram, as bale's histo makes it: each rank draws random indices into a table that is dealt out over all ranks, and
+   sends each one to the rank that has its place, which counts it.
+   histo [counters, 1 to 1,000,000,000 [ranks [times]]] */
+#include "common.h"
 
-enum { UPDATES = 1000000, TABLE = 100000 };
+/* What one rank has: of each rank r the places r, r + ranks, .. of the table. */
+typedef struct {
+    uint64_t *counts, counters, updates;
+    uint32_t ranks;
+    bale_counts sent;
+} part;
 
-static uint64_t counts[RANKS][TABLE / RANKS + 1]; /* of each rank r the places r, r + RANKS, .. */
-
-static bale_counts sent[RANKS];
-
-static void count(void *places, const void *item, uint32_t from) {
+static void count(void *context, const void *item, uint32_t from) {
     (void)from;
-    ((uint64_t *)places)[bale_value(uint32_t, item)]++;
+    ((part *)context)->counts[bale_value(uint32_t, item)]++;
 }
 
 static void count_all(bale_rank *rank, uint32_t me, void *context) {
+    part *my = (part *)context + me;
     uint64_t seed = me;
-    (void)context;
     bale_begin(rank);
-    for (uint32_t k = 0; k < UPDATES; k++) {
-        uint32_t index = (uint32_t)(random_of(&seed) % TABLE), place = index / RANKS;
-        bale_send(rank, &place, index % RANKS, count, counts[me]);
+    for (uint64_t k = 0; k < my->updates; k++) {
+        uint64_t index = random_of(&seed) % my->counters;
+        uint32_t place = (uint32_t)(index / my->ranks);
+        bale_send(rank, &place, (uint32_t)(index % my->ranks), count, my);
     }
-    bale_finish(rank, count, counts[me]);
-    bale_statistics(rank, &sent[me]);
+    bale_finish(rank, count, my);
+    bale_statistics(rank, &my->sent);
 }
 
-int main(void) {
-    bale_run(RANKS, count_all, NULL);
+/* A table of zeros whose memory has been touched. */
+static uint64_t *table_of(uint64_t places) {
+    uint64_t *table = room(places, sizeof(uint64_t));
+    memset(table, 0, places * sizeof(uint64_t));
+    return table;
+}
 
-    /* The same counts, made by one thread without any exchange. */
-    uint64_t *wanted = calloc(TABLE, sizeof(uint64_t)), all = 0, wrong = 0;
-    if (wanted == NULL)
-        return 1;
-    for (uint32_t r = 0; r < RANKS; r++) {
+/* The same counts, made by one loop without any exchange. */
+static void by_one(const part *all, uint64_t *counts) {
+    for (uint32_t r = 0; r < all->ranks; r++) {
         uint64_t seed = r;
-        for (uint32_t k = 0; k < UPDATES; k++)
-            wanted[random_of(&seed) % TABLE]++;
+        for (uint64_t k = 0; k < all->updates; k++)
+            counts[random_of(&seed) % all->counters]++;
     }
-    for (uint64_t place = 0; place < TABLE; place++) {
-        uint64_t found = counts[place % RANKS][place / RANKS];
-        all += found;
-        wrong += found != wanted[place];
+}
+
+#ifdef _OPENMP
+/* The same by OpenMP, with an atomic addition for each. */
+static void by_openmp(const part *all, uint64_t *counts) {
+#pragma omp parallel for schedule(static, 1) num_threads(all->ranks)
+    for (uint32_t r = 0; r < all->ranks; r++) {
+        uint64_t seed = r;
+        for (uint64_t k = 0; k < all->updates; k++)
+            __atomic_fetch_add(&counts[random_of(&seed) % all->counters], 1, __ATOMIC_RELAXED);
     }
+}
+#endif
+
+int main(int argc, char **argv) {
+    options o = options_of(argc, argv, "histo [counters, 1 to 1000000000", 100000, 1000000000);
+    uint64_t updates = (o.size > 4000000 ? o.size : 4000000) / o.ranks, wrong = 0;
+    part *all = room(o.ranks, sizeof(part));
+    for (uint32_t r = 0; r < o.ranks; r++)
+        all[r] = (part){table_of(o.size / o.ranks + 1), o.size, updates, o.ranks, {0, 0, 0, 0}};
+    uint64_t *wanted = table_of(o.size);
+    double began = seconds();
+    by_one(all, wanted);
+    took(o, "one loop", began);
+#ifdef _OPENMP
+    uint64_t *shared = table_of(o.size);
+    began = seconds();
+    by_openmp(all, shared);
+    took(o, "OpenMP", began);
+    wrong += memcmp(shared, wanted, o.size * sizeof(uint64_t)) != 0;
+    free(shared);
+#endif
+    began = seconds();
+    bale_run(o.ranks, count_all, all);
+    took(o, "bale", began);
+    for (uint64_t place = 0; place < o.size; place++)
+        wrong += all[place % o.ranks].counts[place / o.ranks] != wanted[place];
+    printf("histo: rank 0 sent %llu items in %llu buffers, %llu places wrong\n", (unsigned long long)all[0].sent.items_sent,
+           (unsigned long long)all[0].sent.buffers_sent, (unsigned long long)wrong);
+    for (uint32_t r = 0; r < o.ranks; r++)
+        free(all[r].counts);
+    free(all);
     free(wanted);
-    printf("histo: rank 0 sent %llu items in %llu buffers\n", (unsigned long long)sent[0].items_sent,
-           (unsigned long long)sent[0].buffers_sent);
-    printf("histo: %llu counted, %llu places wrong\n", (unsigned long long)all, (unsigned long long)wrong);
-    return all != (uint64_t)RANKS * UPDATES || wrong != 0;
+    return wrong != 0;
 }

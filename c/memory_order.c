@@ -69,7 +69,7 @@ static void one_epoch(rank *me, uint64_t epoch, uint64_t *seed) {
             if (bale_push(&me->handle, &item, (uint32_t)(random_of(seed) % RANKS)) != BALE_OK)
                 break;
             if (BREAKS == 2)
-                b->words[0]++;
+                b->words[0] = mark(epoch, me->number, 0); /* the same, so that the race alone is wrong */
         }
         if (sent == me->held_count && !said) {
             said = true;

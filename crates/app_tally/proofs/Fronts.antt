@@ -1,5 +1,5 @@
 -- The numbers of lines tell their order where they differ.
-use Rattle.std.proofs.Common.{ℕ, zero, suc, ◌+◌, ◌-◌, ◌*◌, ◌^◌, ◌<◌, ◌≡◌, List, [], ◌∷◌, ◌++◌, map, take, replicate, get_or, length, All, arith, lit<, refl, sym, ap, ◌∙◌, subst}
+use Rattle.std.proofs.Common.{ℕ, zero, suc, ◌+◌, ◌-◌, ◌*◌, ◌^◌, ◌<◌, ◌≡◌, false, List, [], ◌∷◌, ◌++◌, map, take, replicate, get_or, length, All, arith, lit<, refl, sym, ap, ◌∙◌, subst}
 use Rattle.std.proofs.Common.{Ordering, Less, Equal, Greater, is_lt}
 use Rattle.std.specs.Int.{w128, byte_worth, sum_through, from_be_bytes}
 use Rattle.std.specs.Ordering.{nat_cmp, ordering_then}
@@ -8,8 +8,8 @@ use Rattle.std.proofs.lemmas.Nat.{mul-add-lt}
 use Rattle.std.proofs.lemmas.Cmp.{ranked}
 use Rattle.std.proofs.lemmas.Option.{get_or_from_slice_get}
 use Rattle.list_laws.proofs.Lists.{find, get_map, all_get, all_head, all_tail}
-use Rattle.elastic.specs.Spelling.{IsLetter}
-use Rattle.app_tally.specs.Counts.{by_bytes}
+use Rattle.app_tally.specs.Counts.{by_bytes, Entry}
+use Rattle.app_tally.specs.code.CountView.{IsLineEntry}
 use Rattle.app_tally.specs.laws.CountOrder.{order_turned}
 use Rattle.app_tally.specs.Numbers.{front_number}
 
@@ -56,24 +56,31 @@ by_front Greater l m e a b = sym (order_turned m l Less (front_less 16 m l b a (
 pub front_order : (l m : List ℕ) → All (λ b. b < 256) l → All (λ b. b < 256) m → ordering_then (nat_cmp (front_number 16 l) (front_number 16 m)) (by_bytes l m) ≡ by_bytes l m
 front_order l m a b = by_front (nat_cmp (front_number 16 l) (front_number 16 m)) l m refl a b
 
-letter_at : {X : Type 0} (line : X → List ℕ) (xs : List X) (i : ℕ) (d : X) → i < length xs → All IsLetter (map line xs) → IsLetter (line (get_or xs i d))
-letter_at line xs i d low all =
+entry_of : {X : Type 0} (entry : X → Entry) (xs : List X) (i : ℕ) (d : X) → i < length xs → All IsLineEntry (map entry xs) → IsLineEntry (entry (get_or xs i d))
+entry_of entry xs i d low all =
     let x = find xs i low in
-    subst (λ y. IsLetter (line y)) (sym (get_or_from_slice_get xs i x.0 d x.1)) (all_get IsLetter (map line xs) i (line x.0) all (get_map line xs i x.0 x.1))
+    subst (λ y. IsLineEntry (entry y)) (sym (get_or_from_slice_get xs i x.0 d x.1)) (all_get IsLineEntry (map entry xs) i (entry x.0) all (get_map entry xs i x.0 x.1))
 
-pub sorted_by_front : {X : Type 0} (number : X → ℕ) (line : X → List ℕ) (xs : List X) → All (λ x. number x ≡ front_number 16 (line x)) xs → All IsLetter (map line xs)
-    → IsSortedBy (λ x y. is_lt (ordering_then (nat_cmp (number x) (number y)) (by_bytes (line x) (line y)))) xs → IsSortedBy (λ x y. is_lt (by_bytes (line x) (line y))) xs
-sorted_by_front {X} number line xs numbers letters sorted k d low high =
+not_before : (o p : Ordering) → is_lt (ordering_then o p) ≡ false → is_lt o ≡ false
+not_before Less p h = h
+not_before Equal p h = refl
+not_before Greater p h = refl
+
+-- entries that are in the order of numbers, lines and times are in that of lines
+pub sorted_by_front : {X : Type 0} (number : X → ℕ) (entry : X → Entry) (xs : List X) → All (λ x. number x ≡ front_number 16 (entry x).0) xs → All IsLineEntry (map entry xs)
+    → IsSortedBy (λ x y. is_lt (ordering_then (ordering_then (nat_cmp (number x) (number y)) (by_bytes (entry x).0 (entry y).0)) (nat_cmp (entry x).1 (entry y).1))) xs
+    → IsSortedBy (λ x y. is_lt (by_bytes (entry x).0 (entry y).0)) xs
+sorted_by_front {X} number entry xs numbers counted sorted k d low high =
     let x : X = get_or xs k d in
     let y : X = get_or xs (k + 1) d in
-    let nx : number x ≡ front_number 16 (line x) = numbers k d (omega arith) in
-    let ny : number y ≡ front_number 16 (line y) = numbers (k + 1) d high in
-    let lx : IsLetter (line x) = letter_at line xs k d (omega arith) letters in
-    let ly : IsLetter (line y) = letter_at line xs (k + 1) d high letters in
-    sym (ap is_lt (front_order (line y) (line x) ly.bytes lx.bytes))
-    ∙ ap (λ n. is_lt (ordering_then (nat_cmp n (front_number 16 (line x))) (by_bytes (line y) (line x)))) (sym ny)
-    ∙ ap (λ n. is_lt (ordering_then (nat_cmp (number y) n) (by_bytes (line y) (line x)))) (sym nx)
-    ∙ sorted k d low high
+    let nx : number x ≡ front_number 16 (entry x).0 = numbers k d (omega arith) in
+    let ny : number y ≡ front_number 16 (entry y).0 = numbers (k + 1) d high in
+    let lx : IsLineEntry (entry x) = entry_of entry xs k d (omega arith) counted in
+    let ly : IsLineEntry (entry y) = entry_of entry xs (k + 1) d high counted in
+    sym (ap is_lt (front_order (entry y).0 (entry x).0 ly.0.bytes lx.0.bytes))
+    ∙ ap (λ n. is_lt (ordering_then (nat_cmp n (front_number 16 (entry x).0)) (by_bytes (entry y).0 (entry x).0))) (sym ny)
+    ∙ ap (λ n. is_lt (ordering_then (nat_cmp (number y) n) (by_bytes (entry y).0 (entry x).0))) (sym nx)
+    ∙ not_before (ordering_then (nat_cmp (number y) (number x)) (by_bytes (entry y).0 (entry x).0)) (nat_cmp (entry y).1 (entry x).1) (sorted k d low high)
 
 -- ---- The number of sixteen bytes
 

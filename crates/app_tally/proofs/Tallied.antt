@@ -15,7 +15,7 @@ abbrev pub found : List ℕ → List Entry → ℕ
 found q [] = 0
 found q (e ∷ es) = cond (is_eq (by_bytes q e.0)) e.1 (found q es)
 
-abbrev one_if : Bool → ℕ
+abbrev pub one_if : Bool → ℕ
 one_if b = cond b 1 0
 
 -- a line that isn't that of the first entry

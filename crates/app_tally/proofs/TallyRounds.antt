@@ -2,13 +2,12 @@
 use Rattle.std.proofs.Common.{ℕ, zero, suc, ◌+◌, ◌-◌, ◌*◌, ◌/◌, ◌%◌, ◌<◌, ◌≡◌, ◌==◌, Bool, true, false, cond, List, [], ◌∷◌, ◌++◌, None, Some, map, length, get_or, take, slice_get, filter, fold, count_by, All, arith, inl, inr, refl, sym, ap, ◌∙◌, subst, lit<}
 use Rattle.std.proofs.Common.{is_eq, is_lt}
 use Rattle.std.specs.List.{range_with_len, enumerate_from, sum}
-use Rattle.std.specs.List.Sorted.{IsPermutation, IsSortedBy}
+use Rattle.std.specs.List.Sorted.{IsSortedBy}
 use Rattle.std.proofs.Math.Nat.{mod-lt}
 use Rattle.std.proofs.lemmas.Bool.{cases_lt}
 use Rattle.std.proofs.lemmas.List.{length-map, take_more, append_assoc}
 use Rattle.std.proofs.lemmas.List.Elements.{All-map, All-filter}
 use Rattle.std.proofs.lemmas.List.FromFn.{length-map-range_with_len}
-use Rattle.std.proofs.lemmas.List.Sorted.{IsPermutation-map, sum_by-IsPermutation, All-permutation}
 use Rattle.std.proofs.lemmas.List.Sums.{sum_by-cons}
 use Rattle.std.proofs.lemmas.Option.{get_or_from_slice_get}
 use Rattle.list_laws.specs.Sums.{total}
@@ -24,10 +23,12 @@ use Rattle.elastic.specs.LetterRuns.{letters_to_of, letters_by, absorb_letters, 
 use Rattle.elastic.specs.Mails.{MailState, mailing, mail_rules}
 use Rattle.elastic.specs.Theorem.{SameLetterRuns}
 use Rattle.elastic.proofs.Runs.{mailers_run_letters}
-use Rattle.app_tally.specs.Counts.{by_bytes, with_line, times, tally_of, Rises}
+use Rattle.app_tally.specs.Counts.{by_bytes, Entry, with_line, times, tally_of, Rises}
+use Rattle.app_tally.specs.code.CountView.{counted_lines}
 use Rattle.app_tally.specs.Tallies.{TallyState, tally_rules, IsTallying, counter_of}
 use Rattle.app_tally.specs.laws.TallyLaws.{tally_laws}
 use Rattle.app_tally.specs.TallyRuns.{own_lines, tally_begins, tally_starts, TallyEnded}
+use Rattle.app_tally.proofs.Multisets.{counted_append}
 use Rattle.app_tally.proofs.Tallied.{found, found_on, rises_on, found_tally, times_cons}
 
 -- ---- Letters by their parts
@@ -220,42 +221,27 @@ all_come ranks lines q some =
 
 -- ---- Gathering and sorting
 
-times_append : (q : List ℕ) (xs ys : List (List ℕ)) → times q (xs ++ ys) ≡ times q xs + times q ys
-times_append q [] ys = omega arith
-times_append q (x ∷ xs) ys =
-    let one : times q (x ∷ (xs ++ ys)) ≡ cond (is_eq (by_bytes q x)) 1 0 + times q (xs ++ ys) = times_cons q x (xs ++ ys) in
-    let two : times q (x ∷ xs) ≡ cond (is_eq (by_bytes q x)) 1 0 + times q xs = times_cons q x xs in
-    let rest : times q (xs ++ ys) ≡ times q xs + times q ys = times_append q xs ys in
-    omega arith
-
 -- the lines of one more rank
-pub gathered_more : (ranks : ℕ) (lines : List (List ℕ)) (q : List ℕ) (r n : ℕ) (old new came : List (List ℕ)) → times q old ≡ total r (comes ranks lines q) → new ≡ old ++ came → found q (tally_of came) ≡ comes ranks lines q r → n ≡ r + 1
-    → times q new ≡ total n (comes ranks lines q)
+pub gathered_more : (ranks : ℕ) (lines : List (List ℕ)) (q : List ℕ) (r n : ℕ) (old new came : List Entry) → times q (counted_lines old) ≡ total r (comes ranks lines q) → new ≡ old ++ came → found q (tally_of (counted_lines came)) ≡ comes ranks lines q r → n ≡ r + 1
+    → times q (counted_lines new) ≡ total n (comes ranks lines q)
 gathered_more ranks lines q r n old new came so_far e has next =
-    let both : times q (old ++ came) ≡ times q old + times q came = times_append q old came in
-    let more : times q came ≡ comes ranks lines q r = sym (found_tally q came) ∙ has in
-    let all : times q new ≡ total (suc r) (comes ranks lines q) = ap (times q) e ∙ (let s : times q (old ++ came) ≡ total r (comes ranks lines q) + comes ranks lines q r = omega arith in s) in
-    subst (λ k. times q new ≡ total k (comes ranks lines q)) (let s : suc r ≡ n = omega arith in s) all
+    let both : times q (counted_lines (old ++ came)) ≡ times q (counted_lines old) + times q (counted_lines came) = counted_append q old came in
+    let more : times q (counted_lines came) ≡ comes ranks lines q r = sym (found_tally q (counted_lines came)) ∙ has in
+    let all : times q (counted_lines new) ≡ total (suc r) (comes ranks lines q) = ap (λ es. times q (counted_lines es)) e ∙ (let s : times q (counted_lines (old ++ came)) ≡ total r (comes ranks lines q) + comes ranks lines q r = omega arith in s) in
+    subst (λ k. times q (counted_lines new) ≡ total k (comes ranks lines q)) (let s : suc r ≡ n = omega arith in s) all
 
-pub gather_more : (came : List (List ℕ)) (i : ℕ) (l : List ℕ) (first old new : List (List ℕ)) → i < length came → slice_get came i ≡ Some l → old ≡ first ++ take i came → new ≡ old ++ l ∷ [] → new ≡ first ++ take (i + 1) came
-gather_more came i l first old new low at so_far e =
-    e ∙ ap (λ w. w ++ l ∷ []) so_far ∙ append_assoc first (take i came) (l ∷ []) ∙ ap (λ w. first ++ (take i came ++ w ∷ [])) (sym (get_or_from_slice_get came i l l at)) ∙ ap (λ w. first ++ w) (sym (take_more came i l low))
+pub gather_more : (came : List Entry) (i : ℕ) (e : Entry) (first old new : List Entry) → i < length came → slice_get came i ≡ Some e → old ≡ first ++ take i came → new ≡ old ++ e ∷ [] → new ≡ first ++ take (i + 1) came
+gather_more came i e first old new low at so_far is =
+    is ∙ ap (λ w. w ++ e ∷ []) so_far ∙ append_assoc first (take i came) (e ∷ []) ∙ ap (λ w. first ++ (take i came ++ w ∷ [])) (sym (get_or_from_slice_get came i e e at)) ∙ ap (λ w. first ++ w) (sym (take_more came i e low))
 
--- sorted lines are the same lines
-pub times_sorted : {X : Type 0} (f : X → List ℕ) (xs ys : List X) (q : List ℕ) → IsPermutation xs ys → times q (map f ys) ≡ times q (map f xs)
-times_sorted f xs ys q p = sum_by-IsPermutation (λ m. cond (is_eq (by_bytes q m)) 1 0) (map f xs) (map f ys) (IsPermutation-map f xs ys p)
-
-pub letters_sorted : {X : Type 0} (f : X → List ℕ) (xs ys : List X) → IsPermutation xs ys → All IsLetter (map f xs) → All IsLetter (map f ys)
-letters_sorted f xs ys p a = All-permutation IsLetter (map f xs) (map f ys) (IsPermutation-map f xs ys p) a
-
--- and lie in order
-pub sorted_map : {X : Type 0} (f : X → List ℕ) (xs : List X) → IsSortedBy (λ x y. is_lt (by_bytes (f x) (f y))) xs → IsSortedBy (λ l m. is_lt (by_bytes l m)) (map f xs)
+-- sorted entries are in order
+pub sorted_map : {X : Type 0} (f : X → Entry) (xs : List X) → IsSortedBy (λ x y. is_lt (by_bytes (f x).0 (f y).0)) xs → IsSortedBy (λ (e : Entry) (f : Entry). is_lt (by_bytes e.0 f.0)) (map f xs)
 sorted_map {X} f xs s k d low high =
     let len : length (map f xs) ≡ length xs = length-map xs f in
     let x : (x : X) × (slice_get xs k ≡ Some x) = find xs k (omega arith) in
     let y : (y : X) × (slice_get xs (k + 1) ≡ Some y) = find xs (k + 1) (omega arith) in
     let first : get_or (map f xs) k d ≡ f x.0 = get_or_from_slice_get (map f xs) k (f x.0) d (get_map f xs k x.0 x.1) in
     let second : get_or (map f xs) (k + 1) d ≡ f y.0 = get_or_from_slice_get (map f xs) (k + 1) (f y.0) d (get_map f xs (k + 1) y.0 y.1) in
-    ap (λ l. is_lt (by_bytes l (get_or (map f xs) k d))) second ∙ ap (λ l. is_lt (by_bytes (f y.0) l)) first
-    ∙ ap (λ w. is_lt (by_bytes (f w) (f x.0))) (sym (get_or_from_slice_get xs (k + 1) y.0 x.0 y.1)) ∙ ap (λ w. is_lt (by_bytes (f (get_or xs (k + 1) x.0)) (f w))) (sym (get_or_from_slice_get xs k x.0 x.0 x.1))
+    ap (λ (e : Entry). is_lt (by_bytes e.0 (get_or (map f xs) k d).0)) second ∙ ap (λ (e : Entry). is_lt (by_bytes (f y.0).0 e.0)) first
+    ∙ ap (λ w. is_lt (by_bytes (f w).0 (f x.0).0)) (sym (get_or_from_slice_get xs (k + 1) y.0 x.0 y.1)) ∙ ap (λ w. is_lt (by_bytes (f (get_or xs (k + 1) x.0)).0 (f w).0)) (sym (get_or_from_slice_get xs k x.0 x.0 x.1))
     ∙ s k x.0 low (omega arith)

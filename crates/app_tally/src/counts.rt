@@ -4,9 +4,8 @@ ghost use Rattle.std.specs.Prelude.{◌≡◌, ◌≢◌, ◌<◌, ◌≤◌, �
 ghost use Rattle.std.specs.List.{All};
 ghost use Rattle.std.specs.List.Sorted.{IsSortedBy};
 ghost use Rattle.std.specs.Ordering.{is_gt, is_lt};
-ghost use Rattle.elastic.specs.Spelling.{IsLetter};
-ghost use Rattle.app_tally.specs.code.CountView.{numbered_lines, IsCounts};
-ghost use Rattle.app_tally.specs.Counts.{by_bytes, with_line, tally_of};
+ghost use Rattle.app_tally.specs.code.CountView.{numbered_lines, counted_lines, counted_times, IsCounts, IsLineEntry};
+ghost use Rattle.app_tally.specs.Counts.{by_bytes, Entry, tally_of};
 ghost use Rattle.app_tally.specs.Numbers.{front_number};
 
 use crate::numbered::Numbered;
@@ -68,47 +67,50 @@ impl Counts {
     }
 }
 
-/// The tally of lines: they are sorted, and then equal ones stand side by side.
+/// The tally of lines with numbers: they are sorted, and then equal ones are side by side.
 pub(crate) fn tally_all(alloc: Global, lines: Vec<Numbered<'_>>) -> Result<Counts, NoMemory>
-    requires letters { All IsLetter (map (λ l. l.1.now) lines.items) }
+    requires counted { All IsLineEntry (map (λ l. (l.1.now, l.2)) lines.items) }
     requires numbers { All (λ l. l.0 ≡ front_number 16 l.1.now) lines.items }
-    ensures { IfOk result (λ c. c ≡ tally_of (map (λ l. l.1.now) lines.entry.items)) }
+    ensures { IfOk result (λ c. c ≡ tally_of (counted_lines (map (λ l. (l.1.now, l.2)) lines.entry.items))) }
 {
     let mut sorted = lines;
+    // A sort by the numbers alone is fast; the second one passes over lines that are in order, and
+    // sorts those that have the same number.
+    sorted.sort_unstable_by_key(|l| l.0);
     sorted.sort_unstable();
     count_sorted(alloc, sorted.as_slice())
 }
 
-/// The tally of lines that are in order.
+/// The tally of lines with numbers that are in order.
 fn count_sorted(alloc: Global, sorted: &[Numbered<'_>]) -> Result<Counts, NoMemory>
-    requires order { IsSortedBy (λ l m. is_lt (by_bytes l m)) (map (λ l. l.1.now) sorted.now) }
-    requires letters { All IsLetter (map (λ l. l.1.now) sorted.now) }
-    ensures { IfOk result (λ c. c ≡ tally_of (map (λ l. l.1.now) sorted.now)) }
+    requires order { IsSortedBy (λ (e : Entry) (f : Entry). is_lt (by_bytes e.0 f.0))
+        (map (λ l. (l.1.now, l.2)) sorted.now) }
+    requires counted { All IsLineEntry (map (λ l. (l.1.now, l.2)) sorted.now) }
+    ensures { IfOk result (λ c. c ≡ tally_of (counted_lines (map (λ l. (l.1.now, l.2)) sorted.now))) }
 {
     let mut lines = Strings::new(alloc);
     let mut times = Vec::new(alloc);
     for line in sorted {
-        count(&mut lines, &mut times, line.1)?;
+        count(&mut lines, &mut times, line.1, line.2)?;
     }
     Ok(Counts::of_parts(lines, times))
 }
 
-/// Counts one more line, which is no less than those counted so far.
-fn count(lines: &mut Strings, times: &mut Vec<u64>, line: &[u8]) -> Result<(), NoMemory>
+/// Counts a line `more` times, which is no less than those counted so far.
+fn count(lines: &mut Strings, times: &mut Vec<u64>, line: &[u8], more: u64) -> Result<(), NoMemory>
     requires counts { IsCounts lines.old times.old.items }
     requires last { All (λ e. is_gt (by_bytes e.0 line.now) ≡ false) (numbered_lines lines.old times.old.items) }
-    requires room { All (λ e. e.1 + 1 < 2 ^ 64) (numbered_lines lines.old times.old.items) }
+    requires some { 0 < more }
     requires short { length line.now ≤ 65_535 }
     ensures counts { OnOk result (IsCounts lines.new times.new.items) }
     ensures counted { OnOk result (numbered_lines lines.new times.new.items
-        ≡ with_line line.now (numbered_lines lines.old times.old.items)) }
+        ≡ counted_times more line.now (numbered_lines lines.old times.old.items)) }
 {
     if ends_with(lines, line) {
-        one_more(times);
-        return Ok(());
+        return raise_last(times, more);
     }
     lines.push(line)?;
-    times.push(1)?;
+    times.push(more)?;
     Ok(())
 }
 
@@ -121,13 +123,16 @@ fn ends_with(lines: &Strings, line: &[u8]) -> bool
     len > 0 && lines.at(len - 1) == line
 }
 
-/// Raises the last number by one.
-fn one_more(times: &mut Vec<u64>)
-    requires some { 0 < length times.old.items }
-    requires room { slice_index times.old.items (length times.old.items - 1) + 1 < 2 ^ 64 }
-    ensures { times.new.items ≡ slice_set times.old.items (length times.old.items - 1)
-        (slice_index times.old.items (length times.old.items - 1) + 1) }
+/// Raises the last number, where it stays below 2^64.
+fn raise_last(times: &mut Vec<u64>, more: u64) -> Result<(), NoMemory>
+    requires { 0 < length times.old.items }
+    ensures { OnOk result (times.new.items ≡ slice_set times.old.items (length times.old.items - 1)
+        (slice_index times.old.items (length times.old.items - 1) + more)) }
 {
     let last = times.len() - 1;
-    times[last] += 1;
+    let Some(sum) = times[last].checked_add(more) else {
+        return Err(NoMemory);
+    };
+    times[last] = sum;
+    Ok(())
 }

@@ -3,19 +3,21 @@
 ghost use Rattle.std.specs.Prelude.{◌≡◌, ◌<◌, length};
 ghost use Rattle.app_tally.specs.Numbers.{front_number};
 
-/// A line behind the number that its first sixteen bytes are. Where two numbers differ they tell
-/// the order of the lines, so that hardly a line is looked at while lines are sorted.
-pub(crate) type Numbered<'a> = (u128, &'a [u8]);
+/// A line behind the number that its first sixteen bytes are, and how many times it came. Where two
+/// numbers differ they tell the order of the lines, so that hardly a line is looked at while lines
+/// are sorted.
+pub(crate) type Numbered<'a> = (u128, &'a [u8], u64);
 
-/// A line behind its number.
+/// A line behind its number, and how many times it came.
 #[inline(always)]
-pub(crate) fn numbered(line: &[u8]) -> Numbered<'_>
+pub(crate) fn numbered(line: &[u8], times: u64) -> Numbered<'_>
     ensures number { result.0 ≡ front_number 16 line.now }
     ensures line { result.1.now ≡ line.now }
+    ensures times { result.2 ≡ times }
 {
     match line.first_chunk::<16>() {
-        Some(front) => (number_of(*front), line),
-        None => (short_number(line), line),
+        Some(front) => (number_of(*front), line, times),
+        None => (short_number(line), line, times),
     }
 }
 

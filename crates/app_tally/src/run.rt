@@ -1,11 +1,11 @@
 //! tally's start, and its answer.
 
 ghost use Rattle.round_program.specs.Ranks.{AreRanks, IsRankOf};
-ghost use Rattle.std.specs.Prelude.{◌≡◌, ◌<◌, ◌+◌, ◌-◌, ◌/◌, ◌^◌, ◌++◌, ℕ, List, [], IfOk, OnOk, map};
+ghost use Rattle.std.specs.Prelude.{◌≡◌, ◌<◌, ◌+◌, ◌-◌, ◌/◌, ◌^◌, ℕ, List, [], IfOk, map};
 ghost use Rattle.std.specs.List.{All};
 ghost use Rattle.round_program.specs.Canonical.{InRound, EndsWithin};
-ghost use Rattle.elastic.specs.Spelling.{IsLetter};
 ghost use Rattle.elastic.specs.Mails.{mailing, mail_rules};
+ghost use Rattle.app_tally.specs.code.CountView.{counted_lines, IsLineEntry};
 ghost use Rattle.app_tally.specs.Counts.{times, tally_of, IsTally};
 ghost use Rattle.app_tally.specs.Numbers.{front_number};
 ghost use Rattle.app_tally.specs.Tallies.{tally_rules};
@@ -13,7 +13,7 @@ ghost use Rattle.app_tally.specs.TallyRuns.{own_lines, tally_begins, tally_start
 
 use crate::counts::{Counts, tally_all};
 use crate::lines::Lines;
-use crate::numbered::{Numbered, numbered};
+use crate::numbered::Numbered;
 use crate::strings::Strings;
 use crate::tally::Tally;
 use bale_items::NoMemory;
@@ -90,11 +90,11 @@ pub fn tally_end(alloc: Global, p: &Progs<Mailer<Tally>>) -> Result<Counts, NoMe
     tally_all(alloc, all)
 }
 
-/// The lines that came to all ranks.
+/// The lines that came to all ranks, each with how many times it came to one.
 fn all_came(alloc: Global, p: &Progs<Mailer<Tally>>) -> Result<Vec<Numbered<'_>>, NoMemory>
-    ensures times { (lines : List (List ℕ)) → TallyEnded lines p.now
-        → IfOk result (λ all. (q : List ℕ) → times q (map (λ l. l.1.now) all.items) ≡ times q lines) }
-    ensures letters { IfOk result (λ all. All IsLetter (map (λ l. l.1.now) all.items)) }
+    ensures times { (lines : List (List ℕ)) → TallyEnded lines p.now → IfOk result (λ all. (q : List ℕ)
+        → times q (counted_lines (map (λ l. (l.1.now, l.2)) all.items)) ≡ times q lines) }
+    ensures counted { IfOk result (λ all. All IsLineEntry (map (λ l. (l.1.now, l.2)) all.items)) }
     ensures numbers { IfOk result (λ all. All (λ l. l.0 ≡ front_number 16 l.1.now) all.items) }
 {
     let mut all = Vec::with_capacity(alloc, how_many_came(p))?;
@@ -102,12 +102,12 @@ fn all_came(alloc: Global, p: &Progs<Mailer<Tally>>) -> Result<Vec<Numbered<'_>>
         let Some(program) = p.get(rank) else {
             unreachable!()
         };
-        gather(&mut all, program.inner().came())?;
+        program.inner().came().gather(&mut all)?;
     }
     Ok(all)
 }
 
-/// How many lines came to all ranks, for which room is made at once.
+/// How many lines all ranks keep, for which room is made at once.
 fn how_many_came(p: &Progs<Mailer<Tally>>) -> usize {
     let mut count = 0usize;
     for rank in 0..p.len() {
@@ -117,17 +117,4 @@ fn how_many_came(p: &Progs<Mailer<Tally>>) -> usize {
         count = count.saturating_add(program.inner().came().len());
     }
     count
-}
-
-/// Appends the lines that came to one rank.
-fn gather<'a>(all: &mut Vec<Numbered<'a>>, came: &'a Strings) -> Result<(), NoMemory>
-    ensures gathered { OnOk result (map (λ l. l.1.now) all.new.items ≡ map (λ l. l.1.now) all.old.items ++ came.now) }
-    ensures numbers { OnOk result (All (λ l. l.0 ≡ front_number 16 l.1.now) all.old.items
-        → All (λ l. l.0 ≡ front_number 16 l.1.now) all.new.items) }
-    ensures letters { All IsLetter came.now }
-{
-    for i in 0..came.len() {
-        all.push(numbered(came.at(i)))?;
-    }
-    Ok(())
 }

@@ -1,9 +1,11 @@
 //! tally: the ranks send their lines to those that count them.
 
 ghost use Rattle.std.specs.Prelude.{◌≡◌, ◌<◌, ◌≤◌, [], length};
+ghost use Rattle.app_tally.specs.code.CountView.{counted_lines};
 ghost use Rattle.app_tally.specs.Counts.{tally_of};
 ghost use Rattle.app_tally.specs.Tallies.{IsTallying, counter_of};
 
+use crate::multiset::Multiset;
 use crate::strings::Strings;
 use bale_items::NoMemory;
 use elastic::LetterProgram;
@@ -11,8 +13,8 @@ use std::alloc::Global;
 use std::marker::Model;
 
 /// One rank's part of tally, in one round. A line is counted by the rank that is the sum of its
-/// bytes modulo the number of ranks. What comes is appended; it is sorted and counted once, when
-/// all ranks have ended.
+/// bytes modulo the number of ranks. What comes is counted at once, on the rank's own thread; the
+/// distinct lines are sorted when all ranks have ended.
 #[derive(Drop)]
 pub struct Tally {
     alloc: Global,
@@ -21,8 +23,8 @@ pub struct Tally {
     round: u64,
     /// the lines that are sent in this round
     own: Strings,
-    /// the lines that came, in the order in which they came
-    came: Strings,
+    /// the lines that came
+    came: Multiset,
 }
 
 impl Model for Tally {
@@ -48,13 +50,13 @@ impl Tally {
             ranks,
             round: 0,
             own,
-            came: Strings::new(alloc),
+            came: Multiset::new(alloc),
         }
     }
 
     /// The lines that came.
-    pub(crate) fn came(&self) -> &Strings
-        ensures { tally_of result.now ≡ self.now.came }
+    pub(crate) fn came(&self) -> &Multiset
+        ensures { tally_of (counted_lines result.now) ≡ self.now.came }
     {
         &self.came
     }
@@ -93,7 +95,7 @@ impl LetterProgram for Tally {
     }
 
     fn absorb_letter(&mut self, from: u32, bytes: &[u8]) -> Result<(), NoMemory> {
-        self.came.push(bytes)
+        self.came.count(bytes)
     }
 
     fn vote(&self) -> u64 {

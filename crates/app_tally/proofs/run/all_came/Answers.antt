@@ -2,7 +2,7 @@ use Rattle.std.proofs.Common.{◌≡◌, All, length, rules, refl, sym, ap, subs
 use Rattle.std.specs.Option.{option_copied}
 use Rattle.std.proofs.lemmas.List.Elements.{All-append}
 use Rattle.list_laws.specs.Sums.{total}
-use Rattle.elastic.specs.Spelling.{IsLetter}
+use Rattle.app_tally.specs.code.CountView.{IsLineEntry}
 use Rattle.app_tally.proofs.Tallied.{found}
 use Rattle.app_tally.proofs.TallyRounds.{comes, rank_has, programs_len, all_come, gathered_more}
 use Rattle.app_tally.proofs.run.all_came.Goals as goal
@@ -14,7 +14,7 @@ loop-rank-preserved c = record {
       (ap (found q) (c.came.ensures ∙ ap (λ s. s.came) c.inner.ensures)
       ∙ rank_has lines c.args.p.now h c.loop-rank.rank c.in-Some.program.now q (search rules) (sym c.get.ensures ∙ ap option_copied c.in-Some.is))
       refl;
-  letters = subst (All IsLetter) (sym c.in_ok-gather.ensures.gathered) (All-append IsLetter _ _ c.loop-rank.invariant.letters c.gather.ensures.letters);
+  counted = subst (All IsLineEntry) (sym c.in_ok-gather.ensures.gathered) (All-append IsLineEntry _ _ c.loop-rank.invariant.counted c.gather.ensures.counted);
   numbers = c.in_ok-gather.ensures.numbers c.loop-rank.invariant.numbers;
 }
 
@@ -25,8 +25,8 @@ returns-clause-times c = λ lines h q.
     ∙ ap (λ n. total n (comes h.ranks lines q)) (let e : c.loop-rank.rank ≡ length c.args.p.now = search rules in e ∙ programs_len lines c.args.p.now h)
     ∙ all_come h.ranks lines q (omega arith)
 
-pub returns-clause-letters : goal.returns-clause-letters
-returns-clause-letters c = c.loop-rank.invariant.letters
+pub returns-clause-counted : goal.returns-clause-counted
+returns-clause-counted c = c.loop-rank.invariant.counted
 
 pub returns-clause-numbers : goal.returns-clause-numbers
 returns-clause-numbers c = c.loop-rank.invariant.numbers

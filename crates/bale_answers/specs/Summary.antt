@@ -1,17 +1,15 @@
 -- The line that stands for an answer under --gen.
 use Rattle.std.specs.Prelude.{ℕ, ◌==◌, List, [], ◌∷◌, ◌++◌, length, codes, decimal, if◌then◌else◌}
 use Rattle.std.specs.List.{sum_by}
-use Rattle.list_laws.specs.Counts.{saturated_count}
 
 -- How many bytes end a line.
 abbrev pub ends_line : ℕ → ℕ
 ends_line b = if b == 10 then 1 else 0
 
--- The numbers of LF bytes and of bytes, and the sum of the bytes, as counters show them; no answer
--- for a matrix within the limits has so many bytes.
+-- The numbers of LF bytes and of bytes, and the sum of the bytes.
 -- "1 1/2 2/", with / for LF, gives "lines 2 bytes 8 sum 282/".
 unfoldable pub summary_of : List ℕ → List ℕ
 summary_of bytes =
-    codes "lines " ++ decimal (saturated_count (sum_by ends_line bytes))
-    ++ (codes " bytes " ++ decimal (saturated_count (length bytes))
-    ++ (codes " sum " ++ decimal (saturated_count (sum_by (λ b. b) bytes)) ++ 10 ∷ []))
+    codes "lines " ++ decimal (sum_by ends_line bytes)
+    ++ (codes " bytes " ++ decimal (length bytes)
+    ++ (codes " sum " ++ decimal (sum_by (λ b. b) bytes) ++ 10 ∷ []))

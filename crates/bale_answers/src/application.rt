@@ -1,7 +1,7 @@
 //! An application, from what it is asked of to the bytes of its answer.
 
 ghost use Rattle.round_program.specs.Ranks.{AreRanks};
-ghost use Rattle.std.specs.Prelude.{◌≡◌, ◌≤◌, ℕ, List, map, IfOk};
+ghost use Rattle.std.specs.Prelude.{◌≡◌, ◌≤◌, ◌<◌, ◌^◌, ℕ, List, map, length, IfOk};
 ghost use Rattle.bale_types.specs.Out.{HandsOn, Writes};
 ghost use Rattle.round_program.specs.Canonical.{InRound, EndsWithin, HaveEnded};
 ghost use Rattle.bale_words.specs.declared.task.Task.{Task};
@@ -39,7 +39,7 @@ pub(crate) trait Written {
         ensures value { result ≡ task_status (task options.now) (subject of.now) }
         ensures low { result ≤ 1 };
 
-    /// Writes the answer. No memory is taken.
+    /// Writes the answer, which has fewer than 2^56 bytes. No memory is taken.
     fn write<K: Sink>(
         options: &Self::Options,
         answer: &Self::Answer,
@@ -50,6 +50,8 @@ pub(crate) trait Written {
         ensures there_is { (bytes : List ℕ) × IsAnswer (task options.now) (subject of.now) bytes }
         ensures written { (bytes : List ℕ) → IsAnswer (task options.now) (subject of.now) bytes
             → Writes K.taken K.faults bytes out.old out.new result }
+        ensures short { (bytes : List ℕ) → IsAnswer (task options.now) (subject of.now) bytes
+            → length bytes < 2 ^ 56 }
         ensures sink { HandsOn K.taken K.faults out.old out.new result };
 }
 

@@ -42,6 +42,7 @@ impl Written for HistoAnswer {
         0
     }
 
+    #[tactic(auto, using(crate::proofs::Lengths::histo_short))]
     fn write<K: Sink>(
         options: &(),
         answer: &Progs<Histo>,
@@ -112,6 +113,7 @@ impl Written for IgAnswer {
         0
     }
 
+    #[tactic(auto, using(crate::proofs::Lengths::ig_short))]
     fn write<K: Sink>(
         options: &(),
         answer: &Progs<Ig>,
@@ -172,6 +174,7 @@ impl Written for IgHeardAnswer {
         0
     }
 
+    #[tactic(auto, using(crate::proofs::Lengths::ig_short))]
     fn write<K: Sink>(
         options: &(),
         answer: &Progs<IgAsker>,

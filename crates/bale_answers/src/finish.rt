@@ -1,6 +1,6 @@
 //! The end of a run: the programs after their last round, and then the answer, written.
 
-ghost use Rattle.std.specs.Prelude.{◌≡◌, ◌≤◌, ◌<◌, ℕ, length, OnOk, OnErr, IfOk};
+ghost use Rattle.std.specs.Prelude.{◌≡◌, ◌≤◌, ◌<◌, ◌^◌, ℕ, List, length, OnOk, OnErr, IfOk};
 ghost use Rattle.bale_types.specs.Stream.{taken_with, IsTakenPrefix};
 ghost use Rattle.bale_types.specs.Out.{appended_bytes, HandsOn};
 ghost use Rattle.round_program.specs.Canonical.{HaveEnded};
@@ -103,6 +103,8 @@ fn write_answer<A: Written, K: Sink>(
     requires { CanWrite A.needs A.answers options.now of.now answer.now }
     ensures answer { HasWritten (IsAnswer (A.task options.now) (A.subject of.now)) (λ bytes. bytes) (K.taken sink.old)
         (K.taken sink.new) result }
+    ensures short { (bytes : List ℕ) → IsAnswer (A.task options.now) (A.subject of.now) bytes
+        → length bytes < 2 ^ 56 }
     ensures sink { TakesMore K.taken K.faults sink.old sink.new result }
 {
     let mut out = Out::new(sink);
@@ -118,6 +120,8 @@ fn write_all<A: Written, K: Sink>(
     requires { CanWrite A.needs A.answers options.now of.now answer.now }
     ensures answer { HasWritten (IsAnswer (A.task options.now) (A.subject of.now)) (λ bytes. bytes)
         (appended_bytes K.taken out.old) (K.taken out.new.sink.now) result }
+    ensures short { (bytes : List ℕ) → IsAnswer (A.task options.now) (A.subject of.now) bytes
+        → length bytes < 2 ^ 56 }
     ensures sink { HandsOn K.taken K.faults out.old out.new result }
 {
     A::write(options, answer, of, out)?;
@@ -146,6 +150,7 @@ fn write_summary<A: Written, K: Sink>(
 
 /// Writes the line of a count through a buffer.
 fn write_line<K: Sink>(counter: &Counter, sink: &mut K) -> Result<(), Failed>
+    requires short { length (bytes_of counter.now.log) < 2 ^ 56 }
     ensures ok { OnOk result (K.taken sink.new ≡ taken_with (K.taken sink.old) (summary_of (bytes_of
         counter.now.log))) }
     ensures err { OnErr result (IsTakenPrefix (K.taken sink.new)
@@ -170,8 +175,10 @@ fn flush_text<K: Sink>(out: &mut Out<'_, K>, bytes: &[u8]) -> Result<(), Failed>
 /// `lines L bytes B sum S`.
 #[tactic(auto, unfolding(crate::specs::Summary::summary_of))]
 fn summary_line(counter: &Counter) -> Line
+    requires short { length (bytes_of counter.now.log) < 2 ^ 56 }
     ensures { result ≡ summary_of (bytes_of counter.now.log) }
 {
+    counter.known();
     let mut line = Line::new();
     line.text(b"lines ");
     line.number(counter.lines);

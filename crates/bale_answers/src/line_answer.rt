@@ -42,12 +42,14 @@ impl Written for TallyAnswer {
         0
     }
 
+    #[tactic(auto, using(crate::proofs::Lengths::tally_short))]
     fn write<K: Sink>(
         options: &(),
         answer: &Counts,
         lines: &Lines,
         out: &mut Out<'_, K>,
     ) -> Result<(), Failed> {
+        lines.known();
         tally_write(answer, out)
     }
 }

@@ -51,12 +51,14 @@ impl Written for PermuteAnswer {
         0
     }
 
+    #[tactic(auto, using(crate::proofs::Lengths::text_short))]
     fn write<K: Sink>(
         by: &Permutations,
         answer: &Matrix,
         m: &Matrix,
         out: &mut Out<'_, K>,
     ) -> Result<(), Failed> {
+        answer.known();
         write_matrix(answer, out)
     }
 }
@@ -139,12 +141,14 @@ impl Written for TransposeAnswer {
         0
     }
 
+    #[tactic(auto, using(crate::proofs::Lengths::text_short))]
     fn write<K: Sink>(
         options: &(),
         answer: &Matrix,
         m: &Matrix,
         out: &mut Out<'_, K>,
     ) -> Result<(), Failed> {
+        answer.known();
         write_matrix(answer, out)
     }
 }

@@ -46,12 +46,14 @@ impl Written for OrderAnswer {
         }
     }
 
+    #[tactic(auto, using(crate::proofs::Lengths::topo_short))]
     fn write<K: Sink>(
         options: &(),
         answer: &Option<TopoOrder>,
         m: &Matrix,
         out: &mut Out<'_, K>,
     ) -> Result<(), Failed> {
+        m.known();
         write_order(answer, out)
     }
 }

@@ -45,6 +45,7 @@ impl Written for SsspAnswer {
         0
     }
 
+    #[tactic(auto, using(crate::proofs::Lengths::sssp_short))]
     fn write<K: Sink>(
         source: &u32,
         answer: &Progs<Sssp>,
@@ -116,6 +117,7 @@ impl Written for DeltaAnswer {
         0
     }
 
+    #[tactic(auto, using(crate::proofs::Lengths::sssp_short))]
     fn write<K: Sink>(
         by: &(u32, u64),
         answer: &Progs<Delta>,

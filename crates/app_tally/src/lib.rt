@@ -8,9 +8,9 @@
 //! | [`tally_write`] | the answer's text | a line for each distinct line, in the order of bytes |
 //!
 //! The lines are dealt out in turn, and each goes as one letter to the rank that is the sum of its
-//! bytes modulo the number of ranks. A rank counts what comes at once; the distinct lines are sorted
-//! at the end. What the answer is, is said of the lines alone (`specs/Counts`): no rank, no round
-//! and no item occurs there.
+//! bytes modulo the number of ranks. A rank counts what comes at once; the distinct lines are
+//! sorted at the end. What the answer is, is said of the lines alone (`specs/Counts`): no rank, no
+//! round and no item occurs there.
 //!
 //! | Law | Round | A rank emits, in order |
 //! |---|---|---|

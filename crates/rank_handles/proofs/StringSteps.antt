@@ -199,7 +199,7 @@ pending_more p q r d x a b c moved is good pushes =
 
 none_pushed : (pending : List (ℕ × Item)) (d : ℕ) (x : Item) (b c : Seated) → push_answer b d ≢ Good → Pushes x d b c → PendingMoved pending b pending c × (push_answer c d ≢ Good)
 unfolding Pushes
-none_pushed pending d x b c no pushes =
+none_pushed pending d x b c bad pushes =
     elim (is_full (push_answer b d)) [
       | inl full ↦
           let m = pushes.full full in let is = step_is Idle Working b c m in (
@@ -214,9 +214,9 @@ none_pushed pending d x b c no pushes =
             λ e. absurd (let k : Full ≡ Good = sym (pushes.still_full full) ∙ e in cc),
           )
       | inr other ↦
-          let same : c ≡ b = pushes.misuse no other in (
+          let same : c ≡ b = pushes.misuse bad other in (
             subst (λ (s : Seated). PendingMoved pending b pending s) (sym same) (pending_none pending b),
-            λ e. no (ap (λ (s : Seated). push_answer s d) (sym same) ∙ e),
+            λ e. bad (ap (λ (s : Seated). push_answer s d) (sym same) ∙ e),
           )
     ]
 
@@ -226,8 +226,8 @@ first_rank (e ∷ es) = e.0
 
 -- the next one found no room
 pub pending_stuck : (p q r : List (ℕ × Item)) (d : ℕ) (x : Item) (a b c : Seated) → PendingMoved p a q b → q ≡ (d, x) ∷ r → push_answer b d ≢ Good → Pushes x d b c → (p ≡ [] → ⊥) → PendingPushed p a q c
-pending_stuck p q r d x a b c moved is no pushes some =
-    let one = none_pushed q d x b c no pushes in let all = pending_both p q q a b c moved one.0 in
+pending_stuck p q r d x a b c moved is bad pushes some =
+    let one = none_pushed q d x b c bad pushes in let all = pending_both p q q a b c moved one.0 in
     record {
       pushing = record {
         walked = all.walked;
@@ -281,7 +281,7 @@ elastic_moved p q begun a b moved none kept = record {
 
 -- ---- A string is pushed
 
-spelled_some : (to : ℕ) (l : List ℕ) → map (λ x. (to, x)) (spelling l) ≡ [] → ⊥
+spelled_some : (to : ℕ) (l : List ℕ) → map {B = ℕ × Item} (λ x. (to, x)) (spelling l) ≡ [] → ⊥
 spelled_some to l e = absurd cc
 
 pub string_kept : (to : ℕ) (l : List ℕ) (q : List (ℕ × Item)) (begun : List (List Item)) (a b : Seated) → a.state.phase ≡ Working → IsLetter l → IsElastic a [] begun
@@ -410,7 +410,7 @@ module _ (f : ℕ) (x : Item) (a b : Seated) (links : b.seat ≡ a.seat) (m : Mo
   below_came : (r : ℕ) → length ((part b).pulled (part b).epoch r) ≤ came_from b r
   below_came r = bounded (nat_lt r (ranks b.state.dims)) _ (flow b.state.dims (collected_from b.seat) r b.state.rank (length b.state.dims) b.state.epoch)
 
-  left_of : Seated → ℕ → ℕ
+  abbrev left_of : Seated → ℕ → ℕ
   left_of s r = came_from s r - length ((part s).pulled (part s).epoch r)
 
   less_here : left_of b f < left_of a f
@@ -526,7 +526,8 @@ item_none begun a b read none pulls =
     let only : OnlyPulled a b = only_pulled Idle a b pulls.links m refl refl refl in
     let same : (part b).pulled ≡ (part a).pulled = ap (λ (p : Part). p.pulled) is in (
       record { only = only; strings = ap strings_of same },
-      (pulls.still_none none, read_same a b begun only.walked.dims only.epoch same read),
+      pulls.still_none none,
+      read_same a b begun only.walked.dims only.epoch same read,
     )
 
 -- ---- What a pull of a string leaves of an elastic rank
@@ -564,7 +565,7 @@ elastic_begun p begun a b begins kept = elim (is_good (begin_answer a.state.phas
         };
         read = read_same a b begun (walked_one Idle Working a b m).dims epoch (ap (λ (q : Part). q.pulled) is) kept.read;
       }
-  | inr no ↦ subst (λ (s : Seated). IsElastic s p begun) (sym (begins.misuse no)) kept
+  | inr bad ↦ subst (λ (s : Seated). IsElastic s p begun) (sym (begins.misuse bad)) kept
 ]
 
 pub strings_begun : (p : List (ℕ × Item)) (s : Option (List ℕ)) (a b : Seated) → Begins a b → BeginsStrings (record { rank = a; pending = p; string = s }) (record { rank = b; pending = p; string = s })
@@ -578,9 +579,9 @@ strings_begun p s a b begins = record {
           toward = ap strings_of (pushed_same (part a) (part b) p (ap (λ (q : Part). q.epoch) is) (ap (λ (q : Part). q.pushed) is));
           from = ap (λ (q : Part). strings_of q.pulled) is;
         }
-    | inr no ↦ record {
-      toward = ap (λ (z : Seated). strings_of (pushed_with (part z) p)) (begins.misuse no);
-      from = ap (λ (z : Seated). strings_of (part z).pulled) (begins.misuse no);
+    | inr bad ↦ record {
+      toward = ap (λ (z : Seated). strings_of (pushed_with (part z) p)) (begins.misuse bad);
+      from = ap (λ (z : Seated). strings_of (part z).pulled) (begins.misuse bad);
     }
   ];
   pending = refl;
@@ -631,9 +632,9 @@ strings_reset p s begun a b kept resets = record {
               ∙ sym (ap (λ (l : List (ℕ × Item)). strings_of (pushed_with (part a) l)) nothing);
           from = ap (λ (q : Part). strings_of q.pulled) is;
         }
-    | inr no ↦ record {
-      toward = ap (λ (z : Seated). strings_of (pushed_with (part z) p)) (resets.misuse no);
-      from = ap (λ (z : Seated). strings_of (part z).pulled) (resets.misuse no);
+    | inr bad ↦ record {
+      toward = ap (λ (z : Seated). strings_of (pushed_with (part z) p)) (resets.misuse bad);
+      from = ap (λ (z : Seated). strings_of (part z).pulled) (resets.misuse bad);
     }
   ];
   pending = refl;
@@ -723,63 +724,63 @@ module _ (p q : List (ℕ × Item)) (begun : List (List Item)) (done d : Bool) (
   pub advance_same : advance_answer b d c.state.phase ≡ advance_answer a done c.state.phase
   advance_same = λ i. once_begun (pushed.moved.phase i) (if no_change i then DoneAlready else progress_answer c.state.phase)
 
-  NoMisuse : Type 0
+  abbrev NoMisuse : Type 0
   NoMisuse = (advance_answer a done c.state.phase ≢ NotBegun) × (advance_answer a done c.state.phase ≢ DoneAlready)
 
   not_begun_there : NoMisuse → advance_answer b d c.state.phase ≢ NotBegun
-  not_begun_there no e = no.0 (sym advance_same ∙ e)
+  not_begun_there bad e = bad.0 (sym advance_same ∙ e)
 
   not_done_there : NoMisuse → advance_answer b d c.state.phase ≢ DoneAlready
-  not_done_there no e = no.1 (sym advance_same ∙ e)
+  not_done_there bad e = bad.1 (sym advance_same ∙ e)
 
   advance_moved : NoMisuse → Moved (advance_step b.state.done d (is_complete c.state.phase)) c.state.phase b c
   unfolding Advances
-  advance_moved no = advances.advanced (not_begun_there no) (not_done_there no)
+  advance_moved bad = advances.advanced (not_begun_there bad) (not_done_there bad)
 
   advance_is : NoMisuse → part c ≡ after (advance_step b.state.done d (is_complete c.state.phase)) (part b)
-  advance_is no = step_is (advance_step b.state.done d (is_complete c.state.phase)) c.state.phase b c (advance_moved no)
+  advance_is bad = step_is (advance_step b.state.done d (is_complete c.state.phase)) c.state.phase b c (advance_moved bad)
 
   advance_works : NoMisuse → WorksUntilDone d c
   unfolding Advances
-  advance_works no = advances.works (not_begun_there no) (not_done_there no)
+  advance_works bad = advances.works (not_begun_there bad) (not_done_there bad)
 
   advance_done : NoMisuse → c.state.done ≡ d
   unfolding Advances
-  advance_done no = advances.done_is (not_begun_there no) (not_done_there no)
+  advance_done bad = advances.done_is (not_begun_there bad) (not_done_there bad)
 
   epoch_same : NoMisuse → (part c).epoch ≡ (part b).epoch
-  epoch_same no = ap (λ (z : Part). z.epoch) (advance_is no) ∙ advance_epoch b.state.done d (is_complete c.state.phase) (part b)
+  epoch_same bad = ap (λ (z : Part). z.epoch) (advance_is bad) ∙ advance_epoch b.state.done d (is_complete c.state.phase) (part b)
 
   lists_same : NoMisuse → (part c).pushed ≡ (part b).pushed
-  lists_same no = ap (λ (z : Part). z.pushed) (advance_is no) ∙ advance_pushed b.state.done d (is_complete c.state.phase) (part b)
+  lists_same bad = ap (λ (z : Part). z.pushed) (advance_is bad) ∙ advance_pushed b.state.done d (is_complete c.state.phase) (part b)
 
   taken_same : NoMisuse → (part c).pulled ≡ (part b).pulled
-  taken_same no = ap (λ (z : Part). z.pulled) (advance_is no) ∙ advance_pulled b.state.done d (is_complete c.state.phase) (part b)
+  taken_same bad = ap (λ (z : Part). z.pulled) (advance_is bad) ∙ advance_pulled b.state.done d (is_complete c.state.phase) (part b)
 
   -- where the rank doesn't work nothing is pending
   idle_none : NoMisuse → c.state.phase ≢ Working → q ≡ []
-  idle_none no idle = elim (bool_cases (is_none_pending q)) [
+  idle_none bad idle = elim (bool_cases (is_none_pending q)) [
     | inl e ↦ none_nil q e
-    | inr e ↦ absurd (idle ((advance_works no).working (untold e)))
+    | inr e ↦ absurd (idle ((advance_works bad).working (untold e)))
   ]
 
   before : IsElastic b q begun
   before = elastic_moved p q begun a b pushed.moved (λ e. (pushed.none e).0) kept
 
   advanced_kept : NoMisuse → IsElastic c q begun
-  advanced_kept no =
-      let walked : Walked b c = walked_one (advance_step b.state.done d (is_complete c.state.phase)) c.state.phase b c (advance_moved no) in
+  advanced_kept bad =
+      let walked : Walked b c = walked_one (advance_step b.state.done d (is_complete c.state.phase)) c.state.phase b c (advance_moved bad) in
       record {
         undone = record {
-          dormant = λ e. absurd ((advance_works no).begun e);
-          working = λ e. advance_done no ∙ (advance_works no).undone e;
+          dormant = λ e. absurd ((advance_works bad).begun e);
+          working = λ e. advance_done bad ∙ (advance_works bad).undone e;
         };
         ahead = ahead_walked b c walked before.ahead;
         sent = record {
           working = idle_none no;
-          whole = λ r. subst AreStrings (λ i. sym (pushed_same (part b) (part c) q (epoch_same no) (lists_same no)) i (sym (epoch_same no) i) r) (before.sent.whole r);
+          whole = λ r. subst AreStrings (λ i. sym (pushed_same (part b) (part c) q (epoch_same bad) (lists_same bad)) i (sym (epoch_same bad) i) r) (before.sent.whole r);
         };
-        read = read_same b c begun walked.dims (epoch_same no) (taken_same no) before.read;
+        read = read_same b c begun walked.dims (epoch_same bad) (taken_same bad) before.read;
       }
 
   -- misuse
@@ -802,7 +803,7 @@ module _ (p q : List (ℕ × Item)) (begun : List (List Item)) (done d : Bool) (
   elastic_advanced = elim (misuse_or a.state.phase c.state.phase (a.state.done && not done)) [
     | inl e ↦ misused_kept (misused (inl e))
     | inr (inl e) ↦ misused_kept (misused (inr e))
-    | inr (inr no) ↦ advanced_kept no
+    | inr (inr bad) ↦ advanced_kept bad
   ]
 
   pub strings_advanced : (s : Option (List ℕ)) → AdvancesStrings done (record { rank = a; pending = p; string = s }) (record { rank = c; pending = q; string = s })
@@ -811,15 +812,15 @@ module _ (p q : List (ℕ × Item)) (begun : List (List Item)) (done d : Bool) (
       let unchanged : (p ≡ []) × ((q ≡ []) × (c ≡ a)) → ◌≡◌ {A = ElasticState} (record { rank = c; pending = q; string = s }) (record { rank = a; pending = p; string = s }) =
       λ m i. record { rank = m.1.1 i; pending = (m.1.0 ∙ sym m.0) i; string = s } in
       record {
-        advanced = λ n u. let no : NoMisuse = (n, u) in record {
+        advanced = λ n u. let bad : NoMisuse = (n, u) in record {
           pushed = b;
           pending = pushed.pushing;
           advanced = subst (λ t. Advances t b c) is advances;
-          done_is = advance_done no ∙ is;
-          complete = λ e. idle_none no (λ w. absurd (let k : Complete ≡ Working = sym e ∙ w in cc));
+          done_is = advance_done bad ∙ is;
+          complete = λ e. idle_none bad (λ w. absurd (let k : Complete ≡ Working = sym e ∙ w in cc));
           same = record {
-            toward = ap strings_of (pushed_same (part b) (part c) q (epoch_same no) (lists_same no) ∙ pushed.moved.same);
-            from = ap strings_of (taken_same no ∙ pushed.moved.pulled);
+            toward = ap strings_of (pushed_same (part b) (part c) q (epoch_same bad) (lists_same bad) ∙ pushed.moved.same);
+            from = ap strings_of (taken_same bad ∙ pushed.moved.pulled);
           };
           string = refl;
         };

@@ -79,8 +79,9 @@ int main(int argc, char **argv) {
     took(o, "bale", began);
     for (uint64_t place = 0; place < o.size; place++)
         wrong += all[place % o.ranks].counts[place / o.ranks] != wanted[place];
-    printf("histo: rank 0 sent %llu items in %llu buffers, %llu places wrong\n", (unsigned long long)all[0].sent.items_sent,
-           (unsigned long long)all[0].sent.buffers_sent, (unsigned long long)wrong);
+    printf("histo: %llu counters, %llu updates, %llu wrong; rank 0 sent %llu items in %llu buffers\n", (unsigned long long)o.size,
+           (unsigned long long)(updates * o.ranks), (unsigned long long)wrong, (unsigned long long)all[0].sent.items_sent,
+           (unsigned long long)all[0].sent.buffers_sent);
     for (uint32_t r = 0; r < o.ranks; r++)
         free(all[r].counts);
     free(all);

@@ -28,10 +28,12 @@ static void count_all(bale_rank *rank, uint32_t me, void *context) {
     bale_statistics(rank, &my->sent);
 }
 
-/* A table of zeros whose memory has been touched. */
+/* A table of zeros, each page of which has been written, so that no page fault is timed. */
 static uint64_t *table_of(uint64_t places) {
+    enum { PAGE = 4096 / sizeof(uint64_t) };
     uint64_t *table = room(places, sizeof(uint64_t));
-    memset(table, 0, places * sizeof(uint64_t));
+    for (uint64_t k = 0; k < places; k += PAGE)
+        *(volatile uint64_t *)&table[k] = 0;
     return table;
 }
 

@@ -3,7 +3,7 @@ use Rattle.std.proofs.Common.{ℕ, ◌≡◌, ◌+◌, ◌<◌, ◌≤◌, Bool,
 use Rattle.rank_group.specs.declared.closed_round.ClosedRound.{ClosedRound}
 use Rattle.rank_group.specs.Rounds.{round_inside}
 use Rattle.rank_node.specs.Movers.{Manner}
-use Rattle.rank_group.specs.Transcript.{Made, TellsRun, turns_within}
+use Rattle.rank_group.specs.Transcript.{BankShape, RecordsRun, turns_within}
 use Rattle.round_program.specs.Rules.{Rules}
 use Rattle.round_program.specs.Canonical.{InRound, HasRounds, EndsWithin, HaveEnded, states_at}
 use Rattle.round_program.specs.Injections.{Injects, SameRuns}
@@ -33,13 +33,13 @@ module _ {S T : Type 0} {R : Rules S} {Q : Rules T} {i : S → T} {w : List ℕ 
   pub ended : (ends : List T) (xs : List S) → HaveEnded Q any ends → ends ≡ map i xs → HaveEnded R starts xs
   ended ends xs h e = same.have_ended starts xs some (subst (λ a. HaveEnded Q a (map i xs)) put (subst (HaveEnded Q any) e h))
 
-  pub rounds : (made : Made) (manner : Manner) (rs : List ClosedRound)
-      → ((c : ClosedRound) × (rs ≡ c ∷ []) × ((n : ℕ) → HasRounds Q any n → TellsRun Q any n made manner (round_inside c)))
-      → (c : ClosedRound) × (rs ≡ c ∷ []) × ((n : ℕ) → HasRounds R starts n → TellsRun R starts n made manner (round_inside c))
+  pub rounds : (made : BankShape) (manner : Manner) (rs : List ClosedRound)
+      → ((c : ClosedRound) × (rs ≡ c ∷ []) × ((n : ℕ) → HasRounds Q any n → RecordsRun Q any n made manner (round_inside c)))
+      → (c : ClosedRound) × (rs ≡ c ∷ []) × ((n : ℕ) → HasRounds R starts n → RecordsRun R starts n made manner (round_inside c))
   rounds made manner rs t = (
     t.0,
     t.1,
     λ n h.
         tells_case case same starts n made manner (round_inside t.0)
-        (subst (λ a. TellsRun Q a n made manner (round_inside t.0)) put (t.2 n (subst (λ a. HasRounds Q a n) (sym put) (same.has_rounds starts n some h)))),
+        (subst (λ a. RecordsRun Q a n made manner (round_inside t.0)) put (t.2 n (subst (λ a. HasRounds Q a n) (sym put) (same.has_rounds starts n some h)))),
   )

@@ -9,14 +9,14 @@ use Rattle.round_program.specs.Canonical.{absorbed_round, states_at, emitted_by,
 use Rattle.round_program.specs.Epochs.{vote_item}
 use Rattle.round_program.specs.Injections.{Injects, SameRuns}
 use Rattle.rank_node.specs.Movers.{Manner}
-use Rattle.rank_group.specs.Transcript.{Made, TellsRun, vote_sent, turns_of, turns_within}
+use Rattle.rank_group.specs.Transcript.{BankShape, RecordsRun, vote_sent, turns_of, turns_within}
 
 vote_over : {S T : Type 0} {R : Rules S} {Q : Rules T} {i : S → T} {w : List ℕ → List ℕ} → Injects R Q i w → (o : Option S) → vote_sent Q (option_map i o) ≡ vote_sent R o
 vote_over j None = refl
 vote_over j (Some s) = ap (λ v. vote_item v ∷ []) (j.vote s)
 
 pub tells_case : {S T : Type 0} {R : Rules S} {Q : Rules T} {i : S → T} {w : List ℕ → List ℕ} → Injects R Q i w → SameRuns R Q i w
-    → (starts : List S) (n : ℕ) (made : Made) (manner : Manner) (round : Round) → TellsRun Q (map i starts) n made manner round → TellsRun R starts n made manner round
+    → (starts : List S) (n : ℕ) (made : BankShape) (manner : Manner) (round : Round) → RecordsRun Q (map i starts) n made manner round → RecordsRun R starts n made manner round
 tells_case {R = R} {Q = Q} {i = i} j same starts n made manner round t =
     record {
       bank = t.bank;

@@ -73,70 +73,70 @@ any_rules = either_rules column_rules other_rules
 -- there. A run of the other is then the program's own run.
 -- of transpose into any: the state s becomes Right (Left (Right s)), and before the shape 1, 0, 1
 -- are written
-pub record Way {S T : Type 0} (R : Rules S) (Q : Rules T) : Type 0 where
+pub record LeafPath {S T : Type 0} (R : Rules S) (Q : Rules T) : Type 0 where
   pub case : S → T
   pub shape : List ℕ → List ℕ
   pub is_case : Injects R Q case shape
 
-abbrev pub left : {S T : Type 0} (R : Rules S) (Q : Rules T) → Way R (either_rules R Q)
+abbrev pub left : {S T : Type 0} (R : Rules S) (Q : Rules T) → LeafPath R (either_rules R Q)
 left R Q = record { case = Left; shape = λ shape. 0 ∷ shape; is_case = left_is_case R Q }
 
-abbrev pub right : {S T : Type 0} (R : Rules S) (Q : Rules T) → Way Q (either_rules R Q)
+abbrev pub right : {S T : Type 0} (R : Rules S) (Q : Rules T) → LeafPath Q (either_rules R Q)
 right R Q = record { case = Right; shape = λ shape. 1 ∷ shape; is_case = right_is_case R Q }
 
 -- One way, and then another.
-abbrev pub then : {S T U : Type 0} {P : Rules S} {Q : Rules T} {R : Rules U} → Way P Q → Way Q R → Way P R
+abbrev pub then : {S T U : Type 0} {P : Rules S} {Q : Rules T} {R : Rules U} → LeafPath P Q → LeafPath Q R → LeafPath P R
 then v w = record {
   case = λ s. w.case (v.case s);
   shape = λ shape. w.shape (v.shape shape);
   is_case = case_of_case v.is_case w.is_case;
 }
 
-abbrev pub column_way : Way column_rules any_rules
+abbrev pub column_way : LeafPath column_rules any_rules
 column_way = left column_rules other_rules
 
-abbrev pub other_way : Way other_rules any_rules
+abbrev pub other_way : LeafPath other_rules any_rules
 other_way = right column_rules other_rules
 
-abbrev pub gather_way : Way gather_rules any_rules
+abbrev pub gather_way : LeafPath gather_rules any_rules
 gather_way = then (right histo_rules gather_rules) column_way
 
-abbrev pub move_way : Way move_rules any_rules
+abbrev pub move_way : LeafPath move_rules any_rules
 move_way = then (left move_rules last_rules) other_way
 
-abbrev pub last_way : Way last_rules any_rules
+abbrev pub last_way : LeafPath last_rules any_rules
 last_way = then (right move_rules last_rules) other_way
 
-abbrev pub order_way : Way order_rules any_rules
+abbrev pub order_way : LeafPath order_rules any_rules
 order_way = then (left order_rules walk_rules) last_way
 
-abbrev pub walk_way : Way walk_rules any_rules
+abbrev pub walk_way : LeafPath walk_rules any_rules
 walk_way = then (right order_rules walk_rules) last_way
 
 -- The ways of the applications.
-abbrev pub histo_way : Way histo_rules any_rules
+abbrev pub histo_way : LeafPath histo_rules any_rules
 histo_way = then (left histo_rules gather_rules) column_way
 
-abbrev pub ig_way : Way ig_rules any_rules
+abbrev pub ig_way : LeafPath ig_rules any_rules
 ig_way = then (left ig_rules sums_rules) gather_way
 
-abbrev pub sums_way : Way sums_rules any_rules
+abbrev pub sums_way : LeafPath sums_rules any_rules
 sums_way = then (right ig_rules sums_rules) gather_way
 
-abbrev pub permute_way : Way permute_rules any_rules
+abbrev pub permute_way : LeafPath permute_rules any_rules
 permute_way = then (left permute_rules transpose_rules) move_way
 
-abbrev pub transpose_way : Way transpose_rules any_rules
+abbrev pub transpose_way : LeafPath transpose_rules any_rules
 transpose_way = then (right permute_rules transpose_rules) move_way
 
-abbrev pub topo_way : Way topo_rules any_rules
+abbrev pub topo_way : LeafPath topo_rules any_rules
 topo_way = then (left topo_rules (mail_rules tally_rules)) order_way
 
-abbrev pub tally_way : Way (mail_rules tally_rules) any_rules
+abbrev pub tally_way : LeafPath (mail_rules tally_rules) any_rules
 tally_way = then (right topo_rules (mail_rules tally_rules)) order_way
 
-abbrev pub sssp_way : Way sssp_rules any_rules
+abbrev pub sssp_way : LeafPath sssp_rules any_rules
 sssp_way = then (left sssp_rules delta_rules) walk_way
 
-abbrev pub delta_way : Way delta_rules any_rules
+abbrev pub delta_way : LeafPath delta_rules any_rules
 delta_way = then (right sssp_rules delta_rules) walk_way

@@ -12,7 +12,7 @@ use Rattle.bale_subjects.specs.declared.refusal.Refusal.TheVariants as refusal
 use Rattle.bale_subjects.specs.declared.subject.Subject.{Subject}
 use Rattle.bale_subjects.specs.declared.unfit.Unfit.{Unfit}
 use Rattle.bale_subjects.specs.Fitness.{unfitness}
-use Rattle.bale_subjects.specs.Reading.{TellsText}
+use Rattle.bale_subjects.specs.Reading.{HasText}
 use Rattle.bale_subjects.specs.Refusals.{refusal_text, status_of}
 use Rattle.bale_subjects.specs.Subjects.{subject_asked}
 use Rattle.bale_answers.specs.Summary.{summary_of}
@@ -59,7 +59,7 @@ serial_answer serial words text = answer_to serial (command_of words) text
 pub record Asked (serial : Command → Bool) (left : Option (List ℕ)) (job : Option Command) (text : List ℕ) (c : Command)
     (s : Subject) : Type 0 where
   pub asked : job ≡ Some c
-  pub told : TellsText c.travel.generated left text
+  pub told : HasText c.travel.generated left text
   pub subject : subject_asked c text ≡ Ok s
   pub fits : unfitness c s (serial c) ≡ None
 

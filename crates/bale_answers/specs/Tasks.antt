@@ -33,7 +33,7 @@ use Rattle.delta_step.specs.Deltas.{DeltaState, delta_rules}
 use Rattle.delta_step.specs.DeltaRuns.{delta_starts}
 use Rattle.elastic.specs.Mails.{MailState, mail_rules}
 use Rattle.least_walks.specs.Lines.{IsSsspAnswer}
-use Rattle.app_cases.specs.Any.{AnyState, any_rules, Way, histo_way, ig_way, permute_way, transpose_way, topo_way}
+use Rattle.app_cases.specs.Any.{AnyState, any_rules, LeafPath, histo_way, ig_way, permute_way, transpose_way, topo_way}
 use Rattle.app_cases.specs.Any.{tally_way, sssp_way, delta_way}
 use Rattle.bale_subjects.specs.declared.subject.Subject.{Subject}
 use Rattle.bale_subjects.specs.declared.subject.Subject.TheVariants as subject
@@ -118,7 +118,7 @@ plan_of t (subject.Lines lines) =
     record { State = MailState TallyState; rules = mail_rules tally_rules; starts = λ p. tally_starts p lines }
 
 -- The way of a task's programs into any of the applications.
-abbrev pub matrix_way : (t : Task) (m : Sparse) → Way (matrix_plan t m).rules any_rules
+abbrev pub matrix_way : (t : Task) (m : Sparse) → LeafPath (matrix_plan t m).rules any_rules
 matrix_way task.Histo m = histo_way
 matrix_way task.Ig m = ig_way
 matrix_way (task.Permute by) m = permute_way
@@ -128,7 +128,7 @@ matrix_way (task.Sssp source None) m = sssp_way
 matrix_way (task.Sssp source (Some delta)) m = delta_way
 matrix_way task.Tally m = tally_way
 
-abbrev pub way_of : (t : Task) (s : Subject) → Way (plan_of t s).rules any_rules
+abbrev pub way_of : (t : Task) (s : Subject) → LeafPath (plan_of t s).rules any_rules
 way_of t (subject.Matrix m) = matrix_way t m
 way_of t (subject.Lines lines) = tally_way
 

@@ -8,7 +8,7 @@ use Rattle.bale_subjects.specs.declared.refusal.BadText.{BadText as Bad}
 use Rattle.bale_subjects.specs.declared.refusal.Refusal.{Refusal}
 use Rattle.bale_subjects.specs.declared.refusal.Refusal.TheVariants.{Usage, ReadFault, BadText, Unfit, WriteFault, NoMemory}
 use Rattle.bale_answers.specs.Answer.{Answer, IsBad, IsUnfit, refusal_answer, answer_by, answer_for, answer_to, said}
-use Rattle.bale_subjects.specs.Reading.{TellsText, Told}
+use Rattle.bale_subjects.specs.Reading.{HasText, Told}
 use Rattle.rank_group.specs.declared.closed_round.ClosedRound.{ClosedRound}
 use Rattle.bale_cli.specs.Run.{HasNotFit, HasRun}
 use Rattle.bale_subjects.specs.Refusals.{IsOfText, status_of, refusal_text}
@@ -155,7 +155,7 @@ is_unfit WriteFault e = absurd (omega (arith, e))
 is_unfit NoMemory e = absurd (omega (arith, e))
 
 -- what a source tells of a command's text, by the words
-told_for : (job : Option Command) (c : Command) (left : Option (List ℕ)) (text : List ℕ) → job ≡ Some c → Told job left text → TellsText c.travel.generated left text
+told_for : (job : Option Command) (c : Command) (left : Option (List ℕ)) (text : List ℕ) → job ≡ Some c → Told job left text → HasText c.travel.generated left text
 told_for job c left text e t = subst (λ j. Told j left text) e t
 
 -- a run's own status is the serial answer's, where the text is told

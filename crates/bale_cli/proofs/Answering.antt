@@ -16,7 +16,7 @@ use Rattle.bale_subjects.specs.declared.refusal.Refusal.TheVariants as refusal
 use Rattle.bale_subjects.specs.declared.subject.Subject.{Subject}
 use Rattle.bale_subjects.specs.declared.unfit.Unfit.{Unfit}
 use Rattle.bale_answers.specs.Answer.{Asked}
-use Rattle.bale_subjects.specs.Reading.{reads, TellsText, Told, IsSubjectOf}
+use Rattle.bale_subjects.specs.Reading.{reads, HasText, Told, IsSubjectOf}
 use Rattle.bale_subjects.specs.Refusals.{IsOfText}
 use Rattle.bale_runs.specs.Reports.{ReportsCommand}
 use Rattle.bale_runs.specs.RunEnds.{IsRunEnd}
@@ -84,7 +84,7 @@ pub same_asked : {serial : Command → Bool} {left : Option (List ℕ)} (c : Com
     → ((text : List ℕ) → Told (Some c) left text → subject_asked c text ≡ Ok s) → Asked serial left (Some c) text c' s' → (c ≡ c') × (s ≡ s')
 same_asked {left = left} c s text c' s' subject a =
     let e : c ≡ c' = same_Some c c' a.asked in
-    let told : TellsText c.travel.generated left text = subst (λ (x : Command). TellsText x.travel.generated left text) (sym e) a.told in
+    let told : HasText c.travel.generated left text = subst (λ (x : Command). HasText x.travel.generated left text) (sym e) a.told in
     let read : subject_asked c' text ≡ Ok s = subst (λ (x : Command). subject_asked x text ≡ Ok s) e (subject text told) in
     (e, same_Ok s s' (sym read ∙ a.subject))
 

@@ -17,7 +17,7 @@ use Rattle.bale_answers.specs.Answer.{serial_answer, said, shown_text, Asked}
 use Rattle.bale_answers.specs.Tasks.{IsAnswer, task_status}
 use Rattle.bale_runs.specs.Asking.{FewestOfCommand, SweptOfCommand, TurnsOfCommand}
 use Rattle.bale_runs.specs.Jobs.{as_asked, on_one_thread}
-use Rattle.bale_runs.specs.Reports.{ReportsCommand, ToldOfEpochs}
+use Rattle.bale_runs.specs.Reports.{ReportsCommand, NotifiedOfEpochs}
 
 -- What a run with an answer ran: a command of the words on a subject that it fits, the text's if
 -- the source tells it. `bytes` are that command's answer, `P` says of its status and of the bytes
@@ -134,6 +134,6 @@ abbrev pub TurnedInOrder : ℕ → ℕ → Command → Subject → List ClosedRo
 TurnedInOrder before after c s rounds =
     SweptOfCommand c s before after rounds × FewestOfCommand c s before after
 
--- On threads: the gate, of which `told` holds, was told of a turn of each rank in each epoch.
-abbrev pub GateTold : (ℕ → ℕ → Bool) → Command → Subject → List ClosedRound → Type 0
-GateTold told c s rounds = as_asked c ≡ false → ToldOfEpochs c.grid told rounds
+-- On threads: a turn of each rank in each epoch is in the set `notified` of the gate.
+abbrev pub GateNotified : (ℕ → ℕ → Bool) → Command → Subject → List ClosedRound → Type 0
+GateNotified notified c s rounds = as_asked c ≡ false → NotifiedOfEpochs c.grid notified rounds

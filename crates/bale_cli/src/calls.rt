@@ -4,7 +4,7 @@ ghost use Rattle.bale_words.specs.Ranges.{InRanges};
 ghost use Rattle.bale_words.specs.Words.{command_of};
 ghost use Rattle.bale_runs.specs.Jobs.{as_asked, on_one_thread};
 ghost use Rattle.bale_cli.specs.Outcomes.{Answered, IsOutcome};
-ghost use Rattle.bale_cli.specs.Run.{AreTurns, GateTold, IsRun, TurnedInOrder};
+ghost use Rattle.bale_cli.specs.Run.{AreTurns, GateNotified, IsRun, TurnedInOrder};
 
 use bale_runs::{RunEnd, drives_serially, run_command, run_serially};
 use bale_subjects::{Refusal, Subject, read_words, report, subject_for};
@@ -30,7 +30,7 @@ pub struct Outcome {
 
 /// Runs the command of the words after the program's name on the text of `source`, the ranks on
 /// threads or all on this one, as the words say, and writes the answer to `out` or why there is
-/// none to `err`. Before each turn of a rank's thread the gate is told of it.
+/// none to `err`. Before each turn of a rank's thread the gate is notified of it.
 ///
 /// Where the source tells its text, out and err take exactly what the serial answer says, unless a
 /// read or a write failed or an allocation was refused. It waits for its threads, and returns where
@@ -44,7 +44,7 @@ pub fn run<R: Threads + Wait + Sync, S: Source, K: Sink, E: Sink, G: Gate + Sync
     err: &mut E,
     gate: &G,
 ) -> Outcome
-    ensures run { IsRun as_asked (GateTold (G.told gate.now)) (map string_bytes words.now)
+    ensures run { IsRun as_asked (GateNotified (G.notified gate.now)) (map string_bytes words.now)
         S.left S.faults source.old source.new K.taken K.faults out.old out.new
         E.taken E.faults err.old err.new result.status result.rounds }
 {
@@ -116,7 +116,7 @@ fn answer<R: Threads + Wait + Sync, S: Source, K: Sink, G: Gate + Sync>(
     out: &mut K,
     gate: &G,
 ) -> Result<RunEnd, Refusal>
-    ensures { Answered as_asked (GateTold (G.told gate.now)) (command_of (map string_bytes words.now))
+    ensures { Answered as_asked (GateNotified (G.notified gate.now)) (command_of (map string_bytes words.now))
         S.left S.faults source.old source.new K.taken K.faults out.old out.new result }
 {
     match read_words(alloc, words) {
@@ -135,7 +135,7 @@ fn answer_of<R: Threads + Wait + Sync, S: Source, K: Sink, G: Gate + Sync>(
     gate: &G,
 ) -> Result<RunEnd, Refusal>
     requires ranges { InRanges command.now }
-    ensures { Answered as_asked (GateTold (G.told gate.now)) (Some command.now)
+    ensures { Answered as_asked (GateNotified (G.notified gate.now)) (Some command.now)
         S.left S.faults source.old source.new K.taken K.faults out.old out.new result }
 {
     let serial = drives_serially(command);

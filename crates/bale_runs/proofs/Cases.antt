@@ -10,8 +10,8 @@ use Rattle.round_program.proofs.Injections.{same_runs}
 use Rattle.rank_group.specs.declared.closed_round.ClosedRound.{ClosedRound}
 use Rattle.rank_node.specs.Movers.{Manner}
 use Rattle.rank_group.specs.declared.drive.Finished.{Finished}
-use Rattle.rank_group.specs.Transcript.{Made, turns_within}
-use Rattle.rank_group.specs.DrivePromises.{HasFinished, HasSwept, ToldOfTurns, WithinTurns}
+use Rattle.rank_group.specs.Transcript.{BankShape, turns_within}
+use Rattle.rank_group.specs.DrivePromises.{HasFinished, HasSwept, NotifiedOfTurns, WithinTurns}
 use Rattle.bale_words.specs.declared.task.Task.{Task}
 use Rattle.app_cases.specs.Any.{AnyState, any_rules}
 use Rattle.app_cases.proofs.Driving.{steps, are_cases, ended, rounds}
@@ -22,10 +22,10 @@ use Rattle.bale_words.specs.declared.command.Command.{Command}
 use Rattle.bale_runs.specs.RunEnds.{IsRunEnd}
 use Rattle.bale_subjects.specs.declared.subject.Subject.{Subject}
 use Rattle.bale_answers.specs.Tasks.{plan_of, way_of, starts_of}
-use Rattle.bale_runs.specs.Runs.{HaveRunTask, SweptInOrder, Tells, TellsTask, IsTaskRun, TurnsOfTask, BeyondTurns, FewestOfTask}
+use Rattle.bale_runs.specs.Runs.{HaveRunTask, SweptInOrder, Records, RecordsTask, IsTaskRun, TurnsOfTask, BeyondTurns, FewestOfTask}
 
-pub tells : {S : Type 0} {R : Rules S} {i : S → AnyState} {w : List ℕ → List ℕ} → Injects R any_rules i w → (starts : List S) (ps : List AnyState) (made : Made) (manner : Manner)
-    (run : Finished AnyState) → ps ≡ map i starts → 0 < length ps → HasFinished any_rules ps made manner run → Tells R starts made manner run.rounds
+pub tells : {S : Type 0} {R : Rules S} {i : S → AnyState} {w : List ℕ → List ℕ} → Injects R any_rules i w → (starts : List S) (ps : List AnyState) (made : BankShape) (manner : Manner)
+    (run : Finished AnyState) → ps ≡ map i starts → 0 < length ps → HasFinished any_rules ps made manner run → Records R starts made manner run.rounds
 tells {i = i} case starts ps made manner run put some h =
     let few : 0 < length starts = subst (λ n. 0 < n) (ap length put ∙ length-map starts i) some in
     let cs = are_cases case starts few ps put run.progs h.ended in
@@ -45,13 +45,13 @@ have_run t s n ps ends low high are some h =
     }
 
 -- the rounds of a task's run
-tells_task : (t : Task) (s : Subject) (made : Made) (manner : Manner) (ps : List AnyState) (run : Finished AnyState)
-    → ps ≡ starts_of t (ranks made.dims) s → 0 < length ps → HasFinished any_rules ps made manner run → TellsTask t s made manner run.rounds
+tells_task : (t : Task) (s : Subject) (made : BankShape) (manner : Manner) (ps : List AnyState) (run : Finished AnyState)
+    → ps ≡ starts_of t (ranks made.dims) s → 0 < length ps → HasFinished any_rules ps made manner run → RecordsTask t s made manner run.rounds
 unfolding starts_of
 tells_task t s made manner ps run put some h = tells (way_of t s).is_case ((plan_of t s).starts (ranks made.dims)) ps made manner run put some h
 
 -- the run of a task
-pub task_run : (t : Task) (s : Subject) (made : Made) (manner : Manner) (ps : List AnyState) (run : Finished AnyState) → 1 ≤ ranks made.dims → ranks made.dims ≤ 64
+pub task_run : (t : Task) (s : Subject) (made : BankShape) (manner : Manner) (ps : List AnyState) (run : Finished AnyState) → 1 ≤ ranks made.dims → ranks made.dims ≤ 64
     → ps ≡ starts_of t (ranks made.dims) s → 0 < length ps → HasFinished any_rules ps made manner run → IsTaskRun t s made manner run
 task_run t s made manner ps run low high put some h =
     record { ended = have_run t s (ranks made.dims) ps run.progs low high put some h.ended; rounds = tells_task t s made manner ps run put some h }
@@ -83,18 +83,18 @@ pub fewest_of_task : (t : Task) (s : Subject) (dims : List ℕ) (before after : 
 unfolding starts_of
 fewest_of_task t s dims before after ps put some f = fewest (way_of t s).is_case ((plan_of t s).starts (ranks dims)) ps dims before after put some f
 
--- what the gate was told of the turns
-pub told_turns : {S : Type 0} {R : Rules S} {i : S → AnyState} {w : List ℕ → List ℕ} → Injects R any_rules i w → (starts : List S) (ps : List AnyState) (dims : List ℕ) (told : ℕ → ℕ → Bool)
-    → ps ≡ map i starts → 0 < length ps → ToldOfTurns any_rules ps dims told → ToldOfTurns R starts dims told
-told_turns case starts ps dims told put some f n r m h low few = f n r m (rounds_as_any case starts ps n put some h) low few
+-- what the gate was notified of the turns
+pub told_turns : {S : Type 0} {R : Rules S} {i : S → AnyState} {w : List ℕ → List ℕ} → Injects R any_rules i w → (starts : List S) (ps : List AnyState) (dims : List ℕ) (notified : ℕ → ℕ → Bool)
+    → ps ≡ map i starts → 0 < length ps → NotifiedOfTurns any_rules ps dims notified → NotifiedOfTurns R starts dims notified
+told_turns case starts ps dims notified put some f n r m h low few = f n r m (rounds_as_any case starts ps n put some h) low few
 
-pub told_of_task : (t : Task) (s : Subject) (dims : List ℕ) (told : ℕ → ℕ → Bool) (ps : List AnyState)
-    → ps ≡ starts_of t (ranks dims) s → 0 < length ps → ToldOfTurns any_rules ps dims told → ToldOfTurns (plan_of t s).rules ((plan_of t s).starts (ranks dims)) dims told
+pub told_of_task : (t : Task) (s : Subject) (dims : List ℕ) (notified : ℕ → ℕ → Bool) (ps : List AnyState)
+    → ps ≡ starts_of t (ranks dims) s → 0 < length ps → NotifiedOfTurns any_rules ps dims notified → NotifiedOfTurns (plan_of t s).rules ((plan_of t s).starts (ranks dims)) dims notified
 unfolding starts_of
-told_of_task t s dims told ps put some f = told_turns (way_of t s).is_case ((plan_of t s).starts (ranks dims)) ps dims told put some f
+told_of_task t s dims notified ps put some f = told_turns (way_of t s).is_case ((plan_of t s).starts (ranks dims)) ps dims notified put some f
 
 -- the sweeps of a drive that was given the order 0, 1, .., P-1
-pub swept_in_order : (starts ps : List AnyState) (made : Made) (manner manner' : Manner) (order : List ℕ) (before after : ℕ) (run : Finished AnyState)
+pub swept_in_order : (starts ps : List AnyState) (made : BankShape) (manner manner' : Manner) (order : List ℕ) (before after : ℕ) (run : Finished AnyState)
     → ps ≡ starts → order ≡ range_with_len 0 (ranks made.dims) → manner ≡ manner' → HasSwept any_rules ps made manner order before after run
     → SweptInOrder starts made manner' before after run.rounds
 swept_in_order starts ps made manner manner' order before after run put o m h =
@@ -122,7 +122,7 @@ few more e = omega (arith, e)
 pub none_made : (t : Task) (s : Subject) (manner : Manner) (dims : List ℕ) (before after : ℕ) → after ≡ before → TurnsOfTask t s manner dims before after
 none_made t s manner dims before after e = λ n h. few _ e
 
--- where the rounds of a run are those that were told
+-- where the rounds of a run are those that were recorded
 pub rounds_as : (P : List ClosedRound → Type 0) {rs : List ClosedRound} (r : Result RunEnd Refusal) → IfOk r (λ f. f.rounds ≡ rs) → P rs → IfOk r (λ f. P f.rounds)
 rounds_as P (Ok f) e p = subst P (sym e) p
 rounds_as P (Err x) e p = tt
@@ -132,7 +132,7 @@ pub refused : {K : Type 0} (c : Command) (s : Subject) (tells : List ClosedRound
     → IsRunEnd c s tells taken faults out out' (Err refusal.NoMemory)
 refused c s tells taken faults out out' same = record { ending = tt; rounds = tt; memory = refl; no_answer = same }
 
--- a run whose rounds are those that were told
+-- a run whose rounds are those that were recorded
 pub finish : {K : Type 0} (c : Command) (s : Subject) (tells : List ClosedRound → Type 0) (taken : K → Option (List ℕ)) (faults : K → ℕ) (out out' : K) (r : Result RunEnd Refusal) {rs : List ClosedRound}
     → IsRunEnd c s (λ rounds. rounds ≡ rs) taken faults out out' r → tells rs → IsRunEnd c s tells taken faults out out' r
-finish c s tells taken faults out out' r e told = record { ending = e.ending; rounds = rounds_as tells r e.rounds told; memory = e.memory; no_answer = e.no_answer }
+finish c s tells taken faults out out' r e notified = record { ending = e.ending; rounds = rounds_as tells r e.rounds notified; memory = e.memory; no_answer = e.no_answer }

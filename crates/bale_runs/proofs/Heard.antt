@@ -15,7 +15,7 @@ use Rattle.round_program.specs.Replies.{HaveHeard}
 use Rattle.rank_node.specs.Movers.{manner_of}
 use Rattle.rank_node.specs.declared.via.Via.TheVariants as via
 use Rattle.rank_group.specs.declared.closed_round.ClosedRound.{ClosedRound}
-use Rattle.rank_group.specs.Transcript.{Made, turns_within}
+use Rattle.rank_group.specs.Transcript.{BankShape, turns_within}
 use Rattle.app_histo_ig.specs.Sums.{SumsState, sums_rules}
 use Rattle.app_histo_ig.specs.SumsRuns.{sums_begins, sums_starts, SumsEnded}
 use Rattle.app_histo_ig.specs.Asking.{AskingState, ig_talk}
@@ -31,9 +31,9 @@ use Rattle.bale_words.specs.declared.command.Transport.{Transport}
 use Rattle.bale_words.specs.declared.command.Transport.TheVariants.{Convey, Biconvey}
 use Rattle.bale_subjects.specs.declared.subject.Subject.{Subject}
 use Rattle.bale_subjects.specs.declared.subject.Subject.TheVariants as subject
-use Rattle.bale_runs.specs.Asking.{TellsAsking, TellsReplies, TurnsBy, TurnsOfAsking, TurnsOfCommand}
+use Rattle.bale_runs.specs.Asking.{RecordsAsking, RecordsReplies, TurnsBy, TurnsOfAsking, TurnsOfCommand}
 use Rattle.bale_runs.specs.Jobs.{by_asking, is_biconvey, is_ig}
-use Rattle.bale_runs.specs.Runs.{Tells}
+use Rattle.bale_runs.specs.Runs.{Records}
 use Rattle.bale_runs.proofs.Cases.{turns, none_made}
 
 -- ---- Facts of a result
@@ -59,17 +59,17 @@ some_starts m p some = subst (λ n. 1 ≤ n) (sym (length-map-range_with_len (su
 abbrev pub sums_ended : (m : Sparse) (p : ℕ) (ends : List SumsState) → 1 ≤ p → IsSparse m → HaveEnded sums_rules (sums_starts p m) ends → SumsEnded m ends
 sums_ended m p ends some sparse h = record { ranks = p; some = some; matrix = sparse; ended = h }
 
--- ---- What is told
+-- ---- What is recorded
 
-pub tells_asking : (m : Sparse) (made : Made) (steady : Bool) (rounds first others : List ClosedRound)
-    → Tells sums_rules (sums_starts (ranks made.dims) m) made (manner_of via.Convey steady) first → TellsReplies m made steady others
-    → rounds ≡ first ++ others → TellsAsking m made steady rounds
+pub tells_asking : (m : Sparse) (made : BankShape) (steady : Bool) (rounds first others : List ClosedRound)
+    → Records sums_rules (sums_starts (ranks made.dims) m) made (manner_of via.Convey steady) first → RecordsReplies m made steady others
+    → rounds ≡ first ++ others → RecordsAsking m made steady rounds
 tells_asking m made steady rounds first others t x e =
     record {
       sums = t.closed;
       rest = others;
       first = e ∙ ap (λ (rs : List ClosedRound). rs ++ others) t.only;
-      summed = subst (λ (rs : List ClosedRound). Tells sums_rules (sums_starts (ranks made.dims) m) made (manner_of via.Convey steady) rs) t.only t;
+      summed = subst (λ (rs : List ClosedRound). Records sums_rules (sums_starts (ranks made.dims) m) made (manner_of via.Convey steady) rs) t.only t;
       replied = x;
     }
 

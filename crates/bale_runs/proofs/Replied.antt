@@ -17,12 +17,12 @@ use Rattle.round_program.specs.Canonical.{items_of}
 use Rattle.round_program.specs.Replies.{carrying, as_items, answers}
 use Rattle.rank_group.specs.declared.closed_round.ClosedRound.{ClosedRound}
 use Rattle.rank_group.specs.Rounds.{round_inside}
-use Rattle.rank_group.specs.Transcript.{Made}
+use Rattle.rank_group.specs.Transcript.{BankShape}
 use Rattle.app_histo_ig.specs.IgLines.{column_sum}
 use Rattle.app_histo_ig.specs.Asking.{AskingState, ig_talk}
 use Rattle.app_histo_ig.specs.AskingRuns.{IsAskerOf, AreAskersOf}
-use Rattle.biconvey.specs.Drives.{queries_of, answers_of, queries_by, replies_by, TellsWay, TellsExchange}
-use Rattle.bale_runs.specs.Asking.{columns_asked, queries_for, replies_for, TellsReplies}
+use Rattle.biconvey.specs.Drives.{queries_of, answers_of, queries_by, replies_by, RecordsOneWay, RecordsExchange}
+use Rattle.bale_runs.specs.Asking.{columns_asked, queries_for, replies_for, RecordsReplies}
 
 -- what entries ask a rank for are the columns of those that it owns
 asked_for : (p d : ℕ) (es : List Numbered) → items_of d (as_items (map (λ (e : Numbered). (column_owner p e, e.1.j)) es)) ≡ map carrying (map (λ (e : Numbered). e.1.j) (dealt (column_owner p) d es))
@@ -75,9 +75,9 @@ replies_are m p askers is are d s there low =
     ∙ replied m p d q.0 (are.each d q.0 q.1) s (columns_asked m p s d) (columns_in m p s d is)
 
 -- a round that tells some lists tells equal ones
-same_way : (made : Made) (steady : Bool) (f g : ℕ → ℕ → List Item) (round : Round) → ((s d : ℕ) → s < ranks made.dims → d < ranks made.dims → f s d ≡ g s d) → TellsWay made steady f round → TellsWay made steady g round
+same_way : (made : BankShape) (steady : Bool) (f g : ℕ → ℕ → List Item) (round : Round) → ((s d : ℕ) → s < ranks made.dims → d < ranks made.dims → f s d ≡ g s d) → RecordsOneWay made steady f round → RecordsOneWay made steady g round
 same_way made steady f g round same t =
-    let size : ranks round.dims ≡ ranks made.dims = ap (λ (b : Made). ranks b.dims) t.bank in
+    let size : ranks round.dims ≡ ranks made.dims = ap (λ (b : BankShape). ranks b.dims) t.bank in
     record {
       bank = t.bank;
       ended = t.ended;
@@ -88,9 +88,9 @@ same_way made steady f g round same t =
       shape = t.shape;
     }
 
-pub told_replies : (m : Sparse) (made : Made) (steady : Bool) (rounds : List ClosedRound) (askers : List AskingState) → IsSparse m → AreAskersOf m (ranks made.dims) askers
-    → ((q : ClosedRound) × (r : ClosedRound) × (rounds ≡ q ∷ r ∷ []) × TellsExchange ig_talk askers made steady (round_inside q) (round_inside r))
-    → TellsReplies m made steady rounds
+pub told_replies : (m : Sparse) (made : BankShape) (steady : Bool) (rounds : List ClosedRound) (askers : List AskingState) → IsSparse m → AreAskersOf m (ranks made.dims) askers
+    → ((q : ClosedRound) × (r : ClosedRound) × (rounds ≡ q ∷ r ∷ []) × RecordsExchange ig_talk askers made steady (round_inside q) (round_inside r))
+    → RecordsReplies m made steady rounds
 told_replies m made steady rounds askers is are x =
     record {
       queries = x.0;

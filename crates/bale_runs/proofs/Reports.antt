@@ -22,9 +22,9 @@ use Rattle.rank_node.specs.Movers.{Manner}
 use Rattle.rank_node.specs.Movers.Manner.{ByConveyor}
 use Rattle.rank_group.specs.declared.closed_round.ClosedRound.{ClosedRound}
 use Rattle.rank_group.specs.Rounds.{round_inside}
-use Rattle.rank_group.specs.Transcript.{Made, TellsRun, vote_sent}
-use Rattle.rank_group.specs.DrivePromises.{ToldOfTurns}
-use Rattle.biconvey.specs.Drives.{TellsWay}
+use Rattle.rank_group.specs.Transcript.{BankShape, RecordsRun, vote_sent}
+use Rattle.rank_group.specs.DrivePromises.{NotifiedOfTurns}
+use Rattle.biconvey.specs.Drives.{RecordsOneWay}
 use Rattle.app_sssp.specs.SsspRuns.{IsGraph}
 use Rattle.app_histo_ig.specs.Sums.{sums_rules}
 use Rattle.app_histo_ig.specs.SumsRuns.{sums_starts}
@@ -46,9 +46,9 @@ use Rattle.bale_answers.specs.Tasks.{matrix_plan, plan_of}
 use Rattle.bale_answers.proofs.Moving.{moves}
 use Rattle.bale_runs.specs.declared.exchange.RunEnd.{RunEnd}
 use Rattle.bale_runs.specs.Jobs.{by_asking, manner_for}
-use Rattle.bale_runs.specs.Runs.{Tells, made_for}
-use Rattle.bale_runs.specs.Asking.{TellsAsking, TellsBy, ToldBy}
-use Rattle.bale_runs.specs.Reports.{IsMatrixTable, IsTable, Reports, ReportsTable, ReportsAsking, ReportsBy, ReportsCommand, ToldOfEpochs, in_epoch}
+use Rattle.bale_runs.specs.Runs.{Records, made_for}
+use Rattle.bale_runs.specs.Asking.{RecordsAsking, RecordsBy, NotifiedBy}
+use Rattle.bale_runs.specs.Reports.{IsMatrixTable, IsTable, Reports, ReportsTable, ReportsAsking, ReportsBy, ReportsCommand, NotifiedOfEpochs, in_epoch}
 use Rattle.bale_runs.specs.RunEnds.{CommandFits, IsRunEnd, IsKnown}
 use Rattle.bale_runs.proofs.Exchanges.{task_fit}
 
@@ -75,11 +75,11 @@ vote_cast {S} R starts n p vote s low cast =
     let u = got_map R.vote ss s (vote s) (ap (λ xs. slice_get xs s) cast ∙ made_at vote p s low) in
     ap (λ (o : Option S). vote_sent R o) u.1 ∙ ap (λ v. carrying v ∷ []) u.2
 
-pub reports : {S : Type 0} (R : Rules S) (starts : List S) (t : Table) (count : ℕ) (made : Made) (manner : Manner) (round : Round)
-    → FollowsTable R starts (ranks made.dims) t → HasRounds R starts count → TellsRun R starts count made manner round → Reports made manner (2 * t.rounds) (in_epoch t) round
+pub reports : {S : Type 0} (R : Rules S) (starts : List S) (t : Table) (count : ℕ) (made : BankShape) (manner : Manner) (round : Round)
+    → FollowsTable R starts (ranks made.dims) t → HasRounds R starts count → RecordsRun R starts count made manner round → Reports made manner (2 * t.rounds) (in_epoch t) round
 reports R starts t count made manner round f has tells =
     let same : count ≡ t.rounds = rounds_once R starts count t.rounds has f.has_rounds in
-    let size : ranks round.dims ≡ ranks made.dims = ap (λ (b : Made). ranks b.dims) tells.bank in
+    let size : ranks round.dims ≡ ranks made.dims = ap (λ (b : BankShape). ranks b.dims) tells.bank in
     record {
       bank = tells.bank;
       ended = λ l low. tells.ended l low ∙ ap (λ n. 2 * n) same;
@@ -101,7 +101,7 @@ reports R starts t count made manner round f has tells =
       shape = tells.shape;
     }
 
-reports_way : (made : Made) (steady : Bool) (items : ℕ → ℕ → List Item) (round : Round) → TellsWay made steady items round → Reports made (ByConveyor steady) 1 (λ e. items) round
+reports_way : (made : BankShape) (steady : Bool) (items : ℕ → ℕ → List Item) (round : Round) → RecordsOneWay made steady items round → Reports made (ByConveyor steady) 1 (λ e. items) round
 reports_way made steady items round t =
     record {
       bank = t.bank;
@@ -167,12 +167,12 @@ table_for t p c (subject.Lines lines) serial same some few known f = given _ _ p
 
 -- ---- The rounds of a command
 
-reports_table : {S : Type 0} (R : Rules S) (starts : List S) (Is : Table → Type 0) (made : Made) (manner : Manner) (rounds : List ClosedRound)
-    → HasTable R starts (ranks made.dims) Is → Tells R starts made manner rounds → ReportsTable Is made manner rounds
+reports_table : {S : Type 0} (R : Rules S) (starts : List S) (Is : Table → Type 0) (made : BankShape) (manner : Manner) (rounds : List ClosedRound)
+    → HasTable R starts (ranks made.dims) Is → Records R starts made manner rounds → ReportsTable Is made manner rounds
 reports_table R starts Is made manner rounds h t =
     record { closed = t.closed; only = t.only; table = h.table; is = h.is; reports = reports R starts h.table t.count made manner (round_inside t.closed) h.follows t.has_rounds t.tells }
 
-reports_asking : (m : Sparse) (made : Made) (steady : Bool) (rounds : List ClosedRound) → TellsAsking m made steady rounds → ReportsAsking m made steady rounds
+reports_asking : (m : Sparse) (made : BankShape) (steady : Bool) (rounds : List ClosedRound) → RecordsAsking m made steady rounds → ReportsAsking m made steady rounds
 reports_asking m made steady rounds t =
     let s = t.summed in
     record {
@@ -188,7 +188,7 @@ reports_asking m made steady rounds t =
     }
 
 pub reports_by : (b : Bool) (c : Command) (s : Subject) (serial : Bool) (rounds : List ClosedRound) → IsGrid c.grid → IsKnown s → CommandFits c s serial
-    → TellsBy b c s (made_for serial c) rounds → ReportsBy b c s (made_for serial c) rounds
+    → RecordsBy b c s (made_for serial c) rounds → ReportsBy b c s (made_for serial c) rounds
 unfolding ReportsBy
 reports_by true c (subject.Matrix m) serial rounds grid known f t = reports_asking m (made_for serial c) c.travel.steady rounds t
 reports_by true c (subject.Lines lines) serial rounds grid known f t = t
@@ -196,38 +196,38 @@ reports_by false c s serial rounds grid known f t =
     reports_table (plan_of c.task s).rules ((plan_of c.task s).starts (ranks c.grid)) (IsTable c.task (ranks c.grid) s) (made_for serial c) (manner_for c) rounds
     (table_for c.task (ranks c.grid) c s serial refl (ranks_some c.grid grid.positive) grid.small known f) t
 
--- ---- What the gate is told of
+-- ---- What the gate is notified of
 
-told_table : {S : Type 0} (R : Rules S) (starts : List S) (dims : List ℕ) (told : ℕ → ℕ → Bool) (made : Made) (manner : Manner) (rounds : List ClosedRound)
-    → made.dims ≡ dims → Tells R starts made manner rounds → ToldOfTurns R starts dims told → ToldOfEpochs dims told rounds
-unfolding ToldOfEpochs
-told_table R starts dims told made manner rounds same t f =
-    subst (ToldOfEpochs dims told) (sym t.only) (λ l r m lo low early.
-    let grid : (round_inside t.closed).dims ≡ dims = ap (λ (b : Made). b.dims) t.tells.bank ∙ same in
+told_table : {S : Type 0} (R : Rules S) (starts : List S) (dims : List ℕ) (notified : ℕ → ℕ → Bool) (made : BankShape) (manner : Manner) (rounds : List ClosedRound)
+    → made.dims ≡ dims → Records R starts made manner rounds → NotifiedOfTurns R starts dims notified → NotifiedOfEpochs dims notified rounds
+unfolding NotifiedOfEpochs
+told_table R starts dims notified made manner rounds same t f =
+    subst (NotifiedOfEpochs dims notified) (sym t.only) (λ l r m lo low early.
+    let grid : (round_inside t.closed).dims ≡ dims = ap (λ (b : BankShape). b.dims) t.tells.bank ∙ same in
     f t.count r m t.has_rounds low (subst (λ n. m < n) (t.tells.ended l (subst (λ (ds : List ℕ). l < links ds) (sym grid) lo)) early))
 
-told_asking : (m : Sparse) (dims : List ℕ) (told : ℕ → ℕ → Bool) (made : Made) (steady : Bool) (rounds : List ClosedRound)
-    → made.dims ≡ dims → TellsAsking m made steady rounds → ((r i : ℕ) → r < ranks dims → i < 2 → told r i ≡ true) → ToldOfEpochs dims told rounds
-unfolding ToldOfEpochs
-told_asking m dims told made steady rounds same t f =
-    subst (ToldOfEpochs dims told) (sym t.first) (λ l r i lo low early.
+told_asking : (m : Sparse) (dims : List ℕ) (notified : ℕ → ℕ → Bool) (made : BankShape) (steady : Bool) (rounds : List ClosedRound)
+    → made.dims ≡ dims → RecordsAsking m made steady rounds → ((r i : ℕ) → r < ranks dims → i < 2 → notified r i ≡ true) → NotifiedOfEpochs dims notified rounds
+unfolding NotifiedOfEpochs
+told_asking m dims notified made steady rounds same t f =
+    subst (NotifiedOfEpochs dims notified) (sym t.first) (λ l r i lo low early.
     let s = t.summed in
-    let grid : (round_inside s.closed).dims ≡ dims = ap (λ (b : Made). b.dims) s.tells.bank ∙ same in
+    let grid : (round_inside s.closed).dims ≡ dims = ap (λ (b : BankShape). b.dims) s.tells.bank ∙ same in
     let one : s.count ≡ 1 = rounds_once sums_rules (sums_starts (ranks made.dims) m) s.count 1 s.has_rounds (table_laws.sums (ranks made.dims) m).has_rounds in
     let ended : lasts (logs_of (round_inside s.closed).sent l) ≡ 2 = s.tells.ended l (subst (λ (ds : List ℕ). l < links ds) (sym grid) lo) ∙ ap (λ n. 2 * n) one in
     f r i low (subst (λ n. i < n) (ap (λ k. lasts (logs_of (round_inside k).sent l)) (first_same t.sums s.closed s.only) ∙ ended) early))
 
-told_by : (b : Bool) (c : Command) (s : Subject) (serial : Bool) (told : ℕ → ℕ → Bool) (rounds : List ClosedRound)
-    → TellsBy b c s (made_for serial c) rounds → ToldBy b c s told → ToldOfEpochs c.grid told rounds
-told_by true c (subject.Matrix m) serial told rounds t f = told_asking m c.grid told (made_for serial c) c.travel.steady rounds refl t f
-told_by true c (subject.Lines lines) serial told rounds t f = absurd t
-told_by false c s serial told rounds t f = told_table (plan_of c.task s).rules ((plan_of c.task s).starts (ranks c.grid)) c.grid told (made_for serial c) (manner_for c) rounds refl t f
+told_by : (b : Bool) (c : Command) (s : Subject) (serial : Bool) (notified : ℕ → ℕ → Bool) (rounds : List ClosedRound)
+    → RecordsBy b c s (made_for serial c) rounds → NotifiedBy b c s notified → NotifiedOfEpochs c.grid notified rounds
+told_by true c (subject.Matrix m) serial notified rounds t f = told_asking m c.grid notified (made_for serial c) c.travel.steady rounds refl t f
+told_by true c (subject.Lines lines) serial notified rounds t f = absurd t
+told_by false c s serial notified rounds t f = told_table (plan_of c.task s).rules ((plan_of c.task s).starts (ranks c.grid)) c.grid notified (made_for serial c) (manner_for c) rounds refl t f
 
 -- ---- The end of a run
 
 pub reported : {K : Type 0} (b : Bool) (c : Command) (s : Subject) (serial : Bool) (taken : K → Option (List ℕ)) (faults : K → ℕ) (out out' : K) (ran : Result RunEnd Refusal)
     → by_asking c ≡ b → IsGrid c.grid → IsKnown s → CommandFits c s serial
-    → IsRunEnd c s (TellsBy b c s (made_for serial c)) taken faults out out' ran → IsRunEnd c s (ReportsCommand serial c s) taken faults out out' ran
+    → IsRunEnd c s (RecordsBy b c s (made_for serial c)) taken faults out out' ran → IsRunEnd c s (ReportsCommand serial c s) taken faults out out' ran
 unfolding ReportsCommand ReportsBy
 reported b c s serial taken faults out out' ran is grid known f e =
     record {
@@ -237,11 +237,11 @@ reported b c s serial taken faults out out' ran is grid known f e =
       no_answer = e.no_answer;
     }
   where
-    each : (r : Result RunEnd Refusal) → IfOk r (λ g. TellsBy b c s (made_for serial c) g.rounds) → IfOk r (λ g. ReportsBy b c s (made_for serial c) g.rounds)
+    each : (r : Result RunEnd Refusal) → IfOk r (λ g. RecordsBy b c s (made_for serial c) g.rounds) → IfOk r (λ g. ReportsBy b c s (made_for serial c) g.rounds)
     each (Ok g) t = reports_by b c s serial g.rounds grid known f t
     each (Err r) t = tt
 
-pub told_epochs : (b : Bool) (c : Command) (s : Subject) (serial : Bool) (told : ℕ → ℕ → Bool) (ran : Result RunEnd Refusal)
-    → IfOk ran (λ g. TellsBy b c s (made_for serial c) g.rounds) → OnOk ran (ToldBy b c s told) → IfOk ran (λ g. ToldOfEpochs c.grid told g.rounds)
-told_epochs b c s serial told (Ok g) t f = told_by b c s serial told g.rounds t f
-told_epochs b c s serial told (Err r) t f = tt
+pub told_epochs : (b : Bool) (c : Command) (s : Subject) (serial : Bool) (notified : ℕ → ℕ → Bool) (ran : Result RunEnd Refusal)
+    → IfOk ran (λ g. RecordsBy b c s (made_for serial c) g.rounds) → OnOk ran (NotifiedBy b c s notified) → IfOk ran (λ g. NotifiedOfEpochs c.grid notified g.rounds)
+told_epochs b c s serial notified (Ok g) t f = told_by b c s serial notified g.rounds t f
+told_epochs b c s serial notified (Err r) t f = tt

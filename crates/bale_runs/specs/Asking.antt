@@ -13,8 +13,8 @@ use Rattle.rank_node.specs.declared.via.Via.TheVariants as via
 use Rattle.rank_group.specs.declared.closed_round.ClosedRound.{ClosedRound}
 use Rattle.rank_group.specs.declared.drive.Finished.{Finished}
 use Rattle.rank_group.specs.Rounds.{round_inside}
-use Rattle.rank_group.specs.Transcript.{Made, turns_within}
-use Rattle.rank_group.specs.DrivePromises.{ToldOfTurns}
+use Rattle.rank_group.specs.Transcript.{BankShape, turns_within}
+use Rattle.rank_group.specs.DrivePromises.{NotifiedOfTurns}
 use Rattle.round_program.specs.Canonical.{HaveEnded}
 use Rattle.round_program.specs.Replies.{carrying}
 use Rattle.app_cases.specs.Any.{AnyState, any_rules, sums_way}
@@ -24,7 +24,7 @@ use Rattle.app_histo_ig.specs.SumsRuns.{sums_starts}
 use Rattle.app_histo_ig.specs.Asking.{AskingState, ig_talk}
 use Rattle.app_histo_ig.specs.AskingRuns.{AreAskersOf}
 use Rattle.app_histo_ig.specs.ColumnAnswers.{IgHeard}
-use Rattle.biconvey.specs.Drives.{TellsWay}
+use Rattle.biconvey.specs.Drives.{RecordsOneWay}
 use Rattle.biconvey.specs.DrivePromises.{HasSweptBoth}
 use Rattle.biconvey.specs.RanksOverBanks.{bi_turns_of}
 use Rattle.bale_words.specs.declared.command.Command.{Command}
@@ -32,7 +32,7 @@ use Rattle.bale_subjects.specs.declared.subject.Subject.{Subject}
 use Rattle.bale_subjects.specs.declared.subject.Subject.TheVariants as subject
 use Rattle.bale_runs.specs.Jobs.{by_asking, manner_for}
 use Rattle.bale_answers.specs.Tasks.{plan_of, starts_of}
-use Rattle.bale_runs.specs.Runs.{made_for, SweptInOrder, Tells, TellsTask, TurnsOfTask, FewestOfTask}
+use Rattle.bale_runs.specs.Runs.{made_for, SweptInOrder, Records, RecordsTask, TurnsOfTask, FewestOfTask}
 
 -- The columns that rank s asks rank d about, in order: those of its entries that d owns.
 -- columns_asked m ranks s d = the columns of the entries e of s with column_owner ranks e = d
@@ -52,36 +52,36 @@ replies_for m ranks d s = map (λ j. carrying (twos_complement (column_sum j m.e
 
 -- Two closed rounds tell the queries, of each entry's rank for its column, and the replies, over
 -- two banks of one make.
-pub record TellsReplies (m : Sparse) (made : Made) (steady : Bool) (rounds : List ClosedRound) : Type 0 where
+pub record RecordsReplies (m : Sparse) (made : BankShape) (steady : Bool) (rounds : List ClosedRound) : Type 0 where
   pub queries : ClosedRound
   pub replies : ClosedRound
   pub two : rounds ≡ queries ∷ replies ∷ []
-  pub asking : TellsWay made steady (queries_for m (ranks made.dims)) (round_inside queries)
-  pub replying : TellsWay made steady (replies_for m (ranks made.dims)) (round_inside replies)
+  pub asking : RecordsOneWay made steady (queries_for m (ranks made.dims)) (round_inside queries)
+  pub replying : RecordsOneWay made steady (replies_for m (ranks made.dims)) (round_inside replies)
 
 -- The rounds of ig by queries and replies are three. The first tells the one round on conveyors in
 -- which the columns are summed, over a bank of the same make, and the rest the queries and the
 -- replies.
-pub record TellsAsking (m : Sparse) (made : Made) (steady : Bool) (rounds : List ClosedRound) : Type 0 where
+pub record RecordsAsking (m : Sparse) (made : BankShape) (steady : Bool) (rounds : List ClosedRound) : Type 0 where
   pub sums : ClosedRound
   pub rest : List ClosedRound
   pub first : rounds ≡ sums ∷ rest
-  pub summed : Tells sums_rules (sums_starts (ranks made.dims) m) made (manner_of via.Convey steady) (sums ∷ [])
-  pub replied : TellsReplies m made steady rest
+  pub summed : Records sums_rules (sums_starts (ranks made.dims) m) made (manner_of via.Convey steady) (sums ∷ [])
+  pub replied : RecordsReplies m made steady rest
 
 -- What the round leaves in which the columns of a matrix are summed.
-pub record HasSummed (m : Sparse) (made : Made) (steady : Bool) (run : Finished AnyState) : Type 0 where
+pub record HasSummed (m : Sparse) (made : BankShape) (steady : Bool) (run : Finished AnyState) : Type 0 where
   -- The programs are as the canonical run leaves them.
   pub ended : HaveEnded any_rules (map sums_way.case (sums_starts (ranks made.dims) m)) run.progs
   -- One closed round tells it.
-  pub rounds : Tells sums_rules (sums_starts (ranks made.dims) m) made (manner_of via.Convey steady) run.rounds
+  pub rounds : Records sums_rules (sums_starts (ranks made.dims) m) made (manner_of via.Convey steady) run.rounds
 
 -- What the queries and the replies leave.
-pub record LeftByQueries (m : Sparse) (made : Made) (steady : Bool) (run : Finished AskingState) : Type 0 where
+pub record LeftByQueries (m : Sparse) (made : BankShape) (steady : Bool) (run : Finished AskingState) : Type 0 where
   -- Each asker has heard the sums of its entries' columns.
   pub heard : IgHeard m run.progs
   -- Two closed rounds tell both ways.
-  pub rounds : TellsReplies m made steady run.rounds
+  pub rounds : RecordsReplies m made steady run.rounds
 
 -- From `before` turns to `after` there are no more than the round of sums takes at most, and an
 -- exchange of one query an entry.
@@ -93,10 +93,10 @@ TurnsOfAsking m steady dims before after =
 
 -- What the rounds of a command tell, by queries and replies or not. Lines have no columns to ask
 -- for.
-abbrev pub TellsBy : Bool → Command → Subject → Made → List ClosedRound → Type 0
-TellsBy true c (subject.Matrix m) made rounds = TellsAsking m made c.travel.steady rounds
-TellsBy true c (subject.Lines lines) made rounds = ⊥
-TellsBy false c s made rounds = TellsTask c.task s made (manner_for c) rounds
+abbrev pub RecordsBy : Bool → Command → Subject → BankShape → List ClosedRound → Type 0
+RecordsBy true c (subject.Matrix m) made rounds = RecordsAsking m made c.travel.steady rounds
+RecordsBy true c (subject.Lines lines) made rounds = ⊥
+RecordsBy false c s made rounds = RecordsTask c.task s made (manner_for c) rounds
 
 abbrev pub TurnsBy : Bool → Command → Subject → ℕ → ℕ → Type 0
 TurnsBy true c (subject.Matrix m) before after = TurnsOfAsking m c.travel.steady c.grid before after
@@ -120,7 +120,7 @@ FewestOfCommand c s before after = FewestBy (by_asking c) c s before after
 
 -- On one thread the ranks made the turns of the queries and the replies in sweeps, each in the
 -- order 0, 1, .., P-1, and no other turn; the rounds tell what these turns left.
-pub record AskedInOrder (m : Sparse) (made : Made) (steady : Bool) (before after : ℕ)
+pub record AskedInOrder (m : Sparse) (made : BankShape) (steady : Bool) (before after : ℕ)
     (rounds : List ClosedRound) : Type 0 where
   pub askers : List AskingState
   pub are : AreAskersOf m (ranks made.dims) askers
@@ -130,7 +130,7 @@ pub record AskedInOrder (m : Sparse) (made : Made) (steady : Bool) (before after
 
 -- By queries and replies the first turns are those of the round of sums, and the rest those of the
 -- exchange.
-pub record SweptByAsking (m : Sparse) (made : Made) (steady : Bool) (before after : ℕ)
+pub record SweptByAsking (m : Sparse) (made : BankShape) (steady : Bool) (before after : ℕ)
     (rounds : List ClosedRound) : Type 0 where
   pub between : ℕ
   pub sums : List ClosedRound
@@ -151,9 +151,9 @@ RunSweptBy false c s before after rounds =
 abbrev pub SweptOfCommand : Command → Subject → ℕ → ℕ → List ClosedRound → Type 0
 SweptOfCommand c s before after rounds = RunSweptBy (by_asking c) c s before after rounds
 
--- `told` holds of the turns of each rank, by the rank's number and its own, counted from 0: by
+-- `notified` holds of the turns of each rank, by the rank's number and its own, counted from 0: by
 -- queries and replies of the two that the round of sums takes at least, else of two in each round.
-abbrev pub ToldBy : Bool → Command → Subject → (ℕ → ℕ → Bool) → Type 0
-ToldBy true c s told = (r m : ℕ) → r < ranks c.grid → m < 2 → told r m ≡ true
-ToldBy false c s told =
-    ToldOfTurns (plan_of c.task s).rules ((plan_of c.task s).starts (ranks c.grid)) c.grid told
+abbrev pub NotifiedBy : Bool → Command → Subject → (ℕ → ℕ → Bool) → Type 0
+NotifiedBy true c s notified = (r m : ℕ) → r < ranks c.grid → m < 2 → notified r m ≡ true
+NotifiedBy false c s notified =
+    NotifiedOfTurns (plan_of c.task s).rules ((plan_of c.task s).starts (ranks c.grid)) c.grid notified

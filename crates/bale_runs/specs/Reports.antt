@@ -14,7 +14,7 @@ use Rattle.rank_node.specs.Movers.{Manner, IsLogShape}
 use Rattle.rank_node.specs.Movers.Manner.{ByConveyor}
 use Rattle.rank_group.specs.declared.closed_round.ClosedRound.{ClosedRound}
 use Rattle.rank_group.specs.Rounds.{round_inside}
-use Rattle.rank_group.specs.Transcript.{Made}
+use Rattle.rank_group.specs.Transcript.{BankShape}
 use Rattle.round_tables.specs.Tables.{Table, histo_table, ig_table, sums_table, permute_table, transpose_table, tally_table}
 use Rattle.round_tables.specs.Tables.{IsTopoTable, IsSsspTable, IsDeltaTable}
 use Rattle.bale_words.specs.declared.command.Command.{Command}
@@ -61,7 +61,7 @@ in_epoch t e s d = if e % 2 == 0 then items_of d (t.line (e / 2) s) else carryin
 -- aren't steady, an epoch's entries travel in few parcels (port_bank's few_parcels_law).
 -- With two ranks and six rounds there are 12 epochs; in each odd one each of the four pairs has one
 -- item.
-pub record Reports (made : Made) (manner : Manner) (epochs : ℕ) (sent : ℕ → ℕ → ℕ → List Item)
+pub record Reports (made : BankShape) (manner : Manner) (epochs : ℕ) (sent : ℕ → ℕ → ℕ → List Item)
     (round : Round) : Type 0 where
   pub bank : record { dims = round.dims; cap = round.cap; slots = round.slots; by_slots = round.by_slots } ≡ made
   pub ended : (l : ℕ) → l < links round.dims → lasts (logs_of round.sent l) ≡ epochs
@@ -73,7 +73,7 @@ pub record Reports (made : Made) (manner : Manner) (epochs : ℕ) (sent : ℕ �
   pub shape : (l : ℕ) → l < links round.dims → IsLogShape manner round.cap (logs_of round.sent l)
 
 -- A run leaves one transcript, which reports a table: two epochs for each of its rounds.
-pub record ReportsTable (Is : Table → Type 0) (made : Made) (manner : Manner)
+pub record ReportsTable (Is : Table → Type 0) (made : BankShape) (manner : Manner)
     (transcripts : List ClosedRound) : Type 0 where
   pub closed : ClosedRound
   pub only : transcripts ≡ closed ∷ []
@@ -83,7 +83,7 @@ pub record ReportsTable (Is : Table → Type 0) (made : Made) (manner : Manner)
 
 -- The rounds of ig by queries and replies are three, over banks of one make: the round in which the
 -- columns are summed, the queries of each entry's rank for its column, and the replies.
-pub record ReportsAsking (m : Sparse) (made : Made) (steady : Bool) (transcripts : List ClosedRound) : Type 0 where
+pub record ReportsAsking (m : Sparse) (made : BankShape) (steady : Bool) (transcripts : List ClosedRound) : Type 0 where
   pub sums : ClosedRound
   pub queries : ClosedRound
   pub replies : ClosedRound
@@ -93,7 +93,7 @@ pub record ReportsAsking (m : Sparse) (made : Made) (steady : Bool) (transcripts
   pub replied : Reports made (ByConveyor steady) 1 (λ e. replies_for m (ranks made.dims)) (round_inside replies)
 
 -- By queries and replies or not. Lines have no columns to ask for.
-unfoldable pub ReportsBy : Bool → Command → Subject → Made → List ClosedRound → Type 0
+unfoldable pub ReportsBy : Bool → Command → Subject → BankShape → List ClosedRound → Type 0
 ReportsBy true c (subject.Matrix m) made transcripts = ReportsAsking m made c.travel.steady transcripts
 ReportsBy true c (subject.Lines lines) made transcripts = ⊥
 ReportsBy false c s made transcripts = ReportsTable (IsTable c.task (ranks made.dims) s) made (manner_for c) transcripts
@@ -103,10 +103,10 @@ ReportsBy false c s made transcripts = ReportsTable (IsTable c.task (ranks made.
 unfoldable pub ReportsCommand : Bool → Command → Subject → List ClosedRound → Type 0
 ReportsCommand serial c s transcripts = ReportsBy (by_asking c) c s (made_for serial c) transcripts
 
--- `told` holds of the turns of each rank, by the rank's number and its own, counted from 0: of at
+-- `notified` holds of the turns of each rank, by the rank's number and its own, counted from 0: of at
 -- least as many as a link of the first transcript ended epochs.
 -- For histo on 4 ranks, which has one round and so two epochs: of two turns of each rank.
-unfoldable pub ToldOfEpochs : List ℕ → (ℕ → ℕ → Bool) → List ClosedRound → Type 0
-ToldOfEpochs dims told [] = Unit {0}
-ToldOfEpochs dims told (closed ∷ rest) = (l r m : ℕ) → l < links dims → r < ranks dims
-    → m < lasts (logs_of (round_inside closed).sent l) → told r m ≡ true
+unfoldable pub NotifiedOfEpochs : List ℕ → (ℕ → ℕ → Bool) → List ClosedRound → Type 0
+NotifiedOfEpochs dims notified [] = Unit {0}
+NotifiedOfEpochs dims notified (closed ∷ rest) = (l r m : ℕ) → l < links dims → r < ranks dims
+    → m < lasts (logs_of (round_inside closed).sent l) → notified r m ≡ true

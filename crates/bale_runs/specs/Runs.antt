@@ -9,7 +9,7 @@ use Rattle.rank_group.specs.declared.closed_round.ClosedRound.{ClosedRound}
 use Rattle.rank_group.specs.Rounds.{round_inside}
 use Rattle.rank_node.specs.Movers.{Manner}
 use Rattle.rank_group.specs.declared.drive.Finished.{Finished}
-use Rattle.rank_group.specs.Transcript.{Made, TellsRun}
+use Rattle.rank_group.specs.Transcript.{BankShape, RecordsRun}
 use Rattle.rank_group.specs.DrivePromises.{HasSwept, WithinTurns}
 use Rattle.bale_words.specs.declared.command.Command.{Command}
 use Rattle.bale_words.specs.declared.task.Task.{Task}
@@ -19,7 +19,7 @@ use Rattle.bale_answers.specs.Tasks.{plan_of, starts_of}
 
 -- The bank of a command's run: its grid, the entries of a parcel, the slots of a link; a plain one
 -- where it is driven on one thread, and one of slots where each rank has a thread.
-abbrev pub made_for : Bool → Command → Made
+abbrev pub made_for : Bool → Command → BankShape
 made_for serial c = record { dims = c.grid; cap = c.travel.buffer; slots = c.travel.slots; by_slots = not serial }
 
 -- The programs after the canonical run of those that the task begins with, on some number of ranks
@@ -32,26 +32,26 @@ pub record HaveRunTask (t : Task) (s : Subject) (progs : List AnyState) : Type 0
   pub ended : HaveEnded any_rules (starts_of t ranks s) progs
 
 -- The rounds of a run are one closed round, which tells the canonical run of these programs.
-pub record Tells {S : Type 0} (R : Rules S) (starts : List S) (made : Made) (manner : Manner)
+pub record Records {S : Type 0} (R : Rules S) (starts : List S) (made : BankShape) (manner : Manner)
     (rounds : List ClosedRound) : Type 0 where
   pub closed : ClosedRound
   pub only : rounds ≡ closed ∷ []
   pub count : ℕ
   pub has_rounds : HasRounds R starts count
-  pub tells : TellsRun R starts count made manner (round_inside closed)
+  pub tells : RecordsRun R starts count made manner (round_inside closed)
 
 -- The rounds tell the canonical run of a task's programs for its subject, over a bank that was made
 -- as said.
 -- For histo on 4 ranks: that of histo_rules, begun with histo_starts 4 m.
-abbrev pub TellsTask : Task → Subject → Made → Manner → List ClosedRound → Type 0
-TellsTask t s made manner rounds = Tells (plan_of t s).rules ((plan_of t s).starts (ranks made.dims)) made manner rounds
+abbrev pub RecordsTask : Task → Subject → BankShape → Manner → List ClosedRound → Type 0
+RecordsTask t s made manner rounds = Records (plan_of t s).rules ((plan_of t s).starts (ranks made.dims)) made manner rounds
 
 -- What the drive of a task's programs for its subject leaves.
-pub record IsTaskRun (t : Task) (s : Subject) (made : Made) (manner : Manner) (run : Finished AnyState) : Type 0 where
+pub record IsTaskRun (t : Task) (s : Subject) (made : BankShape) (manner : Manner) (run : Finished AnyState) : Type 0 where
   -- The programs are those after the run.
   pub ended : HaveRunTask t s run.progs
   -- The rounds tell it.
-  pub rounds : TellsTask t s made manner run.rounds
+  pub rounds : RecordsTask t s made manner run.rounds
 
 -- The turns of a task's run for its subject are bounded before it.
 abbrev pub TurnsOfTask : Task → Subject → Manner → List ℕ → ℕ → ℕ → Type 0
@@ -70,7 +70,7 @@ FewestOfTask t s dims before after =
 
 -- On one thread the ranks of these programs made their turns in sweeps, each in the order 0, 1, ..,
 -- P-1, and no other turn; the rounds tell what these turns left.
-pub record SweptInOrder (starts : List AnyState) (made : Made) (manner : Manner) (before after : ℕ)
+pub record SweptInOrder (starts : List AnyState) (made : BankShape) (manner : Manner) (before after : ℕ)
     (rounds : List ClosedRound) : Type 0 where
   pub run : Finished AnyState
   pub left : run.rounds ≡ rounds

@@ -12,7 +12,7 @@ ghost use Rattle.app_histo_ig.specs.SumsRuns.{sums_starts};
 ghost use Rattle.app_histo_ig.specs.AskingRuns.{AreAskersOf};
 ghost use Rattle.app_histo_ig.specs.ColumnAnswers.{IgHeard};
 ghost use Rattle.bale_words.specs.Ranges.{InRanges};
-ghost use Rattle.bale_runs.specs.Asking.{AskedInOrder, HasSummed, LeftByQueries, RunSweptBy, SweptByAsking, TellsBy, ToldBy, TurnsBy, TurnsOfAsking, FewestBy};
+ghost use Rattle.bale_runs.specs.Asking.{AskedInOrder, HasSummed, LeftByQueries, RunSweptBy, SweptByAsking, RecordsBy, NotifiedBy, TurnsBy, TurnsOfAsking, FewestBy};
 ghost use Rattle.bale_runs.specs.RunEnds.{CommandFits, IsRunEnd};
 ghost use Rattle.bale_runs.specs.Jobs.{by_asking};
 ghost use Rattle.bale_runs.specs.Runs.{made_for, SweptInOrder};
@@ -45,7 +45,7 @@ pub(crate) fn ask_serially<K: Sink, L: Ledger>(
 ) -> Result<RunEnd, Refusal>
     requires asking { by_asking command.now ≡ true }
     requires fit { CommandFits command.now subject.now true }
-    ensures finish { IsRunEnd command.now subject.now (TellsBy true command.now subject.now
+    ensures finish { IsRunEnd command.now subject.now (RecordsBy true command.now subject.now
         (made_for true command.now)) K.taken K.faults out.old out.new result }
     ensures steps { TurnsBy true command.now subject.now steps.old steps.new }
     ensures fewest { IfOk result (λ f. FewestBy true command.now subject.now steps.old steps.new) }
@@ -68,9 +68,9 @@ pub(crate) fn ask_on_threads<R: Threads + Wait + Sync, K: Sink, G: Gate + Sync>(
 ) -> Result<RunEnd, Refusal>
     requires asking { by_asking command.now ≡ true }
     requires fit { CommandFits command.now subject.now false }
-    ensures finish { IsRunEnd command.now subject.now (TellsBy true command.now subject.now
+    ensures finish { IsRunEnd command.now subject.now (RecordsBy true command.now subject.now
         (made_for false command.now)) K.taken K.faults out.old out.new result }
-    ensures told { OnOk result (ToldBy true command.now subject.now (G.told gate.now)) }
+    ensures notified { OnOk result (NotifiedBy true command.now subject.now (G.notified gate.now)) }
 {
     match subject {
         Subject::Matrix(m) => ask_matrix_on_threads(rt, alloc, command, m, out, gate),
@@ -89,7 +89,7 @@ fn ask_matrix_serially<K: Sink, L: Ledger>(
 ) -> Result<RunEnd, Refusal>
     requires asking { by_asking command.now ≡ true }
     requires ranges { InRanges command.now }
-    ensures finish { IsRunEnd command.now (Subject.Matrix m.now) (TellsBy true command.now (Subject.Matrix m.now)
+    ensures finish { IsRunEnd command.now (Subject.Matrix m.now) (RecordsBy true command.now (Subject.Matrix m.now)
         (made_for true command.now)) K.taken K.faults out.old out.new result }
     ensures steps { TurnsOfAsking m.now command.now.travel.steady command.now.grid
         steps.old steps.new }
@@ -117,9 +117,9 @@ fn ask_matrix_on_threads<R: Threads + Wait + Sync, K: Sink, G: Gate + Sync>(
 ) -> Result<RunEnd, Refusal>
     requires asking { by_asking command.now ≡ true }
     requires ranges { InRanges command.now }
-    ensures finish { IsRunEnd command.now (Subject.Matrix m.now) (TellsBy true command.now (Subject.Matrix m.now)
+    ensures finish { IsRunEnd command.now (Subject.Matrix m.now) (RecordsBy true command.now (Subject.Matrix m.now)
         (made_for false command.now)) K.taken K.faults out.old out.new result }
-    ensures told { OnOk result (ToldBy true command.now (Subject.Matrix m.now) (G.told gate.now)) }
+    ensures notified { OnOk result (NotifiedBy true command.now (Subject.Matrix m.now) (G.notified gate.now)) }
 {
     let summed = sum_on_threads(rt, alloc, command, m, gate)?;
     let Finished {
@@ -179,7 +179,7 @@ fn sum_on_threads<R: Threads + Wait + Sync, G: Gate + Sync>(
 ) -> Result<Finished<AnyProgram>, NoMemory>
     requires ranges { InRanges command.now }
     ensures summed { IfOk result (HasSummed m.now (made_for false command.now) command.now.travel.steady) }
-    ensures told { OnOk result (ToldBy true command.now (Subject.Matrix m.now) (G.told gate.now)) }
+    ensures notified { OnOk result (NotifiedBy true command.now (Subject.Matrix m.now) (G.notified gate.now)) }
 {
     let grid = &command.grid;
     let Travel {

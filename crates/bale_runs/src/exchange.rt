@@ -1,10 +1,10 @@
 //! The run of a command for its subject: the programs, driven, and then the answer, written.
 ghost use Rattle.std.specs.Prelude.{◌≡◌, ◌<◌, Bool, true, false, IfOk, OnOk};
-ghost use Rattle.bale_runs.specs.Asking.{FewestOfCommand, SweptOfCommand, ToldBy, TurnsOfCommand};
-ghost use Rattle.bale_runs.specs.Reports.{ReportsCommand, ToldOfEpochs};
+ghost use Rattle.bale_runs.specs.Asking.{FewestOfCommand, SweptOfCommand, NotifiedBy, TurnsOfCommand};
+ghost use Rattle.bale_runs.specs.Reports.{ReportsCommand, NotifiedOfEpochs};
 ghost use Rattle.bale_runs.specs.RunEnds.{CommandFits, IsKnown, IsRunEnd};
 ghost use Rattle.bale_runs.specs.Jobs.{as_asked, by_asking, via_of, manner_for};
-ghost use Rattle.bale_runs.specs.Runs.{made_for, HaveRunTask, SweptInOrder, TellsTask, IsTaskRun, TurnsOfTask, FewestOfTask};
+ghost use Rattle.bale_runs.specs.Runs.{made_for, HaveRunTask, SweptInOrder, RecordsTask, IsTaskRun, TurnsOfTask, FewestOfTask};
 ghost use Rattle.route_tensor.specs.Grid.{ranks};
 ghost use Rattle.bale_answers.specs.Tasks.{starts_of};
 ghost use Rattle.bale_items.specs.Ledgers.{IsBlankOf};
@@ -35,7 +35,7 @@ pub struct RunEnd {
 
 /// Runs the command for its subject as its words ask, the ranks on threads or all on this one, and
 /// writes its answer.
-/// Before each turn of a rank's thread the gate is told of it. It waits for its threads, and
+/// Before each turn of a rank's thread the gate is notified of it. It waits for its threads, and
 /// returns where they do.
 ///
 /// # Errors
@@ -52,9 +52,9 @@ pub fn run_command<R: Threads + Wait + Sync, K: Sink, G: Gate + Sync>(
     ensures finish { IsRunEnd command.now subject.now (ReportsCommand (as_asked command.now) command.now subject.now)
         K.taken K.faults out.old out.new result }
 
-    // On threads the gate was told of a turn of each rank in each epoch.
-    ensures told { as_asked command.now ≡ false
-        → IfOk result (λ f. ToldOfEpochs command.now.grid (G.told gate.now) f.rounds) }
+    // On threads the gate was notified of a turn of each rank in each epoch.
+    ensures notified { as_asked command.now ≡ false
+        → IfOk result (λ f. NotifiedOfEpochs command.now.grid (G.notified gate.now) f.rounds) }
 {
     if drives_serially(command) {
         run_uncounted::<Brand, K>(alloc, command, subject, out, Blank::new(1))
@@ -129,7 +129,7 @@ fn run_on_threads<R: Threads + Wait + Sync, K: Sink, G: Gate + Sync>(
     requires { CommandFits command.now subject.now false }
     ensures finish { IsRunEnd command.now subject.now (ReportsCommand false command.now subject.now)
         K.taken K.faults out.old out.new result }
-    ensures told { IfOk result (λ f. ToldOfEpochs command.now.grid (G.told gate.now) f.rounds) }
+    ensures notified { IfOk result (λ f. NotifiedOfEpochs command.now.grid (G.notified gate.now) f.rounds) }
 {
     command.grid.known();
     known_subject(subject);
@@ -165,7 +165,7 @@ fn exchange_serially<K: Sink, L: Ledger>(
     steps: &mut Steps<L>,
 ) -> Result<RunEnd, Refusal>
     requires { CommandFits command.now subject.now true }
-    ensures finish { IsRunEnd command.now subject.now (TellsTask command.now.task subject.now
+    ensures finish { IsRunEnd command.now subject.now (RecordsTask command.now.task subject.now
         (made_for true command.now) (manner_for command.now)) K.taken K.faults out.old out.new result }
     ensures steps { TurnsOfTask command.now.task subject.now
         (manner_for command.now) command.now.grid steps.old steps.new }
@@ -188,9 +188,9 @@ fn exchange_on_threads<R: Threads + Wait + Sync, K: Sink, G: Gate + Sync>(
     gate: &G,
 ) -> Result<RunEnd, Refusal>
     requires { CommandFits command.now subject.now false }
-    ensures finish { IsRunEnd command.now subject.now (TellsTask command.now.task subject.now
+    ensures finish { IsRunEnd command.now subject.now (RecordsTask command.now.task subject.now
         (made_for false command.now) (manner_for command.now)) K.taken K.faults out.old out.new result }
-    ensures told { OnOk result (ToldBy false command.now subject.now (G.told gate.now)) }
+    ensures notified { OnOk result (NotifiedBy false command.now subject.now (G.notified gate.now)) }
 {
     let run = drive_on_threads(rt, alloc, command, subject, gate)?;
     finish_run(alloc, command, subject, run, out)
@@ -247,7 +247,7 @@ fn drive_on_threads<R: Threads + Wait + Sync, G: Gate + Sync>(
     requires { CommandFits command.now subject.now false }
     ensures run { IfOk result (IsTaskRun command.now.task subject.now (made_for false command.now)
         (manner_for command.now)) }
-    ensures told { OnOk result (ToldBy false command.now subject.now (G.told gate.now)) }
+    ensures notified { OnOk result (NotifiedBy false command.now subject.now (G.notified gate.now)) }
 {
     let grid = &command.grid;
     let Travel {
@@ -281,7 +281,7 @@ fn via_of(transport: Transport) -> Via
     }
 }
 
-/// The end of a run that was driven: its answer is written, and what was exchanged is told.
+/// The end of a run that was driven: its answer is written, and its rounds hold what was exchanged.
 fn finish_run<K: Sink>(
     alloc: Global,
     command: &Command,

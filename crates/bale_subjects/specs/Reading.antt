@@ -8,13 +8,13 @@ use Rattle.bale_subjects.specs.declared.subject.Subject.{Subject}
 use Rattle.bale_subjects.specs.Subjects.{subject_asked, suits}
 
 -- What the source told, where the command reads it: one whose matrix is generated doesn't.
-abbrev pub TellsText : Option Generated → Option (List ℕ) → List ℕ → Type 0
-TellsText None left text = left ≡ Some text
-TellsText (Some g) left text = Unit {0}
+abbrev pub HasText : Option Generated → Option (List ℕ) → List ℕ → Type 0
+HasText None left text = left ≡ Some text
+HasText (Some g) left text = Unit {0}
 
-abbrev pub Told : Option Command → Option (List ℕ) → List ℕ → Type 0
-Told None left text = Unit {0}
-Told (Some c) left text = TellsText c.travel.generated left text
+abbrev pub SourceHad : Option Command → Option (List ℕ) → List ℕ → Type 0
+SourceHad None left text = Unit {0}
+SourceHad (Some c) left text = HasText c.travel.generated left text
 
 -- Whether a command reads the source.
 abbrev pub reads : Option Command → Bool
@@ -27,7 +27,7 @@ reads (Some c) = not (is_some c.travel.generated)
 -- is the matrix of two rows, two columns and no entry.
 pub record IsSubjectOf (c : Command) (left : Option (List ℕ)) (s : Subject) : Type 0 where
   pub suits : suits c.task s ≡ true
-  pub of_text : (text : List ℕ) → TellsText c.travel.generated left text → subject_asked c text ≡ Ok s
+  pub of_text : (text : List ℕ) → HasText c.travel.generated left text → subject_asked c text ≡ Ok s
 
 -- A refusal that reading gives.
 abbrev pub IsOfReading : Refusal → Type 0

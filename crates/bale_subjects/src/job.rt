@@ -7,7 +7,7 @@ ghost use Rattle.app_tally.specs.Texts.{lines_of_text};
 ghost use Rattle.bale_words.specs.Ranges.{InRanges, MayGenerate};
 ghost use Rattle.bale_words.specs.Words.{command_of};
 ghost use Rattle.bale_subjects.specs.Refusals.{IsOfText};
-ghost use Rattle.bale_subjects.specs.Reading.{TellsText, Told, reads};
+ghost use Rattle.bale_subjects.specs.Reading.{HasText, SourceHad, reads};
 ghost use Rattle.bale_subjects.specs.Fitness.{unfitness};
 ghost use Rattle.bale_subjects.specs.Reading.{IsOfReading, IsRead, IsSubjectOf, OnText};
 ghost use Rattle.bale_subjects.specs.Subjects.{is_tally, matrix_asked, of_lines, of_matrix, subject_asked, suits};
@@ -58,7 +58,7 @@ pub fn subject_for<X: Execution, S: Source>(
     ensures subject { IfOk result (λ s. IsSubjectOf command.now (S.left source.old) s) }
     ensures fits { IfOk result (λ s. unfitness command.now s serial ≡ None) }
     ensures faults { Blames (result ≡ Err Refusal.ReadFault) (S.faults source.old) (S.faults source.new) }
-    ensures bad { (text : List ℕ) (b : _) → Told (Some command.now) (S.left source.old) text
+    ensures bad { (text : List ℕ) (b : _) → SourceHad (Some command.now) (S.left source.old) text
         → result ≡ Err (Refusal.BadText b) → subject_asked command.now text ≡ Err (Refusal.BadText b) }
     ensures bad_read { (b : _) → result ≡ Err (Refusal.BadText b) → reads (Some command.now) ≡ true }
     ensures unfit { (u : Unfit) → result ≡ Err (Refusal.Unfit u)
@@ -86,7 +86,7 @@ fn read_subject<X: Execution, S: Source>(
 ) -> Result<Subject, Refusal>
     requires ready { X.ready }
     requires ranges { InRanges command.now }
-    ensures asked { (text : List ℕ) → Told (Some command.now) (S.left source.old) text
+    ensures asked { (text : List ℕ) → SourceHad (Some command.now) (S.left source.old) text
         → IsRead (subject_asked command.now text) result }
     ensures suits { IfOk result (λ s. suits command.now.task s ≡ true) }
     ensures faults { Blames (result ≡ Err Refusal.ReadFault) (S.faults source.old) (S.faults source.new) }
@@ -131,7 +131,7 @@ fn read_matrix_of<X: Execution, S: Source>(
 ) -> Result<Subject, Refusal>
     requires ready { X.ready }
     requires band { MayGenerate band }
-    ensures asked { (text : List ℕ) → TellsText band (S.left source.old) text
+    ensures asked { (text : List ℕ) → HasText band (S.left source.old) text
         → IsRead (of_matrix (matrix_asked band text)) result }
     ensures matrix { (t : _) → is_tally t ≡ false → IfOk result (λ s. suits t s ≡ true) }
     ensures faults { Blames (result ≡ Err Refusal.ReadFault) (S.faults source.old) (S.faults source.new) }

@@ -12,7 +12,7 @@
 //! Read `specs/Subjects` first: what a command is asked of, about the text alone. Then
 //! `specs/Fitness` and `specs/Numberings`: for which matrices an application has an answer.
 //! `specs/Refusals` has the texts and the statuses, and `specs/Reading` begins with what a source
-//! told and whether a command reads it (`Told`, `reads`), which the contracts of the top calls
+//! told and whether a command reads it (`SourceHad`, `reads`), which the contracts of the top calls
 //! cite; the rest of it is the code's own.
 #![tactic(auto)]
 

@@ -1,4 +1,4 @@
-//! Ranks on threads turn side by side, and the gate is told of them.
+//! Ranks on threads turn side by side, and the gate is notified of them.
 use crate::rig::{ONE, Watch, ample, make};
 use std::sync::atomic::Ordering;
 use std::test::Fail;
@@ -8,7 +8,7 @@ use std::test::Fail;
 /// `ig` by biconvey is two runs: the columns are summed, and then asked for.
 #[test]
 fn gate_holds_rank_0(rt: HostRuntime) -> Result<(), Fail> {
-    // The words, whose turn 0 is held, and how many runs the gate is told of.
+    // The words, whose turn 0 is held, and how many runs the gate is notified of.
     let rows = [
         ("histo --grid 2", Some(0), 1),
         ("histo --grid 2", Some(1), 1),

@@ -37,8 +37,8 @@ use Rattle.rank_group.proofs.Pushed.{flow_pushed}
 use Rattle.round_program.specs.Replies.{carrying, asks_of}
 use Rattle.query_node.specs.States.{BiState, Sides}
 use Rattle.query_node.specs.Ranks.{AllBiRanks}
-use Rattle.biconvey.specs.Ways.{bi_parcel_entries, bi_move_of, bi_moves, AreConveyorsOver}
-use Rattle.biconvey.specs.RanksOverBanks.{BiWorld, all_moves, queries_in}
+use Rattle.biconvey.specs.ConveyorsOverBank.{bi_parcel_entries, bi_move_of, bi_moves, AreConveyorsOver}
+use Rattle.biconvey.specs.RanksOverBanks.{BiRanksOnBanks, all_moves, queries_in}
 use Rattle.port_bank.proofs.Marks.{at_most}
 use Rattle.query_node.proofs.Taken.{items_begin}
 use Rattle.query_node.proofs.Offering.{asked_below}
@@ -136,7 +136,7 @@ module _ (dims : List ℕ) (cap slots : ℕ) (steady : Bool) (cs : List State) (
             omega (arith, g, e, s, f, c.1)
 
 -- all ranks as a function of their number
-module _ {S : Type 0} (T : Talk S) (laws : TalkLaws T) (law : ClosesLaw) (dims : List ℕ) (cap slots : ℕ) (steady : Bool) (starts : ℕ → S) (ns : List (BiState S)) (s : Sides) (w : BiWorld T dims cap slots steady starts ns s) where
+module _ {S : Type 0} (T : Talk S) (laws : TalkLaws T) (law : ClosesLaw) (dims : List ℕ) (cap slots : ℕ) (steady : Bool) (starts : ℕ → S) (ns : List (BiState S)) (s : Sides) (w : BiRanksOnBanks T dims cap slots steady starts ns s) where
   pub size : length ns ≡ ranks dims
   size = sym (length-map ns (λ (n : BiState S). n.queries)) ∙ w.queries.all
 

@@ -15,7 +15,7 @@ use Rattle.round_program.specs.Talks.{Talk, TalkLaws}
 use Rattle.rank_group.specs.Ranks.{IsOrder}
 use Rattle.query_node.specs.States.{BiState, Sides}
 use Rattle.query_node.specs.Ranks.{AllComplete}
-use Rattle.biconvey.specs.RanksOverBanks.{AreBanks, is_over, BiRests, BiWorld, all_moves, BiSweptTo, queries_in, bi_turns_of, sides_of}
+use Rattle.biconvey.specs.RanksOverBanks.{AreBanks, is_over, IsBlockedBiRank, BiRanksOnBanks, all_moves, AfterSomeBiTurns, queries_in, bi_turns_of, sides_of}
 use Rattle.biconvey.proofs.Counting.{size, nth, at, counted, all_few, turns_low}
 use Rattle.biconvey.proofs.Ending.{all_complete}
 use Rattle.query_node.proofs.Turned.{is_complete_from}
@@ -49,7 +49,7 @@ abbrev pub sweeps_of : List ℕ → ℕ → ℕ
 sweeps_of dims queries = 6 * (length dims * queries) + links dims * 4 + 1
 
 module _ {S : Type 0} (T : Talk S) (laws : TalkLaws T) (law : ClosesLaw) (dims : List ℕ) (cap slots : ℕ) (steady : Bool) (starts : ℕ → S) where
-  pub low : (ns0 ns : List (BiState S)) (s0 s : Sides) → BiWorld T dims cap slots steady starts ns0 s0 → BiWorld T dims cap slots steady starts ns s → progress dims ns s ≤ sweeps_of dims (queries_in T ns0)
+  pub low : (ns0 ns : List (BiState S)) (s0 s : Sides) → BiRanksOnBanks T dims cap slots steady starts ns0 s0 → BiRanksOnBanks T dims cap slots steady starts ns s → progress dims ns s ≤ sweeps_of dims (queries_in T ns0)
   low ns0 ns s0 s w0 w =
       let a = all_few T laws law dims cap slots steady starts ns s w in
       let b = counted T laws law dims cap slots steady starts ns0 s0 w0 in
@@ -57,7 +57,7 @@ module _ {S : Type 0} (T : Talk S) (laws : TalkLaws T) (law : ClosesLaw) (dims :
       let d = one_or (list_all is_over ns) in
       omega (arith, a, c, d)
 
-  module _ (rest : RestLaw) (order : List ℕ) (is : IsOrder (ranks dims) order) (ns ns' : List (BiState S)) (s s' : Sides) (on : list_all is_over ns ≡ false) (v : BiSweptTo T dims cap slots steady starts order (length order) ns s ns' s') where
+  module _ (rest : RestLaw) (order : List ℕ) (is : IsOrder (ranks dims) order) (ns ns' : List (BiState S)) (s s' : Sides) (on : list_all is_over ns ≡ false) (v : AfterSomeBiTurns T dims cap slots steady starts order (length order) ns s ns' s') where
     -- a sweep moves something, or ends both ways
     pub more : progress dims ns s + 1 ≤ progress dims ns' s'
     more =
@@ -70,7 +70,7 @@ module _ {S : Type 0} (T : Talk S) (laws : TalkLaws T) (law : ClosesLaw) (dims :
               let one : one_if (list_all is_over ns') ≡ 1 = ap one_if (all_from ns' (ended light)) in
               omega (arith, none, one, g)
         ] where
-          rested : all_moves dims ns' s' ≤ all_moves dims ns s → (r : ℕ) → r < ranks dims → BiRests T dims slots r (nth T laws law dims cap slots steady starts ns' s' v.world r) s'
+          rested : all_moves dims ns' s' ≤ all_moves dims ns s → (r : ℕ) → r < ranks dims → IsBlockedBiRank T dims slots r (nth T laws law dims cap slots steady starts ns' s' v.world r) s'
           rested light r b =
               let place = is.each r b in
               v.rests light place.0 r (within order place.0 r place.1) place.1 (nth T laws law dims cap slots steady starts ns' s' v.world r) (at T laws law dims cap slots steady starts ns' s' v.world r b)
@@ -90,12 +90,12 @@ module _ {S : Type 0} (T : Talk S) (laws : TalkLaws T) (law : ClosesLaw) (dims :
 
 -- the loop over all sweeps
 pub record Reached {S : Type 0} (T : Talk S) (dims : List ℕ) (cap slots : ℕ) (steady : Bool) (starts : ℕ → S) (steps0 : ℕ) (ns : List (BiState S)) (s : Sides) (steps : ℕ) : Type 0 where
-  pub world : BiWorld T dims cap slots steady starts ns s
+  pub world : BiRanksOnBanks T dims cap slots steady starts ns s
   pub count : steps ≤ steps0 + ranks dims * progress dims ns s
 
 pub record Driving {S : Type 0} (T : Talk S) (cap : ℕ) (dims : List ℕ) (slots : ℕ) (ns0 : List (BiState S)) (s0 : Sides) (steps0 : ℕ) (ns : List (BiState S)) (q r : Bank) (steps : ℕ) : Type 0 where
   pub banks : AreBanks cap dims slots q r
-  pub reached : (steady : Bool) (starts : ℕ → S) → BiWorld T dims cap slots steady starts ns0 s0 → Reached T dims cap slots steady starts steps0 ns (sides_of q r) steps
+  pub reached : (steady : Bool) (starts : ℕ → S) → BiRanksOnBanks T dims cap slots steady starts ns0 s0 → Reached T dims cap slots steady starts steps0 ns (sides_of q r) steps
 
 -- how many sweeps are left
 abbrev pub left : {S : Type 0} → Talk S → List ℕ → List (BiState S) → List (BiState S) → Bank → Bank → ℕ
@@ -104,7 +104,7 @@ left T dims ns0 ns q r = sweeps_of dims (queries_in T ns0) - progress dims ns (s
 module _ {S : Type 0} (T : Talk S) (laws : TalkLaws T) (law : ClosesLaw) (rest : RestLaw) (cap : ℕ) (dims : List ℕ) (slots : ℕ) (ns0 : List (BiState S)) (s0 : Sides) (steps0 : ℕ) (ns : List (BiState S)) (q r : Bank) (steps : ℕ)
     (v : Driving T cap dims slots ns0 s0 steps0 ns q r steps) where
   -- so the turns are bounded
-  pub steps_low : (steady : Bool) (starts : ℕ → S) → BiWorld T dims cap slots steady starts ns0 s0 → steps ≤ steps0 + bi_turns_of dims (queries_in T ns0)
+  pub steps_low : (steady : Bool) (starts : ℕ → S) → BiRanksOnBanks T dims cap slots steady starts ns0 s0 → steps ≤ steps0 + bi_turns_of dims (queries_in T ns0)
   steps_low steady starts w0 =
       let x = v.reached steady starts w0 in
       let a = mul-le-mul_left (ranks dims) (low T laws law dims cap slots steady starts ns0 ns s0 (sides_of q r) w0 x.world) in
@@ -113,7 +113,7 @@ module _ {S : Type 0} (T : Talk S) (laws : TalkLaws T) (law : ClosesLaw) (rest :
 
   module _ (order : List ℕ) (is : IsOrder (ranks dims) order) (on : list_all is_over ns ≡ false) (steps' : ℕ) (turned : steps' ≤ steps + length order) where
     -- also where a sweep is broken off
-    pub steps_lower : (steady : Bool) (starts : ℕ → S) → BiWorld T dims cap slots steady starts ns0 s0 → steps' ≤ steps0 + bi_turns_of dims (queries_in T ns0)
+    pub steps_lower : (steady : Bool) (starts : ℕ → S) → BiRanksOnBanks T dims cap slots steady starts ns0 s0 → steps' ≤ steps0 + bi_turns_of dims (queries_in T ns0)
     steps_lower steady starts w0 =
         let x = v.reached steady starts w0 in
         let few = all_few T laws law dims cap slots steady starts ns (sides_of q r) x.world in
@@ -127,7 +127,7 @@ module _ {S : Type 0} (T : Talk S) (laws : TalkLaws T) (law : ClosesLaw) (rest :
         omega (arith, x.count, turned, a, d, e)
 
     module _ (ns' : List (BiState S)) (q' r' : Bank) (banks : AreBanks cap dims slots q' r')
-        (swept : (steady : Bool) (starts : ℕ → S) → BiWorld T dims cap slots steady starts ns (sides_of q r) → BiSweptTo T dims cap slots steady starts order (length order) ns (sides_of q r) ns' (sides_of q' r')) where
+        (swept : (steady : Bool) (starts : ℕ → S) → BiRanksOnBanks T dims cap slots steady starts ns (sides_of q r) → AfterSomeBiTurns T dims cap slots steady starts order (length order) ns (sides_of q r) ns' (sides_of q' r')) where
       pub driving_more : Driving T cap dims slots ns0 s0 steps0 ns' q' r' steps'
       driving_more = record {
         banks = banks;
@@ -139,7 +139,7 @@ module _ {S : Type 0} (T : Talk S) (laws : TalkLaws T) (law : ClosesLaw) (rest :
             record { world = y.world; count = omega (arith, x.count, turned, m, e) };
       }
 
-      pub fewer_left : (steady : Bool) (starts : ℕ → S) → BiWorld T dims cap slots steady starts ns0 s0 → left T dims ns0 ns' q' r' < left T dims ns0 ns q r
+      pub fewer_left : (steady : Bool) (starts : ℕ → S) → BiRanksOnBanks T dims cap slots steady starts ns0 s0 → left T dims ns0 ns' q' r' < left T dims ns0 ns q r
       fewer_left steady starts w0 =
           let x = v.reached steady starts w0 in
           let y = swept steady starts x.world in

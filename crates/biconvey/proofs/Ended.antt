@@ -20,14 +20,14 @@ use Rattle.hop_core.specs.State.{State}
 use Rattle.hop_core.specs.declared.phase.Phase.TheVariants.{Working}
 use Rattle.convey.specs.Buffers.{in_of, is_complete}
 use Rattle.convey.specs.Law.{ClosesLaw}
-use Rattle.rank_group.specs.Transcript.{Made}
+use Rattle.rank_group.specs.Transcript.{BankShape}
 use Rattle.round_program.specs.Talks.{Talk, TalkLaws}
 use Rattle.round_program.specs.Replies.{HaveHeard}
 use Rattle.query_node.specs.States.{BiState, IsBiNode}
 use Rattle.query_node.specs.Ranks.{AllBiRanks}
-use Rattle.biconvey.specs.Ways.{conveyor_in, bi_inbox, AreConveyorsOver}
-use Rattle.biconvey.specs.RanksOverBanks.{AreBanks, BiWorld, is_over, queries_in, sides_of, bi_turns_of}
-use Rattle.biconvey.specs.Drives.{AreAskers, TellsExchange, AreFreshBiRanks, askers_of}
+use Rattle.biconvey.specs.ConveyorsOverBank.{conveyor_in, bi_inbox, AreConveyorsOver}
+use Rattle.biconvey.specs.RanksOverBanks.{AreBanks, BiRanksOnBanks, is_over, queries_in, sides_of, bi_turns_of}
+use Rattle.biconvey.specs.Drives.{AreAskers, RecordsExchange, AreFreshBiRanks, askers_of}
 use Rattle.biconvey.proofs.Swept.{queries_lawful}
 use Rattle.biconvey.proofs.Counting.{size, nth, at, all_ranks}
 use Rattle.biconvey.proofs.Finished.{starts_of, IsClosed, heard_all, told_both}
@@ -48,7 +48,7 @@ none_at dims slots l = ap (λ c. c.sent) (channel-empty _ l)
 
 -- all ranks as an exchange begins, over its banks
 pub begun : {S : Type 0} (T : Talk S) (cap : ℕ) (dims : List ℕ) (slots : ℕ) (steady : Bool) (askers : List S) (s : S) (ns : List (BiState S)) → AreFreshBiRanks T dims steady askers ns → AreAskers T (ranks dims) askers → 0 < cap → IsBank cap (empty_bank dims slots)
-    → BiWorld T dims cap slots steady (starts_of askers s) ns (sides_of (empty_bank dims slots) (empty_bank dims slots))
+    → BiRanksOnBanks T dims cap slots steady (starts_of askers s) ns (sides_of (empty_bank dims slots) (empty_bank dims slots))
 begun {S} T cap dims slots steady askers s ns fresh all some is =
     let b : Bank = empty_bank dims slots in
     let two : AreBanks cap dims slots b b = record { queries = is; replies = is; queries_dims = refl; replies_dims = refl; queries_slots = refl; replies_slots = refl } in
@@ -100,7 +100,7 @@ logs_map f (c ∷ channels) e zero = refl
 logs_map f (c ∷ channels) e (suc l) = logs_map f channels e l
 
 module _ {S : Type 0} (T : Talk S) (laws : TalkLaws T) (law : ClosesLaw) (cap : ℕ) (dims : List ℕ) (slots : ℕ) (steady : Bool) (askers : List S) (s : S) (ns : List (BiState S)) (q r : Bank)
-    (all : AreAskers T (ranks dims) askers) (banks : AreBanks cap dims slots q r) (w : BiWorld T dims cap slots steady (starts_of askers s) ns (sides_of q r)) (over : (k : ℕ) (n : BiState S) → slice_get ns k ≡ Some n → is_over n ≡ true) where
+    (all : AreAskers T (ranks dims) askers) (banks : AreBanks cap dims slots q r) (w : BiRanksOnBanks T dims cap slots steady (starts_of askers s) ns (sides_of q r)) (over : (k : ℕ) (n : BiState S) → slice_get ns k ≡ Some n → is_over n ≡ true) where
   abbrev starts : ℕ → S
   starts = starts_of askers s
 
@@ -120,7 +120,7 @@ module _ {S : Type 0} (T : Talk S) (laws : TalkLaws T) (law : ClosesLaw) (cap : 
   pub have_heard : (ends : List S) → ends ≡ askers_of ns → HaveHeard T askers ends
   have_heard ends is = heard_all T laws law cap dims slots steady askers s ns node (sides_of q r) all all_of node_at every over ends is
 
-  made_of : (b : Bank) → b.dims ≡ dims → b.slots ≡ slots → ◌≡◌ {A = Made} (record { dims = b.dims; cap = cap; slots = b.slots; by_slots = false }) (record { dims = dims; cap = cap; slots = slots; by_slots = false })
+  made_of : (b : Bank) → b.dims ≡ dims → b.slots ≡ slots → ◌≡◌ {A = BankShape} (record { dims = b.dims; cap = cap; slots = b.slots; by_slots = false }) (record { dims = dims; cap = cap; slots = slots; by_slots = false })
   made_of b ed es = ap (λ ds. record { dims = ds; cap = cap; slots = b.slots; by_slots = false }) ed ∙ ap (λ k. record { dims = dims; cap = cap; slots = k; by_slots = false }) es
 
   plain_closed : (b : Bank) (c : Round) → b.dims ≡ dims → b.slots ≡ slots → c ≡ round_of_bank cap b → IsRound c → IsClosed (record { dims = dims; cap = cap; slots = slots; by_slots = false }) (sent_of b) (got_of b) c
@@ -132,8 +132,8 @@ module _ {S : Type 0} (T : Talk S) (laws : TalkLaws T) (law : ClosesLaw) (cap : 
   })
 
   -- both closed banks tell the exchange
-  pub told : (cq cr : Round) → cq ≡ round_of_bank cap q → IsRound cq → cr ≡ round_of_bank cap r → IsRound cr → TellsExchange T askers (record { dims = dims; cap = cap; slots = slots; by_slots = false }) steady cq cr
-  told cq cr is_q order_q is_r order_r =
+  pub notified : (cq cr : Round) → cq ≡ round_of_bank cap q → IsRound cq → cr ≡ round_of_bank cap r → IsRound cr → RecordsExchange T askers (record { dims = dims; cap = cap; slots = slots; by_slots = false }) steady cq cr
+  notified cq cr is_q order_q is_r order_r =
       told_both T laws law cap dims slots steady askers s ns node (sides_of q r) all all_of node_at every over false cq cr
       (plain_closed q cq banks.queries_dims banks.queries_slots is_q order_q) (plain_closed r cr banks.replies_dims banks.replies_slots is_r order_r)
       (λ l below. w.queries.shape l) (λ l below. w.replies.shape l)
@@ -152,15 +152,15 @@ module _ {S : Type 0} (T : Talk S) (cap : ℕ) (dims : List ℕ) (slots : ℕ) (
       subst (λ (x : Bank). AreBanks cap x.dims x.slots x r) (sym eq) (subst (λ (y : Bank). AreBanks cap dims slots (empty_bank dims slots) y) (sym er)
       (record { queries = is; replies = is; queries_dims = refl; replies_dims = refl; queries_slots = refl; replies_slots = refl }))
 
-  pub world_first : BiWorld T q.dims cap q.slots steady begins ns (sides_of q r)
+  pub world_first : BiRanksOnBanks T q.dims cap q.slots steady begins ns (sides_of q r)
   world_first =
-      subst (λ (x : Bank). BiWorld T x.dims cap x.slots steady begins ns (sides_of x r)) (sym eq)
-      (subst (λ (y : Bank). BiWorld T dims cap slots steady begins ns (sides_of (empty_bank dims slots) y)) (sym er) (begun T cap dims slots steady askers first.0 ns fresh all some is))
+      subst (λ (x : Bank). BiRanksOnBanks T x.dims cap x.slots steady begins ns (sides_of x r)) (sym eq)
+      (subst (λ (y : Bank). BiRanksOnBanks T dims cap slots steady begins ns (sides_of (empty_bank dims slots) y)) (sym er) (begun T cap dims slots steady askers first.0 ns fresh all some is))
 
-  pub steps_at : (steps steps' : ℕ) → ((steady : Bool) (starts : ℕ → S) → BiWorld T q.dims cap q.slots steady starts ns (sides_of q r) → steps' ≤ steps + bi_turns_of q.dims (queries_in T ns)) → steps' ≤ steps + bi_turns_of dims (sum_by (λ s. length (T.queries s)) askers)
-  steps_at steps steps' told =
+  pub steps_at : (steps steps' : ℕ) → ((steady : Bool) (starts : ℕ → S) → BiRanksOnBanks T q.dims cap q.slots steady starts ns (sides_of q r) → steps' ≤ steps + bi_turns_of q.dims (queries_in T ns)) → steps' ≤ steps + bi_turns_of dims (sum_by (λ s. length (T.queries s)) askers)
+  steps_at steps steps' notified =
       subst (λ ds. steps' ≤ steps + bi_turns_of ds (sum_by (λ s. length (T.queries s)) askers)) (ap (λ (x : Bank). x.dims) eq)
-      (subst (λ k. steps' ≤ steps + bi_turns_of q.dims k) (same_count T dims steady askers ns fresh) (told steady begins world_first))
+      (subst (λ k. steps' ≤ steps + bi_turns_of q.dims k) (same_count T dims steady askers ns fresh) (notified steady begins world_first))
 
   -- no rank is over as an exchange begins, so each is turned
   none_over : list_all is_over ns ≡ false
@@ -170,10 +170,10 @@ module _ {S : Type 0} (T : Talk S) (cap : ℕ) (dims : List ℕ) (slots : ℕ) (
     by (x ∷ xs) working some = ap (λ p. (is_complete p && is_complete x.replies.phase) && list_all is_over xs) (working x refl)
 
   pub fewest_at : (steps steps' : ℕ) → (list_all is_over ns ≡ false → steps + ranks q.dims ≤ steps') → steps + ranks dims ≤ steps'
-  fewest_at steps steps' told = subst (λ ds. steps + ranks ds ≤ steps') (ap (λ (x : Bank). x.dims) eq) (told none_over)
+  fewest_at steps steps' notified = subst (λ ds. steps + ranks ds ≤ steps') (ap (λ (x : Bank). x.dims) eq) (notified none_over)
 
-  pub world_last : (ns' : List (BiState S)) (q' r' : Bank) → ((steady : Bool) (starts : ℕ → S) → BiWorld T q.dims cap q.slots steady starts ns (sides_of q r) → BiWorld T q.dims cap q.slots steady starts ns' (sides_of q' r')) → BiWorld T dims cap slots steady begins ns' (sides_of q' r')
-  world_last ns' q' r' told = subst (λ (x : Bank). BiWorld T x.dims cap x.slots steady begins ns' (sides_of q' r')) eq (told steady begins world_first)
+  pub world_last : (ns' : List (BiState S)) (q' r' : Bank) → ((steady : Bool) (starts : ℕ → S) → BiRanksOnBanks T q.dims cap q.slots steady starts ns (sides_of q r) → BiRanksOnBanks T q.dims cap q.slots steady starts ns' (sides_of q' r')) → BiRanksOnBanks T dims cap slots steady begins ns' (sides_of q' r')
+  world_last ns' q' r' notified = subst (λ (x : Bank). BiRanksOnBanks T x.dims cap x.slots steady begins ns' (sides_of q' r')) eq (notified steady begins world_first)
 
   pub banks_last : (q' r' : Bank) → AreBanks cap q.dims q.slots q' r' → AreBanks cap dims slots q' r'
   banks_last q' r' b = subst (λ (x : Bank). AreBanks cap x.dims x.slots q' r') eq b

@@ -19,8 +19,8 @@ use Rattle.rank_node.specs.Stuck.{IsStill}
 use Rattle.rank_group.specs.Ranks.{crowded_in, idle_in}
 use Rattle.rank_group.proofs.Still.{below, reader, kept_all, all_got, next_busy, busy_of, at_rest}
 use Rattle.query_node.specs.States.{BiState, Sides}
-use Rattle.biconvey.specs.Ways.{conveyor_in}
-use Rattle.biconvey.specs.RanksOverBanks.{BiRests}
+use Rattle.biconvey.specs.ConveyorsOverBank.{conveyor_in}
+use Rattle.biconvey.specs.RanksOverBanks.{IsBlockedBiRank}
 use Rattle.query_node.specs.Ranks.{AllComplete}
 use Rattle.biconvey.proofs.Halting.{IsHalted, never_busy}
 
@@ -88,7 +88,7 @@ module _ (law : RestLaw) (dims : List ℕ) (cap slots : ℕ) (sent got : Logs) (
 module _ {S : Type 0} (T : Talk S) (law : RestLaw) (dims : List ℕ) (cap slots : ℕ) (some : 0 < slots) (ns : ℕ → BiState S) (s : Sides) (grid : IsGrid dims)
     (queries_keep : (l : ℕ) → l < links dims → LinkLaw cap slots (s.asking l) (s.asked l)) (replies_keep : (l : ℕ) → l < links dims → LinkLaw cap slots (s.replying l) (s.replied l))
     (same_dims : (r : ℕ) → r < ranks dims → (ns r).queries.dims ≡ dims) (same_rank : (r : ℕ) → r < ranks dims → (ns r).queries.rank ≡ r)
-    (each : (r : ℕ) → r < ranks dims → BiRests T dims slots r (ns r) s) where
+    (each : (r : ℕ) → r < ranks dims → IsBlockedBiRank T dims slots r (ns r) s) where
   dims_r : (r : ℕ) → (b : r < ranks dims) → (each r b).before.replies.dims ≡ dims
   dims_r r b = (each r b).has.node.same_dims ∙ (each r b).has.same_dims
 

@@ -15,13 +15,13 @@ use Rattle.hop_core.specs.State.{State}
 use Rattle.convey.specs.Buffers.{buffers_of, is_complete}
 use Rattle.convey.specs.Law.{ClosesLaw}
 use Rattle.convey.specs.Parts.{part_of}
-use Rattle.rank_group.specs.Transcript.{Made}
+use Rattle.rank_group.specs.Transcript.{BankShape}
 use Rattle.round_program.specs.Talks.{Talk, TalkLaws}
 use Rattle.round_program.specs.Replies.{answers, answered_from, HaveHeard}
 use Rattle.query_node.specs.States.{BiState, Sides}
 use Rattle.query_node.specs.Ranks.{AllBiRanks, AllComplete}
 use Rattle.biconvey.specs.RanksOverBanks.{is_over}
-use Rattle.biconvey.specs.Drives.{AreAskers, queries_of, answers_of, queries_by, replies_by, TellsWay, TellsExchange, askers_of}
+use Rattle.biconvey.specs.Drives.{AreAskers, queries_of, answers_of, queries_by, replies_by, RecordsOneWay, RecordsExchange, askers_of}
 use Rattle.query_node.proofs.Closing.{all_asked, replied_of, queries_close, all_answered, ask_over}
 use Rattle.biconvey.proofs.Driven.{over_phases}
 use Rattle.query_node.proofs.Offering.{queries_below}
@@ -47,7 +47,7 @@ record Facts (cap slots : ℕ) (steady : Bool) (cs : ℕ → State) (items : ℕ
   pushes : (k d : ℕ) → k < ranks ds → d < ranks ds → (part_of (buffers_of (cs k)) (starting_at ds k a) (ending_at ds k g)).pushed 0 d ≡ items k d
 
 -- a closed bank, which was made so, with these lists
-pub record IsClosed (made : Made) (a g : Logs) (c : Round) : Type 0 where
+pub record IsClosed (made : BankShape) (a g : Logs) (c : Round) : Type 0 where
   pub bank : record { dims = c.dims; cap = c.cap; slots = c.slots; by_slots = c.by_slots } ≡ made
   pub sent : ◌≡◌ {A = Logs} a (logs_of c.sent)
   pub got : ◌≡◌ {A = Logs} g (logs_of c.got)
@@ -104,17 +104,17 @@ module _ {S : Type 0} (T : Talk S) (laws : TalkLaws T) (law : ClosesLaw) (cap : 
       (keep : (l : ℕ) → l < links dims → LinkLaw cap slots (a l) (g l)) (shape : (l : ℕ) → l < links dims → IsConveyorShape steady cap (a l)) (each : (k : ℕ) → k < ranks dims → IsDone dims k (cs k) a g)
       (pushes : (k d : ℕ) → k < ranks dims → d < ranks dims → (part_of (buffers_of (cs k)) (starting_at dims k a) (ending_at dims k g)).pushed 0 d ≡ items k d) where
     facts : Facts cap slots steady cs items c.dims (logs_of c.sent) (logs_of c.got)
-    facts = subst (λ ds. Facts cap slots steady cs items ds (logs_of c.sent) (logs_of c.got)) (sym (ap (λ (m : Made). m.dims) closed.bank))
+    facts = subst (λ ds. Facts cap slots steady cs items ds (logs_of c.sent) (logs_of c.got)) (sym (ap (λ (m : BankShape). m.dims) closed.bank))
         (subst (λ (b : Logs). Facts cap slots steady cs items dims b (logs_of c.got)) closed.sent
         (subst (λ (b : Logs). Facts cap slots steady cs items dims a b) closed.got (record { grid = every.grid; links_keep = keep; shape = shape; each = each; pushes = pushes })))
 
-    way_told : TellsWay (record { dims = dims; cap = cap; slots = slots; by_slots = by_slots }) steady items c
-    way_told = tells_way c cap slots steady cs facts.grid facts.links_keep closed.in_order.in_order facts.shape facts.each (record { dims = dims; cap = cap; slots = slots; by_slots = by_slots }) items closed.bank (ap (λ (m : Made). m.cap) closed.bank) facts.pushes
+    way_told : RecordsOneWay (record { dims = dims; cap = cap; slots = slots; by_slots = by_slots }) steady items c
+    way_told = tells_way c cap slots steady cs facts.grid facts.links_keep closed.in_order.in_order facts.shape facts.each (record { dims = dims; cap = cap; slots = slots; by_slots = by_slots }) items closed.bank (ap (λ (m : BankShape). m.cap) closed.bank) facts.pushes
 
   -- both closed banks tell the exchange
   pub told_both : (by_slots : Bool) (q r : Round) → IsClosed (record { dims = dims; cap = cap; slots = slots; by_slots = by_slots }) sides.asking sides.asked q → IsClosed (record { dims = dims; cap = cap; slots = slots; by_slots = by_slots }) sides.replying sides.replied r
       → ((l : ℕ) → l < links dims → IsConveyorShape steady cap (sides.asking l)) → ((l : ℕ) → l < links dims → IsConveyorShape steady cap (sides.replying l))
-      → TellsExchange T askers (record { dims = dims; cap = cap; slots = slots; by_slots = by_slots }) steady q r
+      → RecordsExchange T askers (record { dims = dims; cap = cap; slots = slots; by_slots = by_slots }) steady q r
   told_both by_slots q r is_q is_r shape_q shape_r = record {
     asking = way_told by_slots sides.asking sides.asked (λ k. (node k).queries) (queries_by T askers) q is_q every.queries_keep shape_q done_queries asked_all;
     replying = way_told by_slots sides.replying sides.replied (λ k. (node k).replies) (replies_by T askers) r is_r every.replies_keep shape_r done_replies replied_all;

@@ -10,7 +10,7 @@ use Rattle.hop_core.specs.State.{State}
 use Rattle.convey.specs.Buffers.{in_of}
 use Rattle.convey.proofs.OneRank.{starting-own}
 use Rattle.rank_group.proofs.Growing.{Grows, inbox_same, inboxes_on}
-use Rattle.biconvey.specs.Ways.{conveyor_in, bi_inbox, bi_moves, BiBankLawful, AreConveyorsOver, AfterBiAdvance}
+use Rattle.biconvey.specs.ConveyorsOverBank.{conveyor_in, bi_inbox, bi_moves, BiBankLawful, AreConveyorsOver, AfterBiAdvance}
 
 module _ (dims : List ℕ) (cap slots : ℕ) (steady : Bool) (r : ℕ) (c c' : State) (cs cs' : List State) (sent got sent' got' : Logs)
     (w : AreConveyorsOver dims cap slots steady cs sent got) (at : slice_get cs r ≡ Some c) (at' : slice_get cs' r ≡ Some c') (others : (k : ℕ) → k ≢ r → slice_get cs' k ≡ slice_get cs k) (size : length cs' ≡ length cs)

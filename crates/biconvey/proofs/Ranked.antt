@@ -57,7 +57,7 @@ pub after_turn : {S : Type 0} (T : Talk S) (dims : List ℕ) (cap slots number :
     → q.dims ≡ dims → q.slots ≡ slots → r.dims ≡ dims → r.slots ≡ slots → q'.dims ≡ q.dims → q'.slots ≡ q.slots → r'.dims ≡ r.dims → r'.slots ≡ r.slots → a ≡ number → a' ≡ a → b ≡ number → b' ≡ b
     → n.queries.dims ≡ dims → n.queries.rank ≡ number → n.replies.dims ≡ dims → n.replies.rank ≡ number → PortTurns T cap n n' q a q' a' r b r' b'
     → AfterBiRank T dims cap slots number n n' (sides_of q r) (sides_of q' r')
-after_turn T dims cap slots number n n' q a q' a' r b r' b' qd qs rd rs qd' qs' rd' rs' ea ea' eb eb' nd nr md mr told =
+after_turn T dims cap slots number n n' q a q' a' r b r' b' qd qs rd rs qd' qs' rd' rs' ea ea' eb eb' nd nr md mr notified =
     let t : PortTurns T cap n n' (at dims slots q) number (at dims slots q') number (at dims slots r) number (at dims slots r') number =
     subst (λ (x : Bank). PortTurns T cap n n' (at dims slots q) number (at dims slots q') number (at dims slots r) number x number) (is_at dims slots r' (rd' ∙ rd) (rs' ∙ rs))
     (subst (λ (x : Bank). PortTurns T cap n n' (at dims slots q) number (at dims slots q') number x number r' number) (is_at dims slots r rd rs)
@@ -65,7 +65,7 @@ after_turn T dims cap slots number n n' q a q' a' r b r' b' qd qs rd rs qd' qs' 
     (subst (λ (x : Bank). PortTurns T cap n n' x number q' number r number r' number) (is_at dims slots q qd qs)
     (subst (λ k. PortTurns T cap n n' q number q' number r number r' k) (eb' ∙ eb)
     (subst (λ k. PortTurns T cap n n' q number q' number r k r' b') eb
-    (subst (λ k. PortTurns T cap n n' q number q' k r b r' b') (ea' ∙ ea) (subst (λ k. PortTurns T cap n n' q k q' a' r b r' b') ea told))))))) in
+    (subst (λ k. PortTurns T cap n n' q number q' k r b r' b') (ea' ∙ ea) (subst (λ k. PortTurns T cap n n' q k q' a' r b r' b') ea notified))))))) in
     record {
       queries = record {
         sent_elsewhere = ap (λ (x : Others). x.sent) t.queries_rest;

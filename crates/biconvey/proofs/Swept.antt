@@ -17,8 +17,8 @@ use Rattle.round_program.specs.Talks.{Talk}
 use Rattle.query_node.specs.States.{BiState, Sides, IsBiNode}
 use Rattle.query_node.specs.Still.{IsStuckBoth}
 use Rattle.query_node.specs.Ranks.{HasBiRank, sides_at}
-use Rattle.biconvey.specs.Ways.{bi_inbox, bi_moves, BiBankLawful, AfterBiAdvance}
-use Rattle.biconvey.specs.RanksOverBanks.{AreBanks, AfterBiRank, PostedWithin, BiRests, BiWorld, all_moves, BiSweptTo, sides_of, known_at}
+use Rattle.biconvey.specs.ConveyorsOverBank.{bi_inbox, bi_moves, BiBankLawful, AfterBiAdvance}
+use Rattle.biconvey.specs.RanksOverBanks.{AreBanks, AfterBiRank, PostedWithin, IsBlockedBiRank, BiRanksOnBanks, all_moves, AfterSomeBiTurns, sides_of, known_at}
 use Rattle.rank_group.proofs.Growing.{Grows, moves_on, sent_same, got_same}
 use Rattle.biconvey.proofs.Moving.{grows, inbox_kept, way_on}
 
@@ -53,7 +53,7 @@ other_rank T dims r start n s s' a b c d h = record {
 }
 
 module _ {S : Type 0} (T : Talk S) (dims : List ℕ) (cap slots : ℕ) (steady : Bool) (starts : ℕ → S) (r : ℕ) (n n' : BiState S) (ns ns' : List (BiState S)) (s s' : Sides)
-    (w : BiWorld T dims cap slots steady starts ns s) (at : slice_get ns r ≡ Some n) (at' : slice_get ns' r ≡ Some n') (others : (k : ℕ) → k ≢ r → slice_get ns' k ≡ slice_get ns k) (long : length ns' ≡ length ns)
+    (w : BiRanksOnBanks T dims cap slots steady starts ns s) (at : slice_get ns r ≡ Some n) (at' : slice_get ns' r ≡ Some n') (others : (k : ℕ) → k ≢ r → slice_get ns' k ≡ slice_get ns k) (long : length ns' ≡ length ns)
     (t : AfterBiRank T dims cap slots r n n' s s') (lq : BiBankLawful dims cap slots s'.asking s'.asked) (lr : BiBankLawful dims cap slots s'.replying s'.replied) where
   others_in : (f : BiState S → State) (k : ℕ) → k ≢ r → slice_get (map f ns') k ≡ slice_get (map f ns) k
   others_in f k apart = slice_get-map f ns' k ∙ (ap (option_map f) (others k apart) ∙ sym (slice_get-map f ns k))
@@ -98,7 +98,7 @@ module _ {S : Type 0} (T : Talk S) (dims : List ℕ) (cap slots : ℕ) (steady :
       λ i. record { asking = a i; asked = b i; replying = c i; replied = d i }
 
   -- all ranks after the turn
-  pub world_on : BiWorld T dims cap slots steady starts ns' s'
+  pub world_on : BiRanksOnBanks T dims cap slots steady starts ns' s'
   world_on = record {
     queries = way_on dims cap slots steady r n.queries n'.queries (map asks ns) (map asks ns') s.asking s.asked s'.asking s'.asked w.queries (get_map asks ns r n at) (get_map asks ns' r n' at') (others_in asks) (long_in asks) t.queries lq;
     replies = way_on dims cap slots steady r n.replies n'.replies (map answers ns) (map answers ns') s.replying s.replied s'.replying s'.replied w.replies (get_map answers ns r n at) (get_map answers ns' r n' at') (others_in answers) (long_in answers) t.replies lr;
@@ -115,7 +115,7 @@ module _ {S : Type 0} (T : Talk S) (dims : List ℕ) (cap slots : ℕ) (steady :
   }
 
   -- the rank that was turned, where nothing moved
-  pub rests_here : all_moves dims ns' s' ≤ all_moves dims ns s → BiRests T dims slots r n' s'
+  pub rests_here : all_moves dims ns' s' ≤ all_moves dims ns s → IsBlockedBiRank T dims slots r n' s'
   rests_here light =
       let same = same_sides light in
       let h = w.each r n at in record {
@@ -128,16 +128,16 @@ module _ {S : Type 0} (T : Talk S) (dims : List ℕ) (cap slots : ℕ) (steady :
       }
 
   -- the ranks that rested go on resting
-  pub rests_on : all_moves dims ns' s' ≤ all_moves dims ns s → (k : ℕ) (x : BiState S) → BiRests T dims slots k x s → BiRests T dims slots k x s'
-  rests_on light k x rest = subst (BiRests T dims slots k x) (sym (same_sides light)) rest
+  pub rests_on : all_moves dims ns' s' ≤ all_moves dims ns s → (k : ℕ) (x : BiState S) → IsBlockedBiRank T dims slots k x s → IsBlockedBiRank T dims slots k x s'
+  rests_on light k x rest = subst (IsBlockedBiRank T dims slots k x) (sym (same_sides light)) rest
 
-pub swept_none : {S : Type 0} (T : Talk S) (dims : List ℕ) (cap slots : ℕ) (steady : Bool) (starts : ℕ → S) (order : List ℕ) (ns : List (BiState S)) (s : Sides) → BiWorld T dims cap slots steady starts ns s → BiSweptTo T dims cap slots steady starts order 0 ns s ns s
+pub swept_none : {S : Type 0} (T : Talk S) (dims : List ℕ) (cap slots : ℕ) (steady : Bool) (starts : ℕ → S) (order : List ℕ) (ns : List (BiState S)) (s : Sides) → BiRanksOnBanks T dims cap slots steady starts ns s → AfterSomeBiTurns T dims cap slots steady starts order 0 ns s ns s
 swept_none T dims cap slots steady starts order ns s w = record { world = w; grown = omega arith; rests = λ light j r low at. absurd (omega (arith, low)) }
 
 pub swept_more : {S : Type 0} (T : Talk S) (dims : List ℕ) (cap slots : ℕ) (steady : Bool) (starts : ℕ → S) (order : List ℕ) (i r : ℕ) (ns0 ns ns' : List (BiState S)) (s0 s s' : Sides)
     → slice_get order i ≡ Some r → r < ranks dims → length ns' ≡ length ns → ((k : ℕ) → k ≢ r → slice_get ns' k ≡ slice_get ns k) → BiBankLawful dims cap slots s'.asking s'.asked → BiBankLawful dims cap slots s'.replying s'.replied
     → ((n n' : BiState S) → slice_get ns r ≡ Some n → slice_get ns' r ≡ Some n' → AfterBiRank T dims cap slots r n n' s s')
-    → BiSweptTo T dims cap slots steady starts order i ns0 s0 ns s → BiSweptTo T dims cap slots steady starts order (i + 1) ns0 s0 ns' s'
+    → AfterSomeBiTurns T dims cap slots steady starts order i ns0 s0 ns s → AfterSomeBiTurns T dims cap slots steady starts order (i + 1) ns0 s0 ns' s'
 swept_more {S} T dims cap slots steady starts order i r ns0 ns ns' s0 s s' here low long others lq lr turned v =
     let w = v.world in
     let all : length ns ≡ ranks dims = sym (length-map ns (λ (n : BiState S). n.queries)) ∙ w.queries.all in
@@ -154,7 +154,7 @@ swept_more {S} T dims cap slots steady starts order i r ns0 ns ns' s0 s s' here 
           elim (cases_eq k r) [
             | inl same ↦
                 let e : n'.0 ≡ x = get_once ns' r n'.0 x n'.1 (subst (λ q. slice_get ns' q ≡ Some x) same now) in
-                subst (λ q. BiRests T dims slots q x s') (sym same) (subst (λ y. BiRests T dims slots r y s') e (rests_here T dims cap slots steady starts r n.0 n'.0 ns ns' s s' w n.1 n'.1 others long t lq lr level))
+                subst (λ q. IsBlockedBiRank T dims slots q x s') (sym same) (subst (λ y. IsBlockedBiRank T dims slots r y s') e (rests_here T dims cap slots steady starts r n.0 n'.0 ns ns' s s' w n.1 n'.1 others long t lq lr level))
             | inr apart ↦
                 let before : j < i = omega (arith, below, not_last j apart at) in
                 rests_on T dims cap slots steady starts r n.0 n'.0 ns ns' s s' w n.1 n'.1 others long t lq lr level k x (v.rests level0 j k before at x (sym (others k apart) ∙ now))
@@ -178,7 +178,7 @@ pub record Sweeping {S : Type 0} (T : Talk S) (cap : ℕ) (dims : List ℕ) (slo
   pub most_steps : steps ≤ steps0 + i
   pub fewest_steps : steps0 + i ≤ steps
   pub posted : PostedWithin dims s0 steps0 (sides_of q r) steps
-  pub swept : (steady : Bool) (starts : ℕ → S) → BiWorld T dims cap slots steady starts ns0 s0 → BiSweptTo T dims cap slots steady starts order i ns0 s0 ns (sides_of q r)
+  pub swept : (steady : Bool) (starts : ℕ → S) → BiRanksOnBanks T dims cap slots steady starts ns0 s0 → AfterSomeBiTurns T dims cap slots steady starts order i ns0 s0 ns (sides_of q r)
 
 pub sweeping_more : {S : Type 0} (T : Talk S) (cap : ℕ) (dims : List ℕ) (slots : ℕ) (order : List ℕ) (ns0 : List (BiState S)) (s0 : Sides) (steps0 i k : ℕ) (ns ns' : List (BiState S)) (q r q' r' : Bank) (steps steps' : ℕ)
     → Sweeping T cap dims slots order ns0 s0 steps0 i ns q r steps → length ns ≡ ranks dims → slice_get order i ≡ Some k → k < ranks dims → AreBanks cap dims slots q' r' → steps' ≡ steps + 1 → length ns' ≡ length ns → ((j : ℕ) → j ≢ k → slice_get ns' j ≡ slice_get ns j)
@@ -209,8 +209,8 @@ same_turn T cap dims dims' slots slots' k n n' s s' ed es t = subst (λ d. After
 pub same_banks : (cap : ℕ) (dims dims' : List ℕ) (slots slots' : ℕ) (q r : Bank) → dims' ≡ dims → slots' ≡ slots → AreBanks cap dims' slots' q r → AreBanks cap dims slots q r
 same_banks cap dims dims' slots slots' q r ed es b = subst (λ d. AreBanks cap d slots q r) ed (subst (λ m. AreBanks cap dims' m q r) es b)
 
-pub same_world : {S : Type 0} (T : Talk S) (cap : ℕ) (dims dims' : List ℕ) (slots slots' : ℕ) (steady : Bool) (starts : ℕ → S) (ns : List (BiState S)) (s : Sides) → dims' ≡ dims → slots' ≡ slots → BiWorld T dims' cap slots' steady starts ns s → BiWorld T dims cap slots steady starts ns s
-same_world T cap dims dims' slots slots' steady starts ns s ed es w = subst (λ d. BiWorld T d cap slots steady starts ns s) ed (subst (λ m. BiWorld T dims' cap m steady starts ns s) es w)
+pub same_world : {S : Type 0} (T : Talk S) (cap : ℕ) (dims dims' : List ℕ) (slots slots' : ℕ) (steady : Bool) (starts : ℕ → S) (ns : List (BiState S)) (s : Sides) → dims' ≡ dims → slots' ≡ slots → BiRanksOnBanks T dims' cap slots' steady starts ns s → BiRanksOnBanks T dims cap slots steady starts ns s
+same_world T cap dims dims' slots slots' steady starts ns s ed es w = subst (λ d. BiRanksOnBanks T d cap slots steady starts ns s) ed (subst (λ m. BiRanksOnBanks T dims' cap m steady starts ns s) es w)
 
 pub order_at : (order : List ℕ) (i : ℕ) → i < length order → slice_get order i ≡ Some (get_or order i 0)
 order_at order i low = let f : (x : ℕ) × (slice_get order i ≡ Some x) = find order i low in f.1 ∙ ap Some (sym (get_or_from_slice_get order i f.0 0 f.1))

@@ -18,8 +18,8 @@ use Rattle.convey.specs.Conveyors.{AgreesWith}
 use Rattle.convey.specs.Law.{IsSound}
 use Rattle.convey.specs.Parts.{part_of, pushed_to}
 use Rattle.convey.proofs.OneRank.{OneRank, one_rank_of, first_link, last_link, starting-own, ending-own}
-use Rattle.rank_group.specs.Transcript.{Made}
-use Rattle.biconvey.specs.Drives.{TellsWay}
+use Rattle.rank_group.specs.Transcript.{BankShape}
+use Rattle.biconvey.specs.Drives.{RecordsOneWay}
 use Rattle.port_bank.proofs.Marks.{none_after, all_got}
 
 -- a conveyor that is complete in its first epoch
@@ -108,8 +108,8 @@ module _ (round : Round) (cap slots : ℕ) (steady : Bool) (cs : ℕ → State) 
             ap (passing_items (belongs dims s d (length dims))) got_none ∙ sym (ap (passing_items (belongs dims s d 1)) sent_none)
       ]
 
-  pub tells_way : (made : Made) (items : ℕ → ℕ → List Item) → record { dims = round.dims; cap = round.cap; slots = round.slots; by_slots = round.by_slots } ≡ made → round.cap ≡ cap
-      → ((s d : ℕ) → s < ranks round.dims → d < ranks round.dims → (part_of (buffers_of (cs s)) (starting_at round.dims s (logs_of round.sent)) (ending_at round.dims s (logs_of round.got))).pushed 0 d ≡ items s d) → TellsWay made steady items round
+  pub tells_way : (made : BankShape) (items : ℕ → ℕ → List Item) → record { dims = round.dims; cap = round.cap; slots = round.slots; by_slots = round.by_slots } ≡ made → round.cap ≡ cap
+      → ((s d : ℕ) → s < ranks round.dims → d < ranks round.dims → (part_of (buffers_of (cs s)) (starting_at round.dims s (logs_of round.sent)) (ending_at round.dims s (logs_of round.got))).pushed 0 d ≡ items s d) → RecordsOneWay made steady items round
   tells_way made items is same pushes =
       record {
         bank = is;

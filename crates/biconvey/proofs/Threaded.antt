@@ -19,28 +19,28 @@ use Rattle.link_slots.specs.Shape.{Shape}
 use Rattle.convey.specs.Law.{ClosesLaw}
 use Rattle.convey.proofs.OneRank.{starting-own}
 use Rattle.rank_crews.specs.Runs.{AllRan}
-use Rattle.rank_group.specs.Transcript.{Made}
+use Rattle.rank_group.specs.Transcript.{BankShape}
 use Rattle.round_program.specs.Talks.{Talk, TalkLaws}
 use Rattle.round_program.specs.Replies.{HaveHeard}
 use Rattle.query_node.specs.States.{BiState, Sides, IsBiNode}
 use Rattle.query_node.specs.Ranks.{HasBiRank, AllBiRanks}
 use Rattle.biconvey.specs.RanksOverBanks.{is_over}
-use Rattle.biconvey.specs.Drives.{AreAskers, TellsExchange, AreFreshBiRanks, askers_of}
-use Rattle.biconvey.specs.Seats.{BiSeatedState, bank_at, IsOnBiWay, BiRan, IsSeatedBiRank, AreSeatedBiRanks}
+use Rattle.biconvey.specs.Drives.{AreAskers, RecordsExchange, AreFreshBiRanks, askers_of}
+use Rattle.biconvey.specs.Seats.{BiSeatedState, bank_at, IsBiRankAtSeats, TookBiTurns, IsSeatedBiRank, AreSeatedBiRanks}
 use Rattle.biconvey.proofs.Finished.{starts_of, IsClosed, heard_all, told_both}
 
 some_is : {X : Type 0} {o : Option X} {x : X} → o ≡ Some x → IsSome o
 some_is e = subst IsSome (sym e) refl
 
 -- what a bank leaves that is closed with these lists of its ranks
-pub record IsLeft (cap : ℕ) (shape : Shape) (lists : _) (c : Round) : Type 0 where
+pub record IsGatheredRound (cap : ℕ) (shape : Shape) (lists : _) (c : Round) : Type 0 where
   pub round : c ≡ slot_round shape cap lists
   pub in_order : IsRound c
   pub sent : (s : Manning) → get_or lists s.rank None ≡ Some s.lists → starting_at shape.dims s.rank (logs_of c.sent) ≡ posted_on s
   pub got : (s : Manning) → get_or lists s.rank None ≡ Some s.lists → ending_at shape.dims s.rank (logs_of c.got) ≡ collected_from s
 
 module _ {S : Type 0} (T : Talk S) (cap : ℕ) (b p : Identity) (same : p.shape ≡ b.shape) (steady : Bool) (askers : List S) (all : AreAskers T (ranks b.shape.dims) askers)
-    (ns : List (BiState S)) (fresh : AreFreshBiRanks T b.shape.dims steady askers ns) (xs ys : List (BiSeatedState S)) (firsts : map (λ x. x.node) xs ≡ ns) (seated : AreSeatedBiRanks T cap steady b p xs) (heard : ℕ → ℕ → Bool) (ran : AllRan (λ x y. BiRan T cap heard x y) xs ys) where
+    (ns : List (BiState S)) (fresh : AreFreshBiRanks T b.shape.dims steady askers ns) (xs ys : List (BiSeatedState S)) (firsts : map (λ x. x.node) xs ≡ ns) (seated : AreSeatedBiRanks T cap steady b p xs) (heard : ℕ → ℕ → Bool) (ran : AllRan (λ x y. TookBiTurns T cap heard x y) xs ys) where
   abbrev dims : List ℕ
   dims = b.shape.dims
 
@@ -51,7 +51,7 @@ module _ {S : Type 0} (T : Talk S) (cap : ℕ) (b p : Identity) (same : p.shape 
   record Came (r : ℕ) (y : BiSeatedState S) : Type 0 where
     start : S
     began : slice_get askers r ≡ Some start
-    way : IsOnBiWay T cap steady start y
+    way : IsBiRankAtSeats T cap steady start y
     queries_bank : bank_at y.queries ≡ b
     replies_bank : bank_at y.replies ≡ p
     numbers : (y.queries.rank ≡ r) × (y.replies.rank ≡ r)
@@ -61,7 +61,7 @@ module _ {S : Type 0} (T : Talk S) (cap : ℕ) (b p : Identity) (same : p.shape 
   came r y at =
       let x : (x : BiSeatedState S) × (slice_get xs r ≡ Some x) = find xs r (let a = ran.all in omega (arith, within ys r y at, a)) in
       let s : IsSeatedBiRank T cap steady b p r x.0 = seated r x.0 x.1 in
-      let t : BiRan T cap heard x.0 y = ran.each r x.0 y x.1 at in
+      let t : TookBiTurns T cap heard x.0 y = ran.each r x.0 y x.1 at in
       record {
         start = x.0.node.asker;
         began = ap (λ ss. slice_get ss r) (sym fresh.same) ∙ (ap (λ ms. slice_get (askers_of ms) r) (sym firsts) ∙ get_map (λ (n : BiState S). n.asker) (map (λ x. x.node) xs) r x.0.node (get_map (λ (x : BiSeatedState S). x.node) xs r x.0 x.1));
@@ -72,7 +72,7 @@ module _ {S : Type 0} (T : Talk S) (cap : ℕ) (b p : Identity) (same : p.shape 
         turns = λ m low. subst (λ k. heard k m ≡ true) s.numbers.0 (t.heard m (let z = s.none in omega (arith, z)) low);
       }
 
-  -- the gate was told of the first turn of each
+  -- the gate was notified of the first turn of each
   pub all_told : All (λ y. is_over y.node ≡ true) ys → (r : ℕ) → r < ranks dims → heard r 0 ≡ true
   all_told over r low =
       let y : (y : BiSeatedState S) × (slice_get ys r ≡ Some y) = find ys r (omega (arith, low, as_many)) in
@@ -94,14 +94,14 @@ module _ {S : Type 0} (T : Talk S) (cap : ℕ) (b p : Identity) (same : p.shape 
 
   module _ (laws : TalkLaws T) (law : ClosesLaw) (over : All (λ y. is_over y.node ≡ true) ys) (lists_q lists_p : _)
       (there_q : EachAt (λ r y. get_or lists_q r None ≡ Some y.queries.lists) ys) (there_p : EachAt (λ r y. get_or lists_p r None ≡ Some y.replies.lists) ys)
-      (q r : Round) (left_q : IsLeft cap b.shape lists_q q) (left_p : IsLeft cap p.shape lists_p r) where
-    left_r : IsLeft cap b.shape lists_p r
-    left_r = subst (λ h. IsLeft cap h lists_p r) same left_p
+      (q r : Round) (left_q : IsGatheredRound cap b.shape lists_q q) (left_p : IsGatheredRound cap p.shape lists_p r) where
+    left_r : IsGatheredRound cap b.shape lists_p r
+    left_r = subst (λ h. IsGatheredRound cap h lists_p r) same left_p
 
-    abbrev made : Made
+    abbrev made : BankShape
     made = record { dims = dims; cap = cap; slots = b.shape.slots; by_slots = true }
 
-    closed_by : (lists : _) (c : Round) → IsLeft cap b.shape lists c → IsClosed made (logs_of c.sent) (logs_of c.got) c
+    closed_by : (lists : _) (c : Round) → IsGatheredRound cap b.shape lists c → IsClosed made (logs_of c.sent) (logs_of c.got) c
     closed_by lists c left = record { bank = ap (λ (x : Round). record { dims = x.dims; cap = x.cap; slots = x.slots; by_slots = x.by_slots }) left.round; sent = refl; got = refl; in_order = left.in_order }
 
     in_order_q : IsRound (slot_round b.shape cap lists_q)
@@ -158,7 +158,7 @@ module _ {S : Type 0} (T : Talk S) (cap : ℕ) (b p : Identity) (same : p.shape 
     has_rank k low =
         let y : BiSeatedState S = nth k in
         let c = came k y (nth_at k low) in
-        let w : IsOnBiWay T cap steady c.start y = c.way in
+        let w : IsBiRankAtSeats T cap steady c.start y = c.way in
         let mine : starts_of askers first k ≡ c.start = get_or_from_slice_get askers k c.start first c.began in
         record {
           same_dims = w.queries.same_dims ∙ ap (λ (a : Identity). a.shape.dims) c.queries_bank;
@@ -203,8 +203,8 @@ module _ {S : Type 0} (T : Talk S) (cap : ℕ) (b p : Identity) (same : p.shape 
         subst (IsConveyorShape steady cap) (sym (ap (λ (x : Logs). x l) (sent k low)) ∙ starting-own dims k a l refl) (shape k low l)
 
     -- both closed banks tell the exchange
-    pub told : TellsExchange T askers made steady q r
-    told =
+    pub notified : RecordsExchange T askers made steady q r
+    notified =
         told_both T laws law cap dims b.shape.slots steady askers first nodes (λ k. (nth k).node) sides all count node_at every over_at true q r
         (closed_by lists_q q left_q) (closed_by lists_p r left_r)
         (shape_of (λ y. y.queries) (logs_of q.sent) sent_q (λ k low. (came k (nth k) (nth_at k low)).way.queries_shape))

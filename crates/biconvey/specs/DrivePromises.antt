@@ -6,23 +6,23 @@ use Rattle.port_bank.specs.Round.{logs_of}
 use Rattle.rank_group.specs.declared.closed_round.ClosedRound.{ClosedRound}
 use Rattle.rank_group.specs.declared.drive.Finished.{Finished}
 use Rattle.rank_group.specs.Rounds.{round_inside}
-use Rattle.rank_group.specs.Transcript.{Made}
+use Rattle.rank_group.specs.Transcript.{BankShape}
 use Rattle.round_program.specs.Talks.{Talk}
 use Rattle.round_program.specs.Replies.{HaveHeard}
-use Rattle.biconvey.specs.Drives.{TellsExchange}
+use Rattle.biconvey.specs.Drives.{RecordsExchange}
 use Rattle.biconvey.specs.Turns.{AskedInSweeps}
 
 -- What it leaves of the askers `starts`, over two banks that were made as said.
-pub record HasExchanged {S : Type 0} (T : Talk S) (starts : List S) (made : Made) (steady : Bool)
+pub record HasExchanged {S : Type 0} (T : Talk S) (starts : List S) (made : BankShape) (steady : Bool)
     (run : Finished S) : Type 0 where
   -- Each query has its one reply.
   pub heard : HaveHeard T starts run.progs
   -- Two closed rounds tell what was exchanged.
   pub rounds : (q : ClosedRound) × (r : ClosedRound) × (run.rounds ≡ q ∷ r ∷ [])
-      × TellsExchange T starts made steady (round_inside q) (round_inside r)
+      × RecordsExchange T starts made steady (round_inside q) (round_inside r)
 
 -- What it further leaves on one thread, which counts its turns from `before` to `after`.
-pub record HasSweptBoth {S : Type 0} (T : Talk S) (starts : List S) (made : Made) (steady : Bool) (turned : List ℕ)
+pub record HasSweptBoth {S : Type 0} (T : Talk S) (starts : List S) (made : BankShape) (steady : Bool) (turned : List ℕ)
     (before after : ℕ) (run : Finished S) : Type 0 where
   -- It made sweeps in the order given, and no other turn.
   pub order : AskedInSweeps T made.dims made.cap made.slots steady starts turned before after run.progs

@@ -8,7 +8,7 @@ use Rattle.port_bank.specs.Round.{Round, logs_of, pushed_items, pulled_items}
 use Rattle.port_bank.specs.Shapes.{IsConveyorShape}
 use Rattle.hop_core.specs.declared.phase.Phase.TheVariants.{Working}
 use Rattle.convey.specs.Buffers.{in_of}
-use Rattle.rank_group.specs.Transcript.{Made}
+use Rattle.rank_group.specs.Transcript.{BankShape}
 use Rattle.round_program.specs.Talks.{Talk}
 use Rattle.round_program.specs.Replies.{queries_to, answers}
 use Rattle.query_node.specs.States.{BiState, IsBiNode}
@@ -43,7 +43,7 @@ replies_by T askers d s = answers_of T (slice_get askers d) s (queries_by T aske
 -- pushed: each rank pushed toward each what it had for it. all_came: each pulled what was pushed
 -- toward it.
 -- shape: each parcel is filled as conveyors fill it, steady or not.
-pub record TellsWay (made : Made) (steady : Bool) (items : ℕ → ℕ → List Item) (round : Round) : Type 0 where
+pub record RecordsOneWay (made : BankShape) (steady : Bool) (items : ℕ → ℕ → List Item) (round : Round) : Type 0 where
   pub bank : record { dims = round.dims; cap = round.cap; slots = round.slots; by_slots = round.by_slots } ≡ made
   pub ended : (l : ℕ) → l < links round.dims → lasts (logs_of round.sent l) ≡ 1
   pub by_last : (l : ℕ) → l < links round.dims → EndsLast (logs_of round.sent l)
@@ -53,10 +53,10 @@ pub record TellsWay (made : Made) (steady : Bool) (items : ℕ → ℕ → List 
   pub shape : (l : ℕ) → l < links round.dims → IsConveyorShape steady round.cap (logs_of round.sent l)
 
 -- Two closed rounds tell both ways.
-pub record TellsExchange {S : Type 0} (T : Talk S) (askers : List S) (made : Made) (steady : Bool)
+pub record RecordsExchange {S : Type 0} (T : Talk S) (askers : List S) (made : BankShape) (steady : Bool)
     (queries replies : Round) : Type 0 where
-  pub asking : TellsWay made steady (queries_by T askers) queries
-  pub replying : TellsWay made steady (replies_by T askers) replies
+  pub asking : RecordsOneWay made steady (queries_by T askers) queries
+  pub replying : RecordsOneWay made steady (replies_by T askers) replies
 
 -- A rank that hasn't turned, and may push: on its ports nothing was sent or got, and nothing is
 -- unread.

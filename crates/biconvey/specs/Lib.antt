@@ -1,4 +1,4 @@
-pub mod Ways
+pub mod ConveyorsOverBank
 pub mod RanksOverBanks
 pub mod Drives
 pub mod Turns

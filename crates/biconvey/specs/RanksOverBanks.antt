@@ -11,7 +11,7 @@ use Rattle.rank_group.specs.Ranks.{crowded_in, idle_in}
 use Rattle.query_node.specs.States.{BiState, Sides}
 use Rattle.query_node.specs.Still.{Known, IsStuckBoth}
 use Rattle.query_node.specs.Ranks.{sides_at, HasBiRank}
-use Rattle.biconvey.specs.Ways.{bi_moves, AreConveyorsOver, AfterBiAdvance}
+use Rattle.biconvey.specs.ConveyorsOverBank.{bi_moves, AreConveyorsOver, AfterBiAdvance}
 
 -- The lists of a plain bank of queries and one of replies.
 abbrev pub sides_of : Bank → Bank → Sides
@@ -49,7 +49,7 @@ pub record AfterBiRank {S : Type 0} (T : Talk S) (dims : List ℕ) (cap slots r 
       → IsStuckBoth n n' (sides_at dims r s) (sides_at dims r s') (known_at dims slots r s')
 
 -- A rank at rest: its turn moved no parcel, and no entry out of an inbox.
-pub record BiRests {S : Type 0} (T : Talk S) (dims : List ℕ) (slots r : ℕ) (n : BiState S) (s : Sides) : Type 0 where
+pub record IsBlockedBiRank {S : Type 0} (T : Talk S) (dims : List ℕ) (slots r : ℕ) (n : BiState S) (s : Sides) : Type 0 where
   pub before : BiState S
   pub start : S
   pub has : HasBiRank T dims r start before s
@@ -60,7 +60,7 @@ pub record BiRests {S : Type 0} (T : Talk S) (dims : List ℕ) (slots r : ℕ) (
   pub stuck : IsStuckBoth before n (sides_at dims r s) (sides_at dims r s) (known_at dims slots r s)
 
 -- All ranks over two banks; rank r began in the state `starts r`.
-pub record BiWorld {S : Type 0} (T : Talk S) (dims : List ℕ) (cap slots : ℕ) (steady : Bool) (starts : ℕ → S)
+pub record BiRanksOnBanks {S : Type 0} (T : Talk S) (dims : List ℕ) (cap slots : ℕ) (steady : Bool) (starts : ℕ → S)
     (ns : List (BiState S)) (s : Sides) : Type 0 where
   pub queries : AreConveyorsOver dims cap slots steady (map (λ n. n.queries) ns) s.asking s.asked
   pub replies : AreConveyorsOver dims cap slots steady (map (λ n. n.replies) ns) s.replying s.replied
@@ -81,12 +81,12 @@ all_moves dims ns s =
 
 -- What the turns of the first i ranks of an order leave of all ranks.
 -- rests: where nothing moved, each rank that was turned is at rest.
-pub record BiSweptTo {S : Type 0} (T : Talk S) (dims : List ℕ) (cap slots : ℕ) (steady : Bool) (starts : ℕ → S)
+pub record AfterSomeBiTurns {S : Type 0} (T : Talk S) (dims : List ℕ) (cap slots : ℕ) (steady : Bool) (starts : ℕ → S)
     (order : List ℕ) (i : ℕ) (ns0 : List (BiState S)) (s0 : Sides) (ns : List (BiState S)) (s : Sides) : Type 0 where
-  pub world : BiWorld T dims cap slots steady starts ns s
+  pub world : BiRanksOnBanks T dims cap slots steady starts ns s
   pub grown : all_moves dims ns0 s0 ≤ all_moves dims ns s
   pub rests : all_moves dims ns s ≤ all_moves dims ns0 s0 → (j r : ℕ) → j < i → slice_get order j ≡ Some r
-      → (n : BiState S) → slice_get ns r ≡ Some n → BiRests T dims slots r n s
+      → (n : BiState S) → slice_get ns r ≡ Some n → IsBlockedBiRank T dims slots r n s
 
 -- How many queries the ranks have.
 abbrev pub queries_in : {S : Type 0} → Talk S → List (BiState S) → ℕ

@@ -27,7 +27,7 @@ pub record IsSeatOf (rank : ℕ) (dims : List ℕ) (seat : Manning) : Type 0 whe
 -- By its seats' lists it is a rank of an exchange, which began in the state `start`; its parcels
 -- are filled as conveyors fill them.
 -- some: where both its ways are complete it was turned.
-pub record IsOnBiWay {S : Type 0} (T : Talk S) (cap : ℕ) (steady : Bool) (start : S) (x : BiSeatedState S) : Type 0 where
+pub record IsBiRankAtSeats {S : Type 0} (T : Talk S) (cap : ℕ) (steady : Bool) (start : S) (x : BiSeatedState S) : Type 0 where
   pub queries : IsSeatOf x.node.queries.rank x.node.queries.dims x.queries
   pub replies : IsSeatOf x.node.replies.rank x.node.replies.dims x.replies
   pub same_steady : (x.node.queries.steady ≡ steady) × (x.node.replies.steady ≡ steady)
@@ -38,10 +38,10 @@ pub record IsOnBiWay {S : Type 0} (T : Talk S) (cap : ℕ) (steady : Bool) (star
   pub some : is_over x.node ≡ true → 0 < x.turns
 
 -- The same, of some exchange.
-pub record HasBiWay {S : Type 0} (T : Talk S) (cap : ℕ) (x : BiSeatedState S) : Type 0 where
+pub record HasSomeBiRun {S : Type 0} (T : Talk S) (cap : ℕ) (x : BiSeatedState S) : Type 0 where
   pub steady : Bool
   pub start : S
-  pub way : IsOnBiWay T cap steady start x
+  pub way : IsBiRankAtSeats T cap steady start x
 
 -- A seat of the same rank at the same bank.
 pub record SameSeat (old new : Manning) : Type 0 where
@@ -49,14 +49,14 @@ pub record SameSeat (old new : Manning) : Type 0 where
   pub number : new.rank ≡ old.rank
 
 -- Turns took a rank from x to y: it sits where it sat, and is still on the way of its exchange.
--- heard: `told` holds of each of them, by the rank's number and its own, counted from 0 over the
+-- heard: `notified` holds of each of them, by the rank's number and its own, counted from 0 over the
 -- whole exchange.
-pub record BiRan {S : Type 0} (T : Talk S) (cap : ℕ) (told : ℕ → ℕ → Bool) (x y : BiSeatedState S) : Type 0 where
+pub record TookBiTurns {S : Type 0} (T : Talk S) (cap : ℕ) (notified : ℕ → ℕ → Bool) (x y : BiSeatedState S) : Type 0 where
   pub queries : SameSeat x.queries y.queries
   pub replies : SameSeat x.replies y.replies
   pub more : x.turns ≤ y.turns
-  pub heard : (n : ℕ) → x.turns ≤ n → n < y.turns → told x.queries.rank n ≡ true
-  pub kept : (steady : Bool) (start : S) → IsOnBiWay T cap steady start x → IsOnBiWay T cap steady start y
+  pub heard : (n : ℕ) → x.turns ≤ n → n < y.turns → notified x.queries.rank n ≡ true
+  pub kept : (steady : Bool) (start : S) → IsBiRankAtSeats T cap steady start x → IsBiRankAtSeats T cap steady start y
 
 -- A rank that hasn't turned sits at the banks q and p with the number r.
 pub record IsSeatedBiRank {S : Type 0} (T : Talk S) (cap : ℕ) (steady : Bool) (q p : Identity) (r : ℕ)
@@ -65,7 +65,7 @@ pub record IsSeatedBiRank {S : Type 0} (T : Talk S) (cap : ℕ) (steady : Bool) 
   pub replies_bank : bank_at x.replies ≡ p
   pub numbers : (x.queries.rank ≡ r) × (x.replies.rank ≡ r)
   pub none : x.turns ≡ 0
-  pub way : IsOnBiWay T cap steady x.node.asker x
+  pub way : IsBiRankAtSeats T cap steady x.node.asker x
 
 -- Ranks that haven't turned sit at these banks in order.
 abbrev pub AreSeatedBiRanks : {S : Type 0} → Talk S → ℕ → Bool → Identity → Identity → List (BiSeatedState S) → Type 0
@@ -74,7 +74,7 @@ AreSeatedBiRanks {S} T cap steady q p xs = (r : ℕ) (x : BiSeatedState S) → s
 
 -- Turns from x to y made no progress: no parcel of queries or of replies was posted or collected,
 -- no query was pushed, and the ways were not completed.
-pub record AskerMadeNone {S : Type 0} (x y : BiSeatedState S) : Type 0 where
+pub record AskerMadeNoProgress {S : Type 0} (x y : BiSeatedState S) : Type 0 where
   pub queries : HasSame x.queries y.queries
   pub replies : HasSame x.replies y.replies
   pub asked : y.node.next ≡ x.node.next

@@ -24,7 +24,7 @@ pub struct AtPorts<'a, A: Asker, const CAP: usize, const HOPS: usize> {
 }
 
 impl<'a, A: Asker, const CAP: usize, const HOPS: usize> Model for AtPorts<'a, A, CAP, HOPS> {
-    ghost use Rattle.biconvey.specs.Seats.{BiSeatedState, HasBiWay};
+    ghost use Rattle.biconvey.specs.Seats.{BiSeatedState, HasSomeBiRun};
 
     ghost Value = { BiSeatedState A };
 
@@ -35,16 +35,16 @@ impl<'a, A: Asker, const CAP: usize, const HOPS: usize> Model for AtPorts<'a, A,
       turns = s.turns;
     } };
 
-    ghost invariant = { λ s. HasBiWay A.talk CAP
+    ghost invariant = { λ s. HasSomeBiRun A.talk CAP
         (record { node = s.node; queries = s.queries.port.seat; replies = s.replies.port.seat; turns = s.turns }) };
 }
 
 impl<'a, A: Asker, const CAP: usize, const HOPS: usize> Seated for AtPorts<'a, A, CAP, HOPS> {
-    ghost use Rattle.biconvey.specs.Seats.{BiRan, AskerMadeNone};
+    ghost use Rattle.biconvey.specs.Seats.{TookBiTurns, AskerMadeNoProgress};
     ghost use Rattle.biconvey.specs.laws.SeatLaws.{bi_ran_laws, asker_none_laws};
     ghost use Rattle.biconvey.specs.RanksOverBanks.{is_over};
 
-    ghost ran = { λ told x y. BiRan A.talk CAP told x y };
+    ghost ran = { λ notified x y. TookBiTurns A.talk CAP notified x y };
 
     ghost number = { λ x. x.queries.rank };
 
@@ -52,9 +52,9 @@ impl<'a, A: Asker, const CAP: usize, const HOPS: usize> Seated for AtPorts<'a, A
 
     ghost over = { λ x. is_over x.node };
 
-    ghost still = { λ x y. AskerMadeNone x y };
+    ghost still = { λ x y. AskerMadeNoProgress x y };
 
-    ghost laws = { λ told. bi_ran_laws A.talk CAP told };
+    ghost laws = { λ notified. bi_ran_laws A.talk CAP notified };
 
     ghost still_laws = { asker_none_laws };
 

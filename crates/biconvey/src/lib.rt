@@ -16,10 +16,10 @@ mod at_ports;
 mod drive;
 mod nodes;
 mod on_threads;
-mod running;
+mod sweeps;
 mod seating;
 mod serial;
-mod sweeping;
+mod sweep;
 mod threads;
 
 pub use bale_items::Steps;

@@ -52,7 +52,7 @@ pub fn thread_both<
         (record { dims = grid.now; cap = CAP; slots = slots; by_slots = true }) steady) }
 
     // This gate was notified of the turns of each rank, which made one at least.
-    ensures told { OnOk result ((r : ℕ) → r < ranks grid.now → G.told gate.now r 0 ≡ true) }
+    ensures notified { OnOk result ((r : ℕ) → r < ranks grid.now → G.notified gate.now r 0 ≡ true) }
 {
     let number = threads_for(rt, grid.ranks());
     thread_with::<CAP, HOPS, R, A, G>(
@@ -95,7 +95,7 @@ pub fn thread_with<
     requires askers { AreAskers A.talk (ranks grid.now) askers }
     ensures exchanged { IfOk result (HasExchanged A.talk askers
         (record { dims = grid.now; cap = CAP; slots = slots; by_slots = true }) steady) }
-    ensures told { OnOk result ((r : ℕ) → r < ranks grid.now → G.told gate.now r 0 ≡ true) }
+    ensures notified { OnOk result ((r : ℕ) → r < ranks grid.now → G.notified gate.now r 0 ≡ true) }
 {
     closes_law();
     grid.known();

@@ -39,8 +39,8 @@ pub fn bi_threads<R: Threads + Wait + Sync, A: Asker + Send, G: Gate + Sync>(
     ensures exchanged { IfOk result (HasExchanged A.talk askers
         (record { dims = grid.now; cap = cap; slots = slots; by_slots = true }) steady) }
 
-    // This gate was told of the turns of each rank, which made one at least.
-    ensures told { OnOk result ((r : ℕ) → r < ranks grid.now → G.told gate.now r 0 ≡ true) }
+    // This gate was notified of the turns of each rank, which made one at least.
+    ensures notified { OnOk result ((r : ℕ) → r < ranks grid.now → G.notified gate.now r 0 ≡ true) }
 {
     match grid.hops() {
         1 => over_hops::<1, R, A, G>(rt, alloc, grid, cap, slots, steady, askers, gate),
@@ -67,7 +67,7 @@ fn over_hops<const HOPS: usize, R: Threads + Wait + Sync, A: Asker + Send, G: Ga
     requires askers { AreAskers A.talk (ranks grid.now) askers }
     ensures exchanged { IfOk result (HasExchanged A.talk askers
         (record { dims = grid.now; cap = cap; slots = slots; by_slots = true }) steady) }
-    ensures told { OnOk result ((r : ℕ) → r < ranks grid.now → G.told gate.now r 0 ≡ true) }
+    ensures notified { OnOk result ((r : ℕ) → r < ranks grid.now → G.notified gate.now r 0 ≡ true) }
 {
     by_capacity!(
         cap,

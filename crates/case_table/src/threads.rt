@@ -2,7 +2,7 @@
 ghost use Rattle.std.specs.Prelude.{◌≡◌, true, length, IfOk, OnOk};
 ghost use Rattle.port_bank.specs.Port.{IsSlots};
 ghost use Rattle.rank_node.specs.Movers.{manner_of};
-ghost use Rattle.rank_group.specs.DrivePromises.{MayRun, HasFinished, ToldOfTurns};
+ghost use Rattle.rank_group.specs.DrivePromises.{MayRun, HasFinished, NotifiedOfTurns};
 ghost use Rattle.item_buffer.specs.Capacity.{IsCapacity};
 
 use bale_items::NoMemory;
@@ -36,8 +36,8 @@ pub fn case_threads<R: Threads + Wait + Sync, Q: Program + Send, G: Gate + Sync>
     ensures finished { IfOk result (HasFinished Q.rules progs
         (record { dims = grid.now; cap = cap; slots = slots; by_slots = true }) (manner_of via steady)) }
 
-    // This gate was told of the turns of each rank.
-    ensures told { OnOk result (ToldOfTurns Q.rules progs grid.now (G.told gate.now)) }
+    // This gate was notified of the turns of each rank.
+    ensures notified { OnOk result (NotifiedOfTurns Q.rules progs grid.now (G.notified gate.now)) }
 {
     match grid.hops() {
         1 => over_hops::<1, R, Q, G>(rt, alloc, grid, cap, via, slots, steady, progs, gate),
@@ -65,7 +65,7 @@ fn over_hops<const HOPS: usize, R: Threads + Wait + Sync, Q: Program + Send, G: 
     requires run { MayRun Q.rules grid.now via progs }
     ensures finished { IfOk result (HasFinished Q.rules progs
         (record { dims = grid.now; cap = cap; slots = slots; by_slots = true }) (manner_of via steady)) }
-    ensures told { OnOk result (ToldOfTurns Q.rules progs grid.now (G.told gate.now)) }
+    ensures notified { OnOk result (NotifiedOfTurns Q.rules progs grid.now (G.notified gate.now)) }
 {
     by_capacity!(
         cap,

@@ -13,7 +13,7 @@ use Rattle.reductions.proofs.Links.{Offers, HasLinks, Sends}
 use Rattle.reductions.proofs.Lists.{all_mapped, unfiltered}
 use Rattle.reductions.proofs.Rounds.{full, was, upto_keep}
 use Rattle.components.specs.declared.labels.Link.{Link}
-use Rattle.components.specs.Connected.{links_of_entries, IsWay, Connected}
+use Rattle.components.specs.Connected.{links_of_entries, IsPath, Connected}
 use Rattle.components.specs.LabelRules.{LabelState, label_rules, to_label_owner}
 use Rattle.components.specs.Starts.{own_links, label_begins}
 
@@ -50,7 +50,7 @@ begins_sends ranks m r k d low c came =
 -- ---- Ways
 
 -- a way, and a link on from its end
-way_on : (entries : List Triple) (u : ℕ) (way : List Link) (l : Link) → IsWay entries u l.from way → Contains (links_of_entries entries) l → IsWay entries u l.to (way ++ l ∷ [])
+way_on : (entries : List Triple) (u : ℕ) (way : List Link) (l : Link) → IsPath entries u l.from way → Contains (links_of_entries entries) l → IsPath entries u l.to (way ++ l ∷ [])
 way_on entries u [] l w has = (has, sym w, refl)
 way_on entries u (k ∷ way) l w has = (w.0, w.1, way_on entries k.to way l w.2 has)
 

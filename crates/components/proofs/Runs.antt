@@ -19,7 +19,7 @@ use Rattle.reductions.proofs.Links.{Sends, Settled, all_settled}
 use Rattle.reductions.proofs.Lists.{unfiltered}
 use Rattle.reductions.proofs.Starts.{made_from}
 use Rattle.components.specs.declared.labels.Link.{Link}
-use Rattle.components.specs.Connected.{links_of_entries, IsWay, Connected, IsLeastLabel, AreComponents}
+use Rattle.components.specs.Connected.{links_of_entries, IsPath, Connected, IsLeastLabel, AreComponents}
 use Rattle.components.specs.LabelRules.{LabelState, label_rules, most_label_rounds}
 use Rattle.components.specs.laws.LabelLaws.{label_laws}
 use Rattle.components.specs.Starts.{own_links, label_begins, label_starts}
@@ -106,7 +106,7 @@ module _ (m : Sparse) (ranks : ℕ) (some : 1 ≤ ranks) (few : ranks ≤ 64) (s
     owner : (v : ℕ) → (s : LabelState) × (slice_get (now (suc n)) (v % ranks) ≡ Some s)
     owner v = find (now (suc n)) (v % ranks) (subst (λ k. v % ranks < k) (sym (in_round (suc n)).size) (mod-lt v some))
 
-    along : (u v : ℕ) (way : List Link) (s t : LabelState) → IsWay m.entries u v way → slice_get (now (suc n)) (u % ranks) ≡ Some s → slice_get (now (suc n)) (v % ranks) ≡ Some t → at t v ≤ at s u
+    along : (u v : ℕ) (way : List Link) (s t : LabelState) → IsPath m.entries u v way → slice_get (now (suc n)) (u % ranks) ≡ Some s → slice_get (now (suc n)) (v % ranks) ≡ Some t → at t v ≤ at s u
     along u v [] s t same from to =
         subst (λ w. at t v ≤ at w u) (get_once (now (suc n)) (v % ranks) t s to (subst (λ k. slice_get (now (suc n)) (k % ranks) ≡ Some s) same from)) (subst (λ k. at t v ≤ at t k) (sym same) (omega arith))
     along u v (l ∷ way) s t w from to =

@@ -12,16 +12,16 @@ abbrev pub links_of_entries : List Triple → List Link
 links_of_entries entries = flat_map (λ t. record { from = t.i; to = t.j } ∷ record { from = t.j; to = t.i } ∷ []) entries
 
 -- A way from vertex u to vertex v: a list of links that join up.
--- IsWay entries u v (l1, .., lk): l1 begins at u, each begins where the one before it ends, and lk
+-- IsPath entries u v (l1, .., lk): l1 begins at u, each begins where the one before it ends, and lk
 -- ends at v Over the entry (2,5,v) the list (5,2) is a way from 5 to 2, and the empty list is one
 -- from 7 to 7.
-abbrev pub IsWay : List Triple → ℕ → ℕ → List Link → Type 0
-IsWay entries u v [] = u ≡ v
-IsWay entries u v (l ∷ way) = Contains (links_of_entries entries) l × (l.from ≡ u) × IsWay entries l.to v way
+abbrev pub IsPath : List Triple → ℕ → ℕ → List Link → Type 0
+IsPath entries u v [] = u ≡ v
+IsPath entries u v (l ∷ way) = Contains (links_of_entries entries) l × (l.from ≡ u) × IsPath entries l.to v way
 
 -- Two vertices are connected: there is a way from one to the other.
 abbrev pub Connected : List Triple → ℕ → ℕ → Type 0
-Connected entries u v = (way : List Link) × IsWay entries u v way
+Connected entries u v = (way : List Link) × IsPath entries u v way
 
 -- The least number of a vertex that is connected to v.
 -- Over (2,5,v), (5,1,v) it is 1 for each of 1, 2 and 5, and 3 for 3.

@@ -27,7 +27,7 @@ use Rattle.convey.specs.Agreement.{items_among, with_latest, Agrees}
 use Rattle.convey.specs.Due.{IsOver, HeldUp}
 use Rattle.convey.specs.Parts.{part_of}
 use Rattle.convey.specs.Progress.{advance_step, progress_of}
-use Rattle.convey.specs.Way.{GoesOn, MovesOn}
+use Rattle.convey.specs.AdvanceSteps.{GoesOn, MovesOn}
 use Rattle.convey.proofs.Moves.{forget_agrees, marks_agree, all_none}
 use Rattle.convey.proofs.Movements.{not_true}
 

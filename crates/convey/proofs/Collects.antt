@@ -20,7 +20,7 @@ use Rattle.convey.specs.Buffers.{in_of, buffers_of}
 use Rattle.convey.specs.Agreement.{Agrees}
 use Rattle.convey.specs.Parts.{part_of}
 use Rattle.convey.specs.Due.{Wants}
-use Rattle.convey.specs.Way.{IsReady, GoesOn, at_rest}
+use Rattle.convey.specs.AdvanceSteps.{IsReady, GoesOn, at_rest}
 use Rattle.convey.proofs.Arrivals.{GotOn, got_agrees, got_part}
 use Rattle.convey.proofs.Moves.{SameOn, same_agrees, same_buffers_part}
 use Rattle.convey.proofs.Ways.{no_more, none_filled}

@@ -22,7 +22,7 @@ use Rattle.convey.specs.Buffers.{out_of, in_of, is_complete, buffers_of}
 use Rattle.convey.specs.Agreement.{Agrees}
 use Rattle.convey.specs.Due.{Wants, IsOver, WasServed, NextIs, WasFull, HeldUp, IsBlocked}
 use Rattle.convey.specs.Parts.{part_of}
-use Rattle.convey.specs.Way.{IsReady, GoesOn, PassedOn, WasAsked, WasPosted, MovesOn, HasServed, at_rest}
+use Rattle.convey.specs.AdvanceSteps.{IsReady, GoesOn, PassedOn, WasAsked, WasPosted, MovesOn, HasServed, at_rest}
 use Rattle.convey.proofs.Moves.{forget_agrees, marks_agree}
 use Rattle.convey.proofs.Routes.{own_loop, not_all_ended}
 use Rattle.convey.proofs.States.{closed_end, is_out}

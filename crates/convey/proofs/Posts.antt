@@ -22,7 +22,7 @@ use Rattle.convey.specs.Agreement.{Agrees}
 use Rattle.convey.specs.Parts.{part_of}
 use Rattle.convey.specs.Arrived.{HasArrived}
 use Rattle.convey.specs.Due.{IsDue}
-use Rattle.convey.specs.Way.{IsReady, GoesOn, at_rest}
+use Rattle.convey.specs.AdvanceSteps.{IsReady, GoesOn, at_rest}
 use Rattle.convey.proofs.Ways.{none_filled}
 use Rattle.convey.proofs.PostLaw.{post_law, open_lasts, all_one}
 use Rattle.convey.proofs.Moves.{SameOn, same_agrees, same_buffers_part, SentOn, sent_agrees, sent_part, forget_agrees}

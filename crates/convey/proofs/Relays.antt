@@ -23,7 +23,7 @@ use Rattle.hop_core.specs.Relay.{way_in, way_out, held, AddsToHop, TakesFromHop}
 use Rattle.convey.specs.Buffers.{Buffers, out_of, in_of, buffers_of}
 use Rattle.convey.specs.Agreement.{items_among, Agrees}
 use Rattle.convey.specs.Parts.{part_of}
-use Rattle.convey.specs.Way.{IsReady, PassedOn, at_rest}
+use Rattle.convey.specs.AdvanceSteps.{IsReady, PassedOn, at_rest}
 use Rattle.convey.proofs.Moves.{forget_agrees}
 use Rattle.convey.proofs.Arrivals.{Relayed, relayed_agrees, relayed_part}
 use Rattle.convey.proofs.States.{in_number, out_number, is_out, is_in}

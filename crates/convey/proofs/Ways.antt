@@ -24,7 +24,7 @@ use Rattle.hop_core.specs.Link.{is_due, is_wanted}
 use Rattle.hop_core.specs.State.{State, at_end}
 use Rattle.convey.specs.Buffers.{out_of, in_of}
 use Rattle.convey.specs.Due.{IsDue, Wants, WasServed}
-use Rattle.convey.specs.Way.{IsReady, GoesOn, LeftByPosts, LeftByCollects, WasAsked, WasPosted}
+use Rattle.convey.specs.AdvanceSteps.{IsReady, GoesOn, LeftByPosts, LeftByCollects, WasAsked, WasPosted}
 
 -- the links of a neighbour
 pub from_below : (dims : List ℕ) (r i : ℕ) → IsGrid dims → r < ranks dims → i < sum dims → link_from dims r i < links dims

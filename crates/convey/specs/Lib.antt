@@ -6,6 +6,6 @@ pub mod Due
 pub mod Law
 pub mod Progress
 pub mod Conveyors
-pub mod Way
+pub mod AdvanceSteps
 pub mod Rest
 pub mod Advance

@@ -11,7 +11,7 @@ ghost use Rattle.port_bank.specs.Frames.{InsElsewhere};
 ghost use Rattle.convey.specs.Buffers.{in_of};
 ghost use Rattle.hop_core.specs.Link.{is_wanted};
 ghost use Rattle.convey.specs.Due.{collects_of};
-ghost use Rattle.convey.specs.Way.{IsReady, WasAsked, LeftByCollects};
+ghost use Rattle.convey.specs.AdvanceSteps.{IsReady, WasAsked, LeftByCollects};
 
 use hop_core::RankState;
 use item_buffer::Parcel;

@@ -9,7 +9,7 @@ ghost use Rattle.route_tensor.specs.Link.{links};
 ghost use Rattle.route_tensor.specs.Ends.{hop_at, reader_at};
 ghost use Rattle.convey.specs.Buffers.{in_of};
 ghost use Rattle.convey.specs.Due.{StopsAt, NextIs, WasFull, collects_of, posts_below};
-ghost use Rattle.convey.specs.Way.{IsReady, MovesOn, HasServed};
+ghost use Rattle.convey.specs.AdvanceSteps.{IsReady, MovesOn, HasServed};
 
 use crate::collecting::collect_all;
 use crate::posting::post_all;

@@ -9,7 +9,7 @@ ghost use Rattle.port_bank.specs.Calls.Call.{Post};
 ghost use Rattle.port_bank.specs.Frames.{OutsElsewhere};
 ghost use Rattle.convey.specs.Buffers.{out_of};
 ghost use Rattle.convey.specs.Due.{IsDue, WasServed, StopsAt, was_served, posts_below};
-ghost use Rattle.convey.specs.Way.{IsReady, WasPosted, LeftByPosts};
+ghost use Rattle.convey.specs.AdvanceSteps.{IsReady, WasPosted, LeftByPosts};
 
 use bale_items::NoMemory;
 use hop_core::RankState;

@@ -6,7 +6,7 @@ ghost use Rattle.port_bank.specs.Logs.{Logs};
 ghost use Rattle.hop_core.specs.Standing.{IsState};
 ghost use Rattle.convey.specs.Buffers.{out_of, in_of};
 ghost use Rattle.convey.specs.Due.{IsBlocked};
-ghost use Rattle.convey.specs.Way.{IsReady, PassedOn};
+ghost use Rattle.convey.specs.AdvanceSteps.{IsReady, PassedOn};
 
 use hop_core::RankState;
 

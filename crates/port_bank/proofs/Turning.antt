@@ -7,7 +7,7 @@ use Rattle.std.proofs.lemmas.List.Elements.{All-append, All-nil, All-cons, All-h
 use Rattle.std.proofs.lemmas.Option.{slice_get_read}
 use Rattle.item_buffer.specs.Contents.{Contents, as_shipped, as_arrived, blank}
 use Rattle.list_laws.proofs.Lists.{set_same}
-use Rattle.port_bank.specs.Ring.{turned_from, on_way, IsRing}
+use Rattle.port_bank.specs.Ring.{turned_from, in_transit, IsRing}
 
 -- Place i is so many steps after place f, of n that go round.
 abbrev pub IsAfter : ℕ → ℕ → ℕ → ℕ → Type 0
@@ -62,7 +62,7 @@ module _ {X : Type 0} where
             ap (λ k. turned_from k xs) zero' ∙ (append-nil xs ∙ (sym (ap (λ ys. ys ++ take (f + 1) xs) (drop_all (f + 1) xs all) ∙ take_all (f + 1) xs all) ∙ step))
       ]
 
-pub way_len : (first waiting : ℕ) (xs : List Contents) → waiting ≤ length xs → length (on_way first waiting xs) ≡ waiting
+pub way_len : (first waiting : ℕ) (xs : List Contents) → waiting ≤ length xs → length (in_transit first waiting xs) ≡ waiting
 way_len first waiting xs within = length-map (take waiting (turned_from first xs)) as_shipped ∙ length-take-le waiting (turned_from first xs) (omega (arith, within, turned_len first xs))
 
 abbrev FreshOnes : List Contents → Type 0
@@ -92,7 +92,7 @@ module _ (cap first waiting i : ℕ) (xs : List Contents) (x y : Contents) (is :
   pub sent_empty : y ≡ blank y.epoch
   sent_empty = All-head (λ (c : Contents). c ≡ blank c.epoch) y (drop (waiting + 1) (turned_from first xs)) (subst EmptyOnes there is.empty)
 
-  pub sent_way : on_way first (waiting + 1) (slice_set xs i x) ≡ on_way first waiting xs ++ as_shipped x ∷ []
+  pub sent_way : in_transit first (waiting + 1) (slice_set xs i x) ≡ in_transit first waiting xs ++ as_shipped x ∷ []
   sent_way = ap (map as_shipped) one_more ∙ map-append as_shipped (take waiting (turned_from first xs)) (x ∷ [])
 
   pub sent_ring : x ≡ as_arrived (as_shipped x) → IsRing cap first (waiting + 1) (slice_set xs i x)
@@ -142,7 +142,7 @@ module _ (cap first k j : ℕ) (xs : List Contents) (x y : Contents) (is : IsRin
   fresh_ones : FreshOnes (y ∷ take k others)
   fresh_ones = subst (λ ys. FreshOnes (take (suc k) ys)) front is.fresh
 
-  pub received_way : on_way first (suc k) xs ≡ as_shipped y ∷ on_way j k (slice_set xs first x)
+  pub received_way : in_transit first (suc k) xs ≡ as_shipped y ∷ in_transit j k (slice_set xs first x)
   received_way = ap (λ ys. map as_shipped (take (suc k) ys)) front ∙ ap (λ cs. as_shipped y ∷ map as_shipped cs) (sym left)
 
   pub received_fresh : y ≡ as_arrived (as_shipped y)

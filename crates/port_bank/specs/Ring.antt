@@ -12,8 +12,8 @@ turned_from n xs = drop n xs ++ take n xs
 
 -- The parcels on their way: those of the first places from place `first` on, as many as wait.
 -- Of a, b, c with first 2 and 2 that wait: c, a.
-abbrev pub on_way : ℕ → ℕ → List Contents → List Shipped
-on_way first waiting places = map as_shipped (take waiting (turned_from first places))
+abbrev pub in_transit : ℕ → ℕ → List Contents → List Shipped
+in_transit first waiting places = map as_shipped (take waiting (turned_from first places))
 
 -- What the places of a link keep, for parcels of capacity cap.
 -- begins: the place of the next collect is one of them.

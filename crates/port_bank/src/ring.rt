@@ -2,7 +2,7 @@
 ghost use Rattle.std.specs.Prelude.{◌≡◌, ◌+◌, ◌<◌, ◌≤◌, ◌⊎◌, ◌++◌, [], ◌∷◌, length, IfOk, OnOk, OnErr};
 ghost use Rattle.item_buffer.specs.Capacity.{IsCap};
 ghost use Rattle.item_buffer.specs.Contents.{as_shipped, as_arrived, blank};
-ghost use Rattle.port_bank.specs.Ring.{on_way, IsRing};
+ghost use Rattle.port_bank.specs.Ring.{in_transit, IsRing};
 
 use bale_items::NoMemory;
 use item_buffer::Parcel;
@@ -26,11 +26,11 @@ pub(crate) struct Ring<const CAP: usize> {
 impl<const CAP: usize> Model for Ring<CAP> {
     ghost use Rattle.std.specs.Prelude.{List};
     ghost use Rattle.item_buffer.specs.Contents.{Shipped};
-    ghost use Rattle.port_bank.specs.Ring.{on_way, IsRing};
+    ghost use Rattle.port_bank.specs.Ring.{in_transit, IsRing};
 
     ghost Value = { List Shipped };
 
-    ghost view = { λ r. on_way r.first r.waiting r.places.items };
+    ghost view = { λ r. in_transit r.first r.waiting r.places.items };
 
     ghost invariant = { λ r. IsRing CAP r.first r.waiting r.places.items };
 }
@@ -101,7 +101,7 @@ fn make_room<const CAP: usize>(
     requires ring { IsRing CAP first waiting places.old.items }
     ensures ring { IfOk result (λ f. IsRing CAP f waiting places.new.items) }
     ensures room { OnOk result (waiting < length places.new.items) }
-    ensures same { IfOk result (λ f. on_way f waiting places.new.items ≡ on_way first waiting places.old.items) }
+    ensures same { IfOk result (λ f. in_transit f waiting places.new.items ≡ in_transit first waiting places.old.items) }
     ensures unchanged { OnErr result (places.new.items ≡ places.old.items) }
 {
     if waiting < places.len() {
@@ -126,7 +126,7 @@ fn add_place<const CAP: usize>(
     requires full { length places.old.items ≤ waiting }
     ensures ring { IfOk result (λ f. IsRing CAP f waiting places.new.items) }
     ensures room { OnOk result (waiting < length places.new.items) }
-    ensures same { IfOk result (λ f. on_way f waiting places.new.items ≡ on_way first waiting places.old.items) }
+    ensures same { IfOk result (λ f. in_transit f waiting places.new.items ≡ in_transit first waiting places.old.items) }
     ensures unchanged { OnErr result (places.new.items ≡ places.old.items) }
 {
     places.reserve(1)?;

@@ -86,7 +86,7 @@ impl<A: Seated> Assignment<A> {
         shared: &Shared<'a, R, G, J>,
         steps: &mut Steps<L>,
     ) -> bool
-        ensures ran { AllRan (A.ran J.told) self.old self.new }
+        ensures ran { AllRan (A.ran J.notified) self.old self.new }
         ensures each { AllRan (MakesOneTurn A.over A.turns) self.old self.new }
         ensures counted { sum_by A.turns self.new + steps.old ≡ sum_by A.turns self.old + steps.new }
         ensures still { result ≡ false → AllRan A.still self.old self.new }
@@ -114,7 +114,7 @@ fn sweep_ranks<'a, R: Wait, A: Seated, G: Gate, J: GateLog, L: Ledger>(
     ranks: &mut Vec<A>,
     steps: &mut Steps<L>,
 ) -> bool
-    ensures ran { AllRan (A.ran J.told) ranks.old.items ranks.new.items }
+    ensures ran { AllRan (A.ran J.notified) ranks.old.items ranks.new.items }
     ensures each { AllRan (MakesOneTurn A.over A.turns) ranks.old.items ranks.new.items }
     ensures counted { sum_by A.turns ranks.new.items + steps.old ≡ sum_by A.turns ranks.old.items + steps.new }
     ensures still { result ≡ false → AllRan A.still ranks.old.items ranks.new.items }
@@ -133,7 +133,7 @@ fn turn_one<'a, R: Wait, A: Seated, G: Gate, J: GateLog, L: Ledger>(
     at: &mut A,
     steps: &mut Steps<L>,
 ) -> bool
-    ensures ran { A.ran J.told at.old at.new }
+    ensures ran { A.ran J.notified at.old at.new }
     ensures one { MakesOneTurn A.over A.turns at.old at.new }
     ensures counted { A.turns at.new + steps.old ≡ A.turns at.old + steps.new }
     ensures still { result ≡ false → A.still at.old at.new }

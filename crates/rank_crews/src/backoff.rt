@@ -1,6 +1,6 @@
 //! When a worker without progress yields its processor, and when it calls the fallback.
 //!
-//! Time is told by turns: each worker reports its own to a count that all share, so what the others
+//! Time is measured in turns: each worker reports its own to a count that all share, so what the others
 //! turned while a worker had yielded is how long it was away. A worker spins for some 15
 //! microseconds before it yields. On an idle machine a yield takes a microsecond, so the others
 //! make most of their turns while it spins. If other work has the processor, a yield takes

@@ -54,7 +54,7 @@ pub(crate) fn start<
         SameRanks::<A, J>::new(&end, &shared.fallback),
         move || -> Returned<'_, A>
             requires { received end ≡ [] }
-            ensures ran { CameBack (AllRan (A.ran J.told)) end result.1 result.0 }
+            ensures ran { CameBack (AllRan (A.ran J.notified)) end result.1 result.0 }
             ensures stopped { MayStop A.over shared.entry.now.fallback.id result.0 result.2 }
         { run_what_comes(shared, returned, end) },
     );

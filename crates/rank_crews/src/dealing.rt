@@ -57,12 +57,12 @@ pub(crate) fn gather<A: Seated, J: GateLog>(
 ) -> Vec<A>
     requires some { 0 < length crews.items }
     requires run { (all : List A) × (length all ≡ count)
-        × HaveRun (A.ran J.told) A.over (length crews.items) 0 all crews.items }
+        × HaveRun (A.ran J.notified) A.over (length crews.items) 0 all crews.items }
     requires none { ended.items ≡ [] }
     requires room { count ≤ vec_capacity ended }
     ensures ran { (all : List A) → length all ≡ count
-        → HaveRun (A.ran J.told) A.over (length crews.items) 0 all crews.items
-        → AllRan (A.ran J.told) all result.items }
+        → HaveRun (A.ran J.notified) A.over (length crews.items) 0 all crews.items
+        → AllRan (A.ran J.notified) all result.items }
     ensures over { All (λ y. A.over y ≡ true) result.items }
 {
     let mut crews = crews;

@@ -3,15 +3,15 @@ ghost use Rattle.std.specs.Prelude.{◌≡◌, ℕ, Bool, true};
 
 /// A gate before the turns: a test can hold a rank there. It has no condition, and returns.
 ///
-/// `told` is the set of turns that a gate was notified of. A drive works with every gate, so it
+/// `notified` is the set of turns that a gate was notified of. A drive works with every gate, so it
 /// knows nothing of this set except what `turn` ensures: the only way to show that a turn is in it
 /// is to notify the gate. An impl need not define it.
 pub trait Gate {
-    ghost told: { Self → ℕ → ℕ → Bool } = { λ g r n. true };
+    ghost notified: { Self → ℕ → ℕ → Bool } = { λ g r n. true };
 
     /// Is called before turn `n` of a rank, counted from 0 over the whole run.
     fn turn(&self, rank: u32, n: u64)
-        ensures told { told self.now rank n ≡ true };
+        ensures notified { notified self.now rank n ≡ true };
 }
 
 /// A gate that holds no rank.

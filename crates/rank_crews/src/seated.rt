@@ -9,17 +9,17 @@ use std::sync::ledger::Ledger;
 
 /// The turns that the gate of a run was notified of. Each run has its own.
 pub trait GateLog {
-    ghost told: { ℕ → ℕ → Bool };
+    ghost notified: { ℕ → ℕ → Bool };
 }
 
 impl GateLog for Brand {
-    ghost told = { λ r n. false };
+    ghost notified = { λ r n. false };
 }
 
 /// A rank that sits at its ports and is polled until its run is over. Whoever polls it knows
 /// nothing of the other ranks.
 ///
-/// `ran told x y` says that turns took a rank from x to y, and that `told` holds of the rank and
+/// `ran notified x y` says that turns took a rank from x to y, and that `notified` holds of the rank and
 /// the number of each of them; `turns` counts all turns up to some moment.
 ///
 /// | Call | Needs | Answer |
@@ -56,14 +56,14 @@ pub trait Seated: Drop {
     fn turn<R: Wait, J: GateLog, L: Ledger>(&mut self, rt: &R, steps: &mut Steps<L>) -> bool
         requires going { over self.old ≡ false }
         // The gate was notified of this turn before it is made.
-        requires notified { J.told (number self.old) (turns self.old) ≡ true }
-        ensures ran { ran J.told self.old self.new }
+        requires notified { J.notified (number self.old) (turns self.old) ≡ true }
+        ensures ran { ran J.notified self.old self.new }
         ensures one { turns self.new ≡ turns self.old + 1 }
         ensures counted { steps.new ≡ steps.old + 1 }
         ensures still { result ≡ false → still self.old self.new }
         ensures progress { result ≡ true → still self.old self.new → ⊥ };
 
-    ghost laws: { (told : ℕ → ℕ → Bool) → RanLaws (ran told) };
+    ghost laws: { (notified : ℕ → ℕ → Bool) → RanLaws (ran notified) };
 
     ghost still_laws: { RanLaws still };
 }

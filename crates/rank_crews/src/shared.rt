@@ -26,7 +26,7 @@ pub struct Shared<'d, R, G: Gate, J: GateLog> {
     /// The turns of all workers, as far as they were reported: the only clock of a run.
     turns: CachePadded<AtomicU64>,
     run: PhantomData<J>,
-    ghost tells: { G.told gate.now ≡ J.told },
+    ghost tells: { G.notified gate.now ≡ J.notified },
 }
 
 impl<'d, R, G: Gate, J: GateLog> Shared<'d, R, G, J> {
@@ -37,7 +37,7 @@ impl<'d, R, G: Gate, J: GateLog> Shared<'d, R, G, J> {
         gate: &'d G,
         workers: usize,
     ) -> Result<Shared<'d, R, G, J>, NoMemory>
-        requires tells { G.told gate.now ≡ J.told }
+        requires tells { G.notified gate.now ≡ J.notified }
     {
         let mut returned = Vec::new(alloc);
         for _ in 0..workers {
@@ -104,7 +104,7 @@ impl<'d, R: Wait, G: Gate, J: GateLog> Shared<'d, R, G, J> {
     /// progress.
     pub(crate) fn turn<A: Seated, L: Ledger>(&self, at: &mut A, steps: &mut Steps<L>) -> bool
         requires going { A.over at.old ≡ false }
-        ensures ran { A.ran J.told at.old at.new }
+        ensures ran { A.ran J.notified at.old at.new }
         ensures one { A.turns at.new ≡ A.turns at.old + 1 }
         ensures counted { steps.new ≡ steps.old + 1 }
         ensures still { result ≡ false → A.still at.old at.new }

@@ -38,7 +38,7 @@ pub fn run_together<R: Threads + Wait + Sync, A: Seated + Send, G: Gate + Sync>(
     all: Vec<A>,
 ) -> Result<Vec<A>, NoMemory>
     // This gate was notified of each turn before it was made.
-    ensures { IfOk result (λ ended. AllEnded (A.ran (G.told gate.now)) A.over all.items ended.items) }
+    ensures { IfOk result (λ ended. AllEnded (A.ran (G.notified gate.now)) A.over all.items ended.items) }
 {
     run_workers::<R, A, G, Brand>(rt, alloc, gate, workers, threads, all)
 }
@@ -57,8 +57,8 @@ fn run_workers<
     threads: ThreadLimit,
     all: Vec<A>,
 ) -> Result<Vec<A>, NoMemory>
-    requires tells { G.told gate.now ≡ J.told }
-    ensures { IfOk result (λ ended. AllEnded (A.ran J.told) A.over all.items ended.items) }
+    requires tells { G.notified gate.now ≡ J.notified }
+    ensures { IfOk result (λ ended. AllEnded (A.ran J.notified) A.over all.items ended.items) }
 {
     let count = all.len();
     let Ok(ended) = Vec::with_capacity(alloc, count) else {
@@ -91,7 +91,7 @@ fn run_each<
     all: Vec<Assignment<A>>,
 ) -> Result<Vec<Assignment<A>>, NoMemory>
     ensures { IfOk result
-        (λ ended. AllEnded (AllRan (A.ran J.told)) (λ xs. list_all A.over xs) all.items ended.items) }
+        (λ ended. AllEnded (AllRan (A.ran J.notified)) (λ xs. list_all A.over xs) all.items ended.items) }
 {
     let Ok(ended) = Vec::with_capacity(alloc, all.len()) else {
         return Err(NoMemory);
@@ -102,7 +102,7 @@ fn run_each<
         move |scope| -> Result<Vec<Assignment<A>>, NoMemory>
             requires { (ended.items ≡ []) × (length all.items ≤ vec_capacity ended) }
             ensures { IfOk result
-                (λ ys. AllEnded (AllRan (A.ran J.told)) (λ xs. list_all A.over xs) all.items ys.items) }
+                (λ ys. AllEnded (AllRan (A.ran J.notified)) (λ xs. list_all A.over xs) all.items ys.items) }
         { run_in(scope, shared, alloc, threads, all, ended) },
     )
 }
@@ -125,7 +125,7 @@ fn run_in<
 ) -> Result<Vec<Assignment<A>>, NoMemory>
     requires none { ended.items ≡ [] }
     requires room { length all.items ≤ vec_capacity ended }
-    ensures { IfOk result (λ ys. AllEnded (AllRan (A.ran J.told)) (λ xs. list_all A.over xs) all.items ys.items) }
+    ensures { IfOk result (λ ys. AllEnded (AllRan (A.ran J.notified)) (λ xs. list_all A.over xs) all.items ys.items) }
 {
     let Ok(children) = Vec::with_capacity(alloc, all.len()) else {
         return Err(NoMemory);
@@ -205,7 +205,7 @@ fn take_ranks<'s, A: Seated, J: GateLog>(
     requires none { back.items ≡ [] }
     requires room { length children.items ≤ vec_capacity back }
     requires ended { All (HasEnded A.over) children.items }
-    ensures ran { AllRan (AllRan (A.ran J.told)) (reverse (map first_of children.entry.items)) result.items }
+    ensures ran { AllRan (AllRan (A.ran J.notified)) (reverse (map first_of children.entry.items)) result.items }
     ensures over { All (λ xs. list_all A.over xs ≡ true) result.items }
 {
     let mut children = children;

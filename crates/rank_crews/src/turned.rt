@@ -30,7 +30,7 @@ impl<A: Seated, J: GateLog> Model for Turned<A, J> {
 
     ghost view = { λ s. record { first = s.first.value; now = s.ranks } };
 
-    ghost invariant = { λ s. AllRan (A.ran J.told) s.first.value s.ranks };
+    ghost invariant = { λ s. AllRan (A.ran J.notified) s.first.value s.ranks };
 }
 
 impl<A: Seated, J: GateLog> Turned<A, J> {
@@ -45,7 +45,7 @@ impl<A: Seated, J: GateLog> Turned<A, J> {
 
     /// Ranks that turns have taken from what they were first.
     pub(crate) fn since(first: Snapshot<Assignment<A>>, ranks: Assignment<A>) -> Turned<A, J>
-        requires ran { AllRan (A.ran J.told) first.value ranks }
+        requires ran { AllRan (A.ran J.notified) first.value ranks }
         ensures first { result.first ≡ first.value }
         ensures now { result.now ≡ ranks }
     {
@@ -58,7 +58,7 @@ impl<A: Seated, J: GateLog> Turned<A, J> {
 
     /// The ranks.
     pub(crate) fn into_ranks(self) -> Assignment<A>
-        ensures ran { AllRan (A.ran J.told) self.first result }
+        ensures ran { AllRan (A.ran J.notified) self.first result }
         ensures same { result ≡ self.now }
     {
         let Turned {

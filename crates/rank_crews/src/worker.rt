@@ -29,7 +29,7 @@ impl<'a, R: Wait, A: Seated, G: Gate, J: GateLog> Job for Worker<'a, R, A, G, J>
     ghost use Rattle.rank_crews.specs.Runs.{AllRan};
     ghost use Rattle.rank_crews.specs.Workers.{MayStop};
 
-    ghost ran = { λ a b. AllRan (A.ran J.told) a.ranks b.ranks
+    ghost ran = { λ a b. AllRan (A.ran J.notified) a.ranks b.ranks
         × MayStop A.over a.shared.now.fallback.id b.ranks b.called };
 
     fn work<L: Ledger>(self, steps: &mut Steps<L>) -> Self {
@@ -74,7 +74,7 @@ pub(crate) fn run_worker<'a, R: Wait, A: Seated, G: Gate, J: GateLog>(
     shared: &'a Shared<'a, R, G, J>,
     ranks: Assignment<A>,
 ) -> (Assignment<A>, Option<OnceToken<'a, ()>>)
-    ensures ran { AllRan (A.ran J.told) ranks result.0 }
+    ensures ran { AllRan (A.ran J.notified) ranks result.0 }
     ensures stopped { MayStop A.over shared.now.fallback.id result.0 result.1 }
 {
     let Worker {

@@ -39,7 +39,7 @@ impl<'s, A: Seated, J: GateLog> Promise<Returned<'s, A>> for SameRanks<A, J> {
     ghost use Rattle.rank_crews.specs.Runs.{AllRan};
     ghost use Rattle.rank_crews.specs.Workers.{MayStop};
 
-    ghost kept_by = { λ p r. CameBack (AllRan (A.ran J.told)) p.end.value r.1 r.0
+    ghost kept_by = { λ p r. CameBack (AllRan (A.ran J.notified)) p.end.value r.1 r.0
         × MayStop A.over p.fallback.value.id r.0 r.2 };
 }
 
@@ -104,7 +104,7 @@ pub(crate) fn run_what_comes<'a, R: Wait, A: Seated, G: Gate, J: GateLog>(
     end: Consumer<Assignment<A>>,
 ) -> Returned<'a, A>
     requires none { received end ≡ [] }
-    ensures ran { CameBack (AllRan (A.ran J.told)) end result.1 result.0 }
+    ensures ran { CameBack (AllRan (A.ran J.notified)) end result.1 result.0 }
     ensures stopped { MayStop A.over shared.now.fallback.id result.0 result.2 }
 {
     let mut end = end;

@@ -28,7 +28,7 @@ use Rattle.rank_node.proofs.Between.{extended_before}
 use Rattle.rank_group.proofs.Counted.{pushed_in}
 use Rattle.rank_group.proofs.Pushed.{work_few, votes_few, mover_pushed, items_before, count_in}
 use Rattle.rank_group.proofs.Worlds.{Core, core, canonical, still_within, over_at_last}
-use Rattle.rank_group.specs.RanksOverBank.{progress_in, history_in, World}
+use Rattle.rank_group.specs.RanksOverBank.{progress_in, history_in, RanksOnBank}
 
 -- two epochs a round
 by_rounds : (f : ℕ → ℕ) (g : ℕ → ℕ) (q n : ℕ) → ((m : ℕ) → m < n → f (2 * m) ≤ g m) → ((m : ℕ) → m < n → f (2 * m + 1) ≤ q) → (sum : ℕ → ℕ) → sum 0 ≡ 0 → ((m : ℕ) → sum (suc m) ≡ sum m + (g m + q)) → total (2 * n) f ≤ sum n
@@ -40,7 +40,7 @@ by_rounds f g q (suc n) a b sum z s =
     let odd : f (suc (2 * n)) ≤ q = subst (λ k. f k ≤ q) (sym one) (b n (omega arith)) in
     subst (λ k. total k f ≤ sum (suc n)) two (let x = a n (omega arith) in let y = s n in omega (arith, rest, x, odd, y))
 
-module _ {S : Type 0} (R : Rules S) (laws : Laws R) (law : ClosesLaws) (dims : List ℕ) (cap slots : ℕ) (steady : Bool) (starts : List S) (h : ℕ → ℕ → S) (rs : List (RankState S)) (sent got : Logs) (w : World R dims cap slots (ByConveyor steady) starts h rs sent got)
+module _ {S : Type 0} (R : Rules S) (laws : Laws R) (law : ClosesLaws) (dims : List ℕ) (cap slots : ℕ) (steady : Bool) (starts : List S) (h : ℕ → ℕ → S) (rs : List (RankState S)) (sent got : Logs) (w : RanksOnBank R dims cap slots (ByConveyor steady) starts h rs sent got)
     (shape : List ℕ) (most n : ℕ) (start : InRound R (ranks dims) 0 shape most starts) (rounds : HasRounds R starts n) where
   -- one rank's items of a round's work
   work_of : (m s : ℕ) → m < n → s < ranks dims → total (ranks dims) (λ d. length (flow dims sent s d 1 (2 * m))) ≤ count_in R (slice_get (states_at R starts m) s)

@@ -14,8 +14,8 @@ use Rattle.rank_node.proofs.run.Run.TheSendSync.{the_field_send as run_send}
 use Rattle.rank_node.specs.contracts.mover.Mover as Mover
 use Rattle.rank_node.specs.contracts.node.Node as Node
 use Rattle.rank_node.specs.contracts.node.Node.TheInside as node
-use Rattle.rank_group.specs.contracts.sweeping.Rank as Rank
-use Rattle.rank_group.specs.contracts.sweeping.Rank.TheInside as rank
+use Rattle.rank_group.specs.contracts.sweep.Rank as Rank
+use Rattle.rank_group.specs.contracts.sweep.Rank.TheInside as rank
 use Rattle.rank_group.specs.contracts.noting.NotingPort as Port
 use Rattle.rank_group.specs.contracts.at_port.AtPort as AtPort
 use Rattle.rank_group.specs.contracts.at_port.AtPort.TheInside as at_port

@@ -17,7 +17,7 @@ use Rattle.exstack.specs.Lockstep.{finished_in}
 use Rattle.rank_node.specs.Movers.{MoverState, Manner, epoch_in, manner_in}
 use Rattle.rank_node.specs.Movers.MoverState.{Conveying, Stacking}
 use Rattle.rank_node.specs.Movers.Manner.{ByConveyor, ByExstack}
-use Rattle.rank_group.specs.RoundProgress.{most_rounds, rounds_made, HasMade, MoverMade}
+use Rattle.rank_group.specs.RoundProgress.{most_rounds, rounds_made, HasMadeHalves, MoverMadeHalves}
 use Rattle.rank_group.specs.Transcript.{turns_within}
 use Rattle.rank_group.specs.Ranks.{RankState, IsOrder, progress}
 use Rattle.rank_group.proofs.Worlds.{still_within, over_at_last}
@@ -28,8 +28,8 @@ use Rattle.rank_group.proofs.Quotas.{round_turns}
 use Rattle.rank_group.proofs.Halves.{total_more, halves_low}
 use Rattle.rank_group.proofs.Worlds.{stack_of}
 use Rattle.rank_group.proofs.Stacks.{over_in, stack_in, stack_is, all_stacks}
-use Rattle.rank_group.proofs.Made.{to_stack, of_stack}
-use Rattle.rank_group.specs.RanksOverBank.{World, moves, RestsBy, DrivePlan, SweptTo, AllMade}
+use Rattle.rank_group.proofs.BankShape.{to_stack, of_stack}
+use Rattle.rank_group.specs.RanksOverBank.{RanksOnBank, moves, BlocksMover, DrivePlan, AfterSomeTurns, AllMadeHalves}
 use Rattle.rank_group.specs.Drives.{progs_of}
 
 -- a rank whose run isn't over
@@ -63,12 +63,12 @@ most_sweeps R ByExstack dims starts n = 2 * total (2 * n) (most_rounds R (ranks 
 -- so many sweeps were made, by what they left
 abbrev pub HasSwept : {S : Type 0} → Rules S → Manner → List ℕ → List S → ℕ → (ℕ → ℕ) → List (RankState S) → Logs → Logs → Type 0
 HasSwept R (ByConveyor steady) dims starts sweeps cycle rs sent got = sweeps ≤ moves dims rs sent got + least rs
-HasSwept R ByExstack dims starts sweeps cycle rs sent got = AllMade (most_rounds R (ranks dims) starts) sweeps cycle rs
+HasSwept R ByExstack dims starts sweeps cycle rs sent got = AllMadeHalves (most_rounds R (ranks dims) starts) sweeps cycle rs
 
 -- after some sweeps: all ranks, and how many turns were made
 pub record Reached {S : Type 0} (R : Rules S) (dims : List ℕ) (cap slots : ℕ) (manner : Manner) (starts : List S) (steps0 : ℕ) (rs : List (RankState S)) (sent got : Logs) (steps : ℕ) : Type 0 where
   pub h : ℕ → ℕ → S
-  pub world : World R dims cap slots manner starts h rs sent got
+  pub world : RanksOnBank R dims cap slots manner starts h rs sent got
   pub sweeps : ℕ
   pub swept : HasSwept R manner dims starts sweeps world.cycle rs sent got
   pub count : steps ≤ steps0 + ranks dims * sweeps
@@ -76,7 +76,7 @@ pub record Reached {S : Type 0} (R : Rules S) (dims : List ℕ) (cap slots : ℕ
 -- over conveyors
 module _ {S : Type 0} (R : Rules S) (laws : Laws R) (law : ClosesLaws) (rest : RestLaw) (dims : List ℕ) (cap slots : ℕ) (steady : Bool) (starts : List S) (n : ℕ) (plan : DrivePlan R dims slots starts n) where
   -- no more sweeps than a run has
-  pub low : (h : ℕ → ℕ → S) (rs : List (RankState S)) (sent got : Logs) → World R dims cap slots (ByConveyor steady) starts h rs sent got → moves dims rs sent got + least rs ≤ sweeps_within R dims starts n
+  pub low : (h : ℕ → ℕ → S) (rs : List (RankState S)) (sent got : Logs) → RanksOnBank R dims cap slots (ByConveyor steady) starts h rs sent got → moves dims rs sent got + least rs ≤ sweeps_within R dims starts n
   low h rs sent got w =
       let m = moves_few R laws law dims cap slots steady starts h rs sent got w plan.shape plan.most n plan.start plan.rounds in
       let l : least rs ≤ 2 * n = by rs refl in
@@ -98,7 +98,7 @@ module _ {S : Type 0} (R : Rules S) (laws : Laws R) (law : ClosesLaws) (rest : R
             ]
 
   -- and fewer where some rank goes on
-  pub lower : (h : ℕ → ℕ → S) (rs : List (RankState S)) (sent got : Logs) → World R dims cap slots (ByConveyor steady) starts h rs sent got → GoesOn rs → moves dims rs sent got + least rs + 1 ≤ sweeps_within R dims starts n
+  pub lower : (h : ℕ → ℕ → S) (rs : List (RankState S)) (sent got : Logs) → RanksOnBank R dims cap slots (ByConveyor steady) starts h rs sent got → GoesOn rs → moves dims rs sent got + least rs + 1 ≤ sweeps_within R dims starts n
   lower h rs sent got w on =
       let m = moves_few R laws law dims cap slots steady starts h rs sent got w plan.shape plan.most n plan.start plan.rounds in
       let a = least_low rs on.rank on.state on.at in
@@ -108,7 +108,7 @@ module _ {S : Type 0} (R : Rules S) (laws : Laws R) (law : ClosesLaws) (rest : R
       omega (arith, m, a, p, b)
 
   module _ (order : List ℕ) (is : IsOrder (ranks dims) order) (h : ℕ → ℕ → S) (rs rs' : List (RankState S)) (sent got sent' got' : Logs)
-      (w : World R dims cap slots (ByConveyor steady) starts h rs sent got) (on : GoesOn rs) (cycle0 : ℕ → ℕ) (s : SweptTo R dims cap slots (ByConveyor steady) starts order (length order) cycle0 rs sent got rs' sent' got') where
+      (w : RanksOnBank R dims cap slots (ByConveyor steady) starts h rs sent got) (on : GoesOn rs) (cycle0 : ℕ → ℕ) (s : AfterSomeTurns R dims cap slots (ByConveyor steady) starts order (length order) cycle0 rs sent got rs' sent' got') where
     before : (r : ℕ) (x : RankState S) → slice_get rs' r ≡ Some x → (y : RankState S) × (slice_get rs r ≡ Some y)
     before r x at = find rs r (omega (arith, within rs' r x at, s.world.ranked.all, w.ranked.all))
 
@@ -140,7 +140,7 @@ module _ {S : Type 0} (R : Rules S) (laws : Laws R) (law : ClosesLaws) (rest : R
               let g = s.grown in
               omega (arith, up, g)
         ] where
-          rested : moves dims rs' sent' got' ≤ moves dims rs sent got → (r : ℕ) (x : RankState S) → slice_get rs' r ≡ Some x → x.over ≡ false → progress x ≡ least rs → RestsBy dims slots r x.node.mover sent' got'
+          rested : moves dims rs' sent' got' ≤ moves dims rs sent got → (r : ℕ) (x : RankState S) → slice_get rs' r ≡ Some x → x.over ≡ false → progress x ≡ least rs → BlocksMover dims slots r x.node.mover sent' got'
           rested light r x at over here =
               let y = before r x at in
               let a = least_low rs r y.0 y.1 in
@@ -150,12 +150,12 @@ module _ {S : Type 0} (R : Rules S) (laws : Laws R) (law : ClosesLaws) (rest : R
 
 -- over exstacks
 module _ {S : Type 0} (R : Rules S) (laws : Laws R) (law : ClosesLaws) (dims : List ℕ) (cap slots : ℕ) (starts : List S) (n : ℕ) (plan : DrivePlan R dims slots starts n) (h : ℕ → ℕ → S) (rs : List (RankState S)) (sent got : Logs)
-    (w : World R dims cap slots ByExstack starts h rs sent got) where
+    (w : RanksOnBank R dims cap slots ByExstack starts h rs sent got) where
   abbrev top : ℕ
   top = total (2 * n) (most_rounds R (ranks dims) starts)
 
   -- a rank that goes on hasn't made all rounds, and one whose run is over has
-  made_lower : (j r : ℕ) (x : RankState S) → slice_get rs r ≡ Some x → x.over ≡ false → MoverMade (most_rounds R (ranks dims) starts) j x.over (w.cycle r) x.node.mover → j + 1 ≤ 2 * top
+  made_lower : (j r : ℕ) (x : RankState S) → slice_get rs r ≡ Some x → x.over ≡ false → MoverMadeHalves (most_rounds R (ranks dims) starts) j x.over (w.cycle r) x.node.mover → j + 1 ≤ 2 * top
   made_lower j r x at on made =
       let most : ℕ → ℕ = most_rounds R (ranks dims) starts in
       let low : r < ranks dims = omega (arith, within rs r x at, w.ranked.all) in
@@ -163,7 +163,7 @@ module _ {S : Type 0} (R : Rules S) (laws : Laws R) (law : ClosesLaws) (dims : L
       let off : over_in (slice_get rs r) ≡ false = ap over_in at ∙ on in
       let s : finished_in (w.cycle r) (stack_of x.node.mover).stage < most (stack_of x.node.mover).epoch = subst (λ o. finished_in (w.cycle r) (stack_in o).stage < most (stack_in o).epoch) at (all.short r low off) in
       let b : (stack_of x.node.mover).epoch < 2 * n = subst (λ o. (stack_in o).epoch < 2 * n) at (all.within r low off) in
-      let m : HasMade most j false (w.cycle r) (stack_of x.node.mover) = subst (λ o. HasMade most j o (w.cycle r) (stack_of x.node.mover)) on (to_stack most j x.over (w.cycle r) x.node.mover cap (stack_is R laws law dims cap slots starts h rs sent got w n plan r x at) made) in
+      let m : HasMadeHalves most j false (w.cycle r) (stack_of x.node.mover) = subst (λ o. HasMadeHalves most j o (w.cycle r) (stack_of x.node.mover)) on (to_stack most j x.over (w.cycle r) x.node.mover cap (stack_is R laws law dims cap slots starts h rs sent got w n plan r x at) made) in
       let a = halves_low most j false (w.cycle r) (stack_of x.node.mover) m in
       let t = total_more most (suc (stack_of x.node.mover).epoch) (2 * n) (omega (arith, b)) in
       omega (arith, s, a, t)
@@ -176,7 +176,7 @@ module _ {S : Type 0} (R : Rules S) (laws : Laws R) (law : ClosesLaws) (dims : L
       let e : (stack_of x.node.mover).epoch + 1 ≡ 2 * n = subst (λ o. (stack_in o).epoch + 1 ≡ 2 * n) at (all.last r low (ap over_in at ∙ over)) in
       ap (λ o. rounds_made most o (w.cycle r) (stack_of x.node.mover)) over ∙ ap (λ k. total k most) e
 
-  made_low : (j r : ℕ) (x : RankState S) → slice_get rs r ≡ Some x → MoverMade (most_rounds R (ranks dims) starts) j x.over (w.cycle r) x.node.mover → j ≤ 2 * top
+  made_low : (j r : ℕ) (x : RankState S) → slice_get rs r ≡ Some x → MoverMadeHalves (most_rounds R (ranks dims) starts) j x.over (w.cycle r) x.node.mover → j ≤ 2 * top
   made_low j r x at made = elim (cases_Bool x.over) [
     | inr on ↦ let a = made_lower j r x at on made in omega (arith, a)
     | inl over ↦
@@ -188,25 +188,25 @@ module _ {S : Type 0} (R : Rules S) (laws : Laws R) (law : ClosesLaws) (dims : L
         ]
   ]
 
-  pub halves_within : (j : ℕ) → AllMade (most_rounds R (ranks dims) starts) j w.cycle rs → j ≤ 2 * top
+  pub halves_within : (j : ℕ) → AllMadeHalves (most_rounds R (ranks dims) starts) j w.cycle rs → j ≤ 2 * top
   halves_within j all =
       let some = ranks_some dims w.ranked.grid.positive in
       let x : (x : RankState S) × (slice_get rs 0 ≡ Some x) = find rs 0 (omega (arith, some, w.ranked.all)) in
       made_low j 0 x.0 x.1 (all 0 x.0 x.1)
 
-  pub halves_lower : GoesOn rs → (j : ℕ) → AllMade (most_rounds R (ranks dims) starts) j w.cycle rs → j + 1 ≤ 2 * top
+  pub halves_lower : GoesOn rs → (j : ℕ) → AllMadeHalves (most_rounds R (ranks dims) starts) j w.cycle rs → j + 1 ≤ 2 * top
   halves_lower on j all = made_lower j on.rank on.state on.at on.still (all on.rank on.state on.at)
 
   -- one whose run is over has made as many as any
-  over_made : (j r : ℕ) (x : RankState S) → j ≤ 2 * top → slice_get rs r ≡ Some x → x.over ≡ true → MoverMade (most_rounds R (ranks dims) starts) j x.over (w.cycle r) x.node.mover
+  over_made : (j r : ℕ) (x : RankState S) → j ≤ 2 * top → slice_get rs r ≡ Some x → x.over ≡ true → MoverMadeHalves (most_rounds R (ranks dims) starts) j x.over (w.cycle r) x.node.mover
   over_made j r x few at over =
       let t = made_over r x at over in
       of_stack (most_rounds R (ranks dims) starts) j x.over (w.cycle r) x.node.mover cap (stack_is R laws law dims cap slots starts h rs sent got w n plan r x at) (inl (omega (arith, few, t)))
 
   -- so a whole sweep makes half a round more of every rank
   pub halves_more : (order : List ℕ) → IsOrder (ranks dims) order → (j : ℕ) → j + 1 ≤ 2 * top
-      → ((q r : ℕ) → q < length order → slice_get order q ≡ Some r → (x : RankState S) → slice_get rs r ≡ Some x → (x.over ≡ true) ⊎ MoverMade (most_rounds R (ranks dims) starts) (j + 1) x.over (w.cycle r) x.node.mover)
-      → AllMade (most_rounds R (ranks dims) starts) (j + 1) w.cycle rs
+      → ((q r : ℕ) → q < length order → slice_get order q ≡ Some r → (x : RankState S) → slice_get rs r ≡ Some x → (x.over ≡ true) ⊎ MoverMadeHalves (most_rounds R (ranks dims) starts) (j + 1) x.over (w.cycle r) x.node.mover)
+      → AllMadeHalves (most_rounds R (ranks dims) starts) (j + 1) w.cycle rs
   halves_more order is j few made r x at =
       let place = is.each r (omega (arith, within rs r x at, w.ranked.all)) in
       elim (made place.0 r (within order place.0 r place.1) place.1 x at) [
@@ -220,18 +220,18 @@ module _ {S : Type 0} (R : Rules S) (laws : Laws R) (law : ClosesLaws) (rest : R
   turns_enough (ByConveyor steady) = turns_low R steady dims starts n
   turns_enough ByExstack = round_turns R laws dims plan.shape plan.most starts plan.start n
 
-  sweeps_low : (manner : Manner) (h : ℕ → ℕ → S) (rs : List (RankState S)) (sent got : Logs) (w : World R dims cap slots manner starts h rs sent got) (sweeps : ℕ) → HasSwept R manner dims starts sweeps w.cycle rs sent got → sweeps ≤ most_sweeps R manner dims starts n
+  sweeps_low : (manner : Manner) (h : ℕ → ℕ → S) (rs : List (RankState S)) (sent got : Logs) (w : RanksOnBank R dims cap slots manner starts h rs sent got) (sweeps : ℕ) → HasSwept R manner dims starts sweeps w.cycle rs sent got → sweeps ≤ most_sweeps R manner dims starts n
   sweeps_low (ByConveyor steady) h rs sent got w sweeps made = let a = low R laws law rest dims cap slots steady starts n plan h rs sent got w in omega (arith, a, made)
   sweeps_low ByExstack h rs sent got w sweeps made = halves_within R laws law dims cap slots starts n plan h rs sent got w sweeps made
 
-  sweeps_lower : (manner : Manner) (h : ℕ → ℕ → S) (rs : List (RankState S)) (sent got : Logs) (w : World R dims cap slots manner starts h rs sent got) → GoesOn rs → (sweeps : ℕ) → HasSwept R manner dims starts sweeps w.cycle rs sent got
+  sweeps_lower : (manner : Manner) (h : ℕ → ℕ → S) (rs : List (RankState S)) (sent got : Logs) (w : RanksOnBank R dims cap slots manner starts h rs sent got) → GoesOn rs → (sweeps : ℕ) → HasSwept R manner dims starts sweeps w.cycle rs sent got
       → sweeps + 1 ≤ most_sweeps R manner dims starts n
   sweeps_lower (ByConveyor steady) h rs sent got w on sweeps made = let a = lower R laws law rest dims cap slots steady starts n plan h rs sent got w on in omega (arith, a, made)
   sweeps_lower ByExstack h rs sent got w on sweeps made = halves_lower R laws law dims cap slots starts n plan h rs sent got w on sweeps made
 
   -- a sweep is one more
-  sweep_more : (manner : Manner) (order : List ℕ) → IsOrder (ranks dims) order → (h : ℕ → ℕ → S) (rs rs' : List (RankState S)) (sent got sent' got' : Logs) (w : World R dims cap slots manner starts h rs sent got) → GoesOn rs
-      → (s : SweptTo R dims cap slots manner starts order (length order) w.cycle rs sent got rs' sent' got') → (sweeps : ℕ) → HasSwept R manner dims starts sweeps w.cycle rs sent got → HasSwept R manner dims starts (sweeps + 1) s.world.cycle rs' sent' got'
+  sweep_more : (manner : Manner) (order : List ℕ) → IsOrder (ranks dims) order → (h : ℕ → ℕ → S) (rs rs' : List (RankState S)) (sent got sent' got' : Logs) (w : RanksOnBank R dims cap slots manner starts h rs sent got) → GoesOn rs
+      → (s : AfterSomeTurns R dims cap slots manner starts order (length order) w.cycle rs sent got rs' sent' got') → (sweeps : ℕ) → HasSwept R manner dims starts sweeps w.cycle rs sent got → HasSwept R manner dims starts (sweeps + 1) s.world.cycle rs' sent' got'
   sweep_more (ByConveyor steady) order is h rs rs' sent got sent' got' w on s sweeps made =
       let a = more R laws law rest dims cap slots steady starts n plan order is h rs rs' sent got sent' got' w on w.cycle s in
       omega (arith, a, made)
@@ -256,7 +256,7 @@ module _ {S : Type 0} (R : Rules S) (laws : Laws R) (law : ClosesLaws) (rest : R
         omega (arith, a, b, c, more')
 
     pub reached_more : (order : List ℕ) → IsOrder (ranks dims) order → (rs rs' : List (RankState S)) (sent got sent' got' : Logs) (steps0 steps steps' : ℕ) → GoesOn rs → (r : Reached R dims cap slots manner starts steps0 rs sent got steps)
-        → SweptTo R dims cap slots manner starts order (length order) r.world.cycle rs sent got rs' sent' got' → steps' ≤ steps + length order → Reached R dims cap slots manner starts steps0 rs' sent' got' steps'
+        → AfterSomeTurns R dims cap slots manner starts order (length order) r.world.cycle rs sent got rs' sent' got' → steps' ≤ steps + length order → Reached R dims cap slots manner starts steps0 rs' sent' got' steps'
     reached_more order is rs rs' sent got sent' got' steps0 steps steps' on r s turned =
         record {
           h = s.h;
@@ -274,10 +274,10 @@ manner_in_all [] = ByExstack
 manner_in_all (x ∷ xs) = manner_in x.node.mover
 
 -- nothing was swept yet
-none_swept : {S : Type 0} (R : Rules S) (manner : Manner) (dims : List ℕ) (cap slots : ℕ) (starts : List S) (h : ℕ → ℕ → S) (rs : List (RankState S)) (sent got : Logs) (w : World R dims cap slots manner starts h rs sent got) → HasSwept R manner dims starts 0 w.cycle rs sent got
+none_swept : {S : Type 0} (R : Rules S) (manner : Manner) (dims : List ℕ) (cap slots : ℕ) (starts : List S) (h : ℕ → ℕ → S) (rs : List (RankState S)) (sent got : Logs) (w : RanksOnBank R dims cap slots manner starts h rs sent got) → HasSwept R manner dims starts 0 w.cycle rs sent got
 none_swept R (ByConveyor steady) dims cap slots starts h rs sent got w = omega arith
 none_swept {S} R ByExstack dims cap slots starts h rs sent got w = λ r x at. by x.over (w.cycle r) x.node.mover where
-  by : (o : Bool) (c : ℕ) (m : MoverState) → MoverMade (most_rounds R (ranks dims) starts) 0 o c m
+  by : (o : Bool) (c : ℕ) (m : MoverState) → MoverMadeHalves (most_rounds R (ranks dims) starts) 0 o c m
   by o c (Conveying y) = tt
   by o c (Stacking k y) = inl (omega arith)
 
@@ -286,7 +286,7 @@ pub record Driving {S : Type 0} (R : Rules S) (cap : ℕ) (rs0 : List (RankState
   pub is_bank : IsBank cap b
   pub same_dims : b.dims ≡ b0.dims
   pub same_slots : b.slots ≡ b0.slots
-  pub reached : (manner : Manner) (starts : List S) (n : ℕ) (h : ℕ → ℕ → S) → DrivePlan R b0.dims b0.slots starts n → World R b0.dims cap b0.slots manner starts h rs0 (sent_of b0) (got_of b0)
+  pub reached : (manner : Manner) (starts : List S) (n : ℕ) (h : ℕ → ℕ → S) → DrivePlan R b0.dims b0.slots starts n → RanksOnBank R b0.dims cap b0.slots manner starts h rs0 (sent_of b0) (got_of b0)
       → Reached R b0.dims cap b0.slots manner starts steps0 rs (sent_of b) (got_of b) steps
 
 pub driving_none : {S : Type 0} (R : Rules S) (cap : ℕ) (rs0 : List (RankState S)) (b0 : Bank) (steps0 : ℕ) → IsBank cap b0 → Driving R cap rs0 b0 steps0 rs0 b0 steps0
@@ -303,8 +303,8 @@ left R rs0 b0 steps0 steps = steps0 + turns_within R (manner_in_all rs0) b0.dims
 
 module _ {S : Type 0} (R : Rules S) (cap : ℕ) (rs0 : List (RankState S)) (b0 : Bank) (steps0 : ℕ) (rs : List (RankState S)) (b : Bank) (steps : ℕ) (v : Driving R cap rs0 b0 steps0 rs b steps) where
   -- all ranks between two sweeps
-  pub world_now : (manner : Manner) (starts : List S) (n : ℕ) (h : ℕ → ℕ → S) → DrivePlan R b0.dims b0.slots starts n → World R b0.dims cap b0.slots manner starts h rs0 (sent_of b0) (got_of b0)
-      → (manner : Manner) × (starts : List S) × (n : ℕ) × (h : ℕ → ℕ → S) × DrivePlan R b.dims b.slots starts n × World R b.dims cap b.slots manner starts h rs (sent_of b) (got_of b)
+  pub world_now : (manner : Manner) (starts : List S) (n : ℕ) (h : ℕ → ℕ → S) → DrivePlan R b0.dims b0.slots starts n → RanksOnBank R b0.dims cap b0.slots manner starts h rs0 (sent_of b0) (got_of b0)
+      → (manner : Manner) × (starts : List S) × (n : ℕ) × (h : ℕ → ℕ → S) × DrivePlan R b.dims b.slots starts n × RanksOnBank R b.dims cap b.slots manner starts h rs (sent_of b) (got_of b)
   world_now manner starts n h p w =
       let s = v.reached manner starts n h p w in (
         manner,
@@ -312,22 +312,22 @@ module _ {S : Type 0} (R : Rules S) (cap : ℕ) (rs0 : List (RankState S)) (b0 :
         n,
         s.h,
         subst (λ d. DrivePlan R d b.slots starts n) (sym v.same_dims) (subst (λ k. DrivePlan R b0.dims k starts n) (sym v.same_slots) p),
-        subst (λ d. World R d cap b.slots manner starts s.h rs (sent_of b) (got_of b)) (sym v.same_dims) (subst (λ k. World R b0.dims cap k manner starts s.h rs (sent_of b) (got_of b)) (sym v.same_slots) s.world),
+        subst (λ d. RanksOnBank R d cap b.slots manner starts s.h rs (sent_of b) (got_of b)) (sym v.same_dims) (subst (λ k. RanksOnBank R b0.dims cap k manner starts s.h rs (sent_of b) (got_of b)) (sym v.same_slots) s.world),
       )
 
   module _ (laws : Laws R) (law : ClosesLaws) (rest : RestLaw) (order : List ℕ) (is : IsOrder (ranks b0.dims) order) (on : GoesOn rs) (rs' : List (RankState S)) (b' : Bank) (steps' : ℕ)
       (lawful : IsBank cap b') (ed : b'.dims ≡ b.dims) (es : b'.slots ≡ b.slots) (turned : steps' ≤ steps + length order)
-      (swept : (manner : Manner) (starts : List S) (n : ℕ) (h : ℕ → ℕ → S) → DrivePlan R b.dims b.slots starts n → (w : World R b.dims cap b.slots manner starts h rs (sent_of b) (got_of b))
-      → SweptTo R b.dims cap b.slots manner starts order (length order) w.cycle rs (sent_of b) (got_of b) rs' (sent_of b') (got_of b')) where
-    swept_at : (manner : Manner) (starts : List S) (n : ℕ) (h : ℕ → ℕ → S) → DrivePlan R b0.dims b0.slots starts n → (w : World R b0.dims cap b0.slots manner starts h rs (sent_of b) (got_of b))
-        → SweptTo R b0.dims cap b0.slots manner starts order (length order) w.cycle rs (sent_of b) (got_of b) rs' (sent_of b') (got_of b')
+      (swept : (manner : Manner) (starts : List S) (n : ℕ) (h : ℕ → ℕ → S) → DrivePlan R b.dims b.slots starts n → (w : RanksOnBank R b.dims cap b.slots manner starts h rs (sent_of b) (got_of b))
+      → AfterSomeTurns R b.dims cap b.slots manner starts order (length order) w.cycle rs (sent_of b) (got_of b) rs' (sent_of b') (got_of b')) where
+    swept_at : (manner : Manner) (starts : List S) (n : ℕ) (h : ℕ → ℕ → S) → DrivePlan R b0.dims b0.slots starts n → (w : RanksOnBank R b0.dims cap b0.slots manner starts h rs (sent_of b) (got_of b))
+        → AfterSomeTurns R b0.dims cap b0.slots manner starts order (length order) w.cycle rs (sent_of b) (got_of b) rs' (sent_of b') (got_of b')
     swept_at =
-        subst (λ d. (manner : Manner) (starts : List S) (n : ℕ) (h : ℕ → ℕ → S) → DrivePlan R d b0.slots starts n → (w : World R d cap b0.slots manner starts h rs (sent_of b) (got_of b))
-        → SweptTo R d cap b0.slots manner starts order (length order) w.cycle rs (sent_of b) (got_of b) rs' (sent_of b') (got_of b')) v.same_dims
-        (subst (λ k. (manner : Manner) (starts : List S) (n : ℕ) (h : ℕ → ℕ → S) → DrivePlan R b.dims k starts n → (w : World R b.dims cap k manner starts h rs (sent_of b) (got_of b))
-        → SweptTo R b.dims cap k manner starts order (length order) w.cycle rs (sent_of b) (got_of b) rs' (sent_of b') (got_of b')) v.same_slots swept)
+        subst (λ d. (manner : Manner) (starts : List S) (n : ℕ) (h : ℕ → ℕ → S) → DrivePlan R d b0.slots starts n → (w : RanksOnBank R d cap b0.slots manner starts h rs (sent_of b) (got_of b))
+        → AfterSomeTurns R d cap b0.slots manner starts order (length order) w.cycle rs (sent_of b) (got_of b) rs' (sent_of b') (got_of b')) v.same_dims
+        (subst (λ k. (manner : Manner) (starts : List S) (n : ℕ) (h : ℕ → ℕ → S) → DrivePlan R b.dims k starts n → (w : RanksOnBank R b.dims cap k manner starts h rs (sent_of b) (got_of b))
+        → AfterSomeTurns R b.dims cap k manner starts order (length order) w.cycle rs (sent_of b) (got_of b) rs' (sent_of b') (got_of b')) v.same_slots swept)
 
-    reached' : (manner : Manner) (starts : List S) (n : ℕ) (h : ℕ → ℕ → S) → DrivePlan R b0.dims b0.slots starts n → World R b0.dims cap b0.slots manner starts h rs0 (sent_of b0) (got_of b0)
+    reached' : (manner : Manner) (starts : List S) (n : ℕ) (h : ℕ → ℕ → S) → DrivePlan R b0.dims b0.slots starts n → RanksOnBank R b0.dims cap b0.slots manner starts h rs0 (sent_of b0) (got_of b0)
         → Reached R b0.dims cap b0.slots manner starts steps0 rs' (sent_of b') (got_of b') steps'
     reached' manner starts n h p w0 =
         let r = v.reached manner starts n h p w0 in
@@ -336,7 +336,7 @@ module _ {S : Type 0} (R : Rules S) (cap : ℕ) (rs0 : List (RankState S)) (b0 :
     pub driving_more : Driving R cap rs0 b0 steps0 rs' b' steps'
     driving_more = record { is_bank = lawful; same_dims = ed ∙ v.same_dims; same_slots = es ∙ v.same_slots; reached = reached' }
 
-    pub fewer_left : steps < steps' → (manner : Manner) (n : ℕ) (h : ℕ → ℕ → S) (p : DrivePlan R b0.dims b0.slots (progs_of rs0) n) → n ≤ p.most → World R b0.dims cap b0.slots manner (progs_of rs0) h rs0 (sent_of b0) (got_of b0)
+    pub fewer_left : steps < steps' → (manner : Manner) (n : ℕ) (h : ℕ → ℕ → S) (p : DrivePlan R b0.dims b0.slots (progs_of rs0) n) → n ≤ p.most → RanksOnBank R b0.dims cap b0.slots manner (progs_of rs0) h rs0 (sent_of b0) (got_of b0)
         → left R rs0 b0 steps0 steps' < left R rs0 b0 steps0 steps
     fewer_left rose manner n h p few w0 =
         let r = reached' manner (progs_of rs0) n h p w0 in

@@ -26,13 +26,13 @@ use Rattle.rank_group.specs.RoundProgress.{emission_count, quota_of, IsBetween}
 use Rattle.rank_group.proofs.Cycled.{not_over}
 use Rattle.rank_node.specs.Nodes.{IsNode}
 use Rattle.rank_group.specs.Ranks.{RankState, AllRanks}
-use Rattle.rank_group.specs.Transcript.{TellsRun, turns_within}
+use Rattle.rank_group.specs.Transcript.{RecordsRun, turns_within}
 use Rattle.route_tensor.proofs.Coordinates.{ranks_some}
 use Rattle.rank_group.proofs.Orders.{lawful}
 use Rattle.rank_group.proofs.Movers.{shape_none}
 use Rattle.rank_group.proofs.Telling.{tells_run}
 use Rattle.rank_group.proofs.Worlds.{over_at_last}
-use Rattle.rank_group.specs.RanksOverBank.{World, DrivePlan, inbox, mover_in, progress_in, all_progress}
+use Rattle.rank_group.specs.RanksOverBank.{RanksOnBank, DrivePlan, inbox, mover_in, progress_in, all_progress}
 use Rattle.rank_group.specs.Drives.{progs_of, AreFresh}
 
 -- all ranks as a drive begins, over its bank
@@ -40,7 +40,7 @@ pub record Begun {S : Type 0} (R : Rules S) (cap : ℕ) (manner : Manner) (start
   pub h : ℕ → ℕ → S
   pub plan : DrivePlan R b.dims b.slots starts n
   pub few : n ≤ plan.most
-  pub world : World R b.dims cap b.slots manner starts h rs (sent_of b) (got_of b)
+  pub world : RanksOnBank R b.dims cap b.slots manner starts h rs (sent_of b) (got_of b)
 
 slots_some : (slots : ℕ) → IsSlots slots → 0 < slots
 unfolding IsSlots
@@ -126,24 +126,24 @@ module _ {S : Type 0} (R : Rules S) (laws : Laws R) (cap : ℕ) (dims : List ℕ
       (begun R laws cap dims slots manner starts shape most n rs fresh some (subst (IsBank cap) made is) start rounds (let e = rounds_once R starts n ends.rounds rounds ends.has_rounds in let l = ends.at_most in omega (arith, e, l)))
 
   -- what the sweeps need
-  pub run_needs : (manner : Manner) × (n : ℕ) × (h : ℕ → ℕ → S) × (plan : DrivePlan R b.dims b.slots (progs_of rs) n) × (n ≤ plan.most) × World R b.dims cap b.slots manner (progs_of rs) h rs (sent_of b) (got_of b)
+  pub run_needs : (manner : Manner) × (n : ℕ) × (h : ℕ → ℕ → S) × (plan : DrivePlan R b.dims b.slots (progs_of rs) n) × (n ≤ plan.most) × RanksOnBank R b.dims cap b.slots manner (progs_of rs) h rs (sent_of b) (got_of b)
   run_needs =
       let x : Begun R cap manner (progs_of rs) ends.rounds rs b = subst (λ ps. Begun R cap manner ps ends.rounds rs b) (sym fresh.programs) (begun_at ends.rounds ends.has_rounds) in
       (manner, ends.rounds, x.h, x.plan, x.few, x.world)
 
   -- and what they leave
-  pub steps_at : (steps steps' : ℕ) → ((manner : Manner) (starts : List S) (n : ℕ) (h : ℕ → ℕ → S) → DrivePlan R b.dims b.slots starts n → World R b.dims cap b.slots manner starts h rs (sent_of b) (got_of b) → steps' ≤ steps + turns_within R manner b.dims starts n)
+  pub steps_at : (steps steps' : ℕ) → ((manner : Manner) (starts : List S) (n : ℕ) (h : ℕ → ℕ → S) → DrivePlan R b.dims b.slots starts n → RanksOnBank R b.dims cap b.slots manner starts h rs (sent_of b) (got_of b) → steps' ≤ steps + turns_within R manner b.dims starts n)
       → (n : ℕ) → HasRounds R starts n → steps' ≤ steps + turns_within R manner dims starts n
-  steps_at steps steps' told n rounds =
+  steps_at steps steps' notified n rounds =
       let x = begun_at n rounds in
-      subst (λ ds. steps' ≤ steps + turns_within R manner ds starts n) (ap (λ (y : Bank). y.dims) made) (told manner starts n x.h x.plan x.world)
+      subst (λ ds. steps' ≤ steps + turns_within R manner ds starts n) (ap (λ (y : Bank). y.dims) made) (notified manner starts n x.h x.plan x.world)
 
-  pub world_after : (rs' : List (RankState S)) (b' : Bank) → ((manner : Manner) (starts : List S) (n : ℕ) (h : ℕ → ℕ → S) → DrivePlan R b.dims b.slots starts n → World R b.dims cap b.slots manner starts h rs (sent_of b) (got_of b)
-      → (g : ℕ → ℕ → S) × World R b.dims cap b.slots manner starts g rs' (sent_of b') (got_of b')) → (g : ℕ → ℕ → S) × World R dims cap slots manner starts g rs' (sent_of b') (got_of b')
-  world_after rs' b' told =
+  pub world_after : (rs' : List (RankState S)) (b' : Bank) → ((manner : Manner) (starts : List S) (n : ℕ) (h : ℕ → ℕ → S) → DrivePlan R b.dims b.slots starts n → RanksOnBank R b.dims cap b.slots manner starts h rs (sent_of b) (got_of b)
+      → (g : ℕ → ℕ → S) × RanksOnBank R b.dims cap b.slots manner starts g rs' (sent_of b') (got_of b')) → (g : ℕ → ℕ → S) × RanksOnBank R dims cap slots manner starts g rs' (sent_of b') (got_of b')
+  world_after rs' b' notified =
       let x = begun_at ends.rounds ends.has_rounds in
-      let w = told manner starts ends.rounds x.h x.plan x.world in
-      (w.0, subst (λ (y : Bank). World R y.dims cap y.slots manner starts w.0 rs' (sent_of b') (got_of b')) made w.1)
+      let w = notified manner starts ends.rounds x.h x.plan x.world in
+      (w.0, subst (λ (y : Bank). RanksOnBank R y.dims cap y.slots manner starts w.0 rs' (sent_of b') (got_of b')) made w.1)
 
 logs_map : (f : Channel → List Shipped) (channels : List Channel) → f unused_channel ≡ [] → (l : ℕ) → logs_of (map f channels) l ≡ f (get_or channels l unused_channel)
 logs_map f [] e l = sym e
@@ -189,9 +189,9 @@ module _ {S : Type 0} (R : Rules S) (laws : Laws R) (law : ClosesLaws) (cap : �
     (ed : b.dims ≡ dims) (es : b.slots ≡ slots) (w : AllRanks R dims cap slots manner starts h rs (sent_of b) (got_of b)) (over : (r : ℕ) (x : RankState S) → slice_get rs r ≡ Some x → x.over ≡ true)
     (shape : List ℕ) (most n : ℕ) (start : InRound R (ranks dims) 0 shape most starts) (rounds : HasRounds R starts n) where
   -- and the closed bank tells the run
-  pub told : (round : Round) → round ≡ round_of_bank cap b → IsRound round → TellsRun R starts n (record { dims = dims; cap = cap; slots = slots; by_slots = false }) manner round
-  told round is in_order =
-      subst (λ c. TellsRun R starts n (record { dims = dims; cap = cap; slots = slots; by_slots = false }) manner c) (sym is)
+  pub notified : (round : Round) → round ≡ round_of_bank cap b → IsRound round → RecordsRun R starts n (record { dims = dims; cap = cap; slots = slots; by_slots = false }) manner round
+  notified round is in_order =
+      subst (λ c. RecordsRun R starts n (record { dims = dims; cap = cap; slots = slots; by_slots = false }) manner c) (sym is)
       (tells_run R laws law (round_of_bank cap b) cap slots manner starts h rs world (subst IsRound is in_order).in_order over shape most n (subst (λ ds. InRound R (ranks ds) 0 shape most starts) (sym ed) start) rounds
       (record { dims = dims; cap = cap; slots = slots; by_slots = false }) (ap (λ ds. record { dims = ds; cap = cap; slots = b.slots; by_slots = false }) ed ∙ ap (λ k. record { dims = dims; cap = cap; slots = k; by_slots = false }) es) refl) where
         sent : ◌≡◌ {A = Logs} (sent_of b) (logs_of (map (λ c. c.sent) b.channels))

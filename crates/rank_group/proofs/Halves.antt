@@ -16,7 +16,7 @@ use Rattle.exstack.proofs.Lockstep.{begins, sent_own, got_own, out_end, out_is, 
 use Rattle.rank_node.specs.Cycles.{IsOnward, Awaits}
 use Rattle.rank_node.specs.Moves.{WaitsFor}
 use Rattle.rank_group.specs.Ranks.{crowded_in, idle_in}
-use Rattle.rank_group.specs.RoundProgress.{rounds_made, IsHalfway, HasMade}
+use Rattle.rank_group.specs.RoundProgress.{rounds_made, IsHalfway, HasMadeHalves}
 
 -- more terms, no smaller sum
 pub total_more : (f : ℕ → ℕ) (a b : ℕ) → a ≤ b → total a f ≤ total b f
@@ -80,11 +80,11 @@ stays_within n Exchanging Start on going same = absurd (false≢true on)
 stays_within n AllDone Start on going same = absurd (cc)
 
 -- halves of rounds, and rounds
-pub halves_low : (most : ℕ → ℕ) (j : ℕ) (over : Bool) (n : ℕ) (x : Stack) → HasMade most j over n x → j ≤ 2 * rounds_made most over n x + 1
+pub halves_low : (most : ℕ → ℕ) (j : ℕ) (over : Bool) (n : ℕ) (x : Stack) → HasMadeHalves most j over n x → j ≤ 2 * rounds_made most over n x + 1
 halves_low most j over n x (inl low) = omega (arith, low)
 halves_low most j over n x (inr here) = omega (arith, here.0)
 
-pub halves_less : (most : ℕ → ℕ) (j : ℕ) (over : Bool) (n : ℕ) (x : Stack) → HasMade most (j + 1) over n x → HasMade most j over n x
+pub halves_less : (most : ℕ → ℕ) (j : ℕ) (over : Bool) (n : ℕ) (x : Stack) → HasMadeHalves most (j + 1) over n x → HasMadeHalves most j over n x
 halves_less most j over n x (inl low) = inl (omega (arith, low))
 halves_less most j over n x (inr here) = inl (omega (arith, here.0))
 
@@ -134,7 +134,7 @@ module _ (room : RoomLaw) (arrival : ArrivalLaw) (p cap slots : ℕ) (most : ℕ
     (x : Stack) (k : ℕ) (before : Logs) (same_ranks : x.ranks ≡ p) (same_rank : x.rank ≡ r) (same_epoch : (all r).epoch ≡ x.epoch) (cycle : n r ≡ cycle_after k x.stage) (onward : IsOnward x.stage (all r).stage)
     (awaits : Awaits (all r)) (waits : WaitsFor x (all r) before (ending_at (p ∷ []) r got) (crowded_in (p ∷ []) slots r sent got) (idle_in (p ∷ []) r sent got))
     (still : finished_in (n r) (all r).stage ≡ finished_in k x.stage → (b : ℕ) → b < p → (stack_out_at (all r) b).due ≡ true → ending_at (p ∷ []) r got (stack_link_to x b) ≡ before (stack_link_to x b))
-    (j : ℕ) (others : (b : ℕ) → b < p → b ≢ r → HasMade most j (over b) (n b) (all b)) (mine : HasMade most j false k x) where
+    (j : ℕ) (others : (b : ℕ) → b < p → b ≢ r → HasMadeHalves most j (over b) (n b) (all b)) (mine : HasMadeHalves most j false k x) where
   abbrev e : ℕ
   e = (all r).epoch
 
@@ -229,7 +229,7 @@ module _ (room : RoomLaw) (arrival : ArrivalLaw) (p cap slots : ℕ) (most : ℕ
       posted : (a : ℕ) → a < p → a ≢ r → over a ≡ false → HasPostedRounds e f (n a) (all a)
       posted a la apart off =
           let c = made_by a off in
-          let h : HasMade most j (over a) (n a) (all a) = others a la apart in
+          let h : HasMadeHalves most j (over a) (n a) (all a) = others a la apart in
           let u = halves_low most j (over a) (n a) (all a) h in
           elim (cases_order (all a).epoch e) [
             | inr (inr more) ↦ inl more
@@ -281,7 +281,7 @@ module _ (room : RoomLaw) (arrival : ArrivalLaw) (p cap slots : ℕ) (most : ℕ
       ]
 
   -- so it has made half a round more
-  pub half_more : HasMade most (j + 1) false (n r) (all r)
+  pub half_more : HasMadeHalves most (j + 1) false (n r) (all r)
   half_more = elim (cases_lt j (2 * m)) [
     | inl below ↦ inl (omega (arith, below))
     | inr above ↦

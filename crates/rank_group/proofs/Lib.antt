@@ -27,7 +27,7 @@ pub mod Cycled
 pub mod Stacks
 pub mod Quotas
 pub mod OwnLink
-pub mod Made
+pub mod BankShape
 pub mod Crosses
 pub mod Quiet
 pub mod NotedMoves

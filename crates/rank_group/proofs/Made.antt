@@ -22,8 +22,8 @@ use Rattle.rank_node.specs.Moves.{WaitsFor, Waits}
 use Rattle.rank_node.specs.Cycles.{IsOnward, Awaits, TurnsOnward, AwaitsSome, cycle_of_turn}
 use Rattle.rank_group.specs.Closes.{ClosesLaws}
 use Rattle.rank_group.specs.Ranks.{RankState, AfterRank, StaysIn, EndsEpoch, crowded_in, idle_in}
-use Rattle.rank_group.specs.RoundProgress.{most_rounds, rounds_made, HasMade, MoverMade, next_cycle}
-use Rattle.rank_group.specs.RanksOverBank.{World, DrivePlan, AllMade}
+use Rattle.rank_group.specs.RoundProgress.{most_rounds, rounds_made, HasMadeHalves, MoverMadeHalves, next_cycle}
+use Rattle.rank_group.specs.RanksOverBank.{RanksOnBank, DrivePlan, AllMadeHalves}
 use Rattle.rank_group.proofs.Worlds.{stack_of}
 use Rattle.exstack.proofs.Lockstep.{got_own}
 use Rattle.rank_group.proofs.Halves.{halves_low, halves_less, half_more}
@@ -32,11 +32,11 @@ use Rattle.rank_group.proofs.Stacks.{over_in, stack_in, rank_at, stack_is, one, 
 use Rattle.rank_group.proofs.OwnLink.{own_still}
 
 -- of a mover that is an exstack
-pub to_stack : (most : ℕ → ℕ) (j : ℕ) (o : Bool) (c : ℕ) (m : MoverState) (cap : ℕ) → m ≡ Stacking cap (stack_of m) → MoverMade most j o c m → HasMade most j o c (stack_of m)
+pub to_stack : (most : ℕ → ℕ) (j : ℕ) (o : Bool) (c : ℕ) (m : MoverState) (cap : ℕ) → m ≡ Stacking cap (stack_of m) → MoverMadeHalves most j o c m → HasMadeHalves most j o c (stack_of m)
 to_stack most j o c (Conveying y) cap e is = absurd (cc)
 to_stack most j o c (Stacking k x) cap e is = is
 
-pub of_stack : (most : ℕ → ℕ) (j : ℕ) (o : Bool) (c : ℕ) (m : MoverState) (cap : ℕ) → m ≡ Stacking cap (stack_of m) → HasMade most j o c (stack_of m) → MoverMade most j o c m
+pub of_stack : (most : ℕ → ℕ) (j : ℕ) (o : Bool) (c : ℕ) (m : MoverState) (cap : ℕ) → m ≡ Stacking cap (stack_of m) → HasMadeHalves most j o c (stack_of m) → MoverMadeHalves most j o c m
 of_stack most j o c (Conveying y) cap e is = absurd (cc)
 of_stack most j o c (Stacking k x) cap e is = is
 
@@ -66,10 +66,10 @@ epoch_is : (m : MoverState) (cap : ℕ) → m ≡ Stacking cap (stack_of m) → 
 epoch_is m cap e = ap epoch_in e
 
 module _ {S : Type 0} (R : Rules S) (laws : Laws R) (law : ClosesLaws) (dims : List ℕ) (cap slots : ℕ) (starts : List S) (h g : ℕ → ℕ → S) (r : ℕ) (n n' : RankState S) (rs rs' : List (RankState S)) (sent got sent' got' : Logs)
-    (w : World R dims cap slots ByExstack starts h rs sent got) (v : World R dims cap slots ByExstack starts g rs' sent' got') (rounds : ℕ) (plan : DrivePlan R dims slots starts rounds)
+    (w : RanksOnBank R dims cap slots ByExstack starts h rs sent got) (v : RanksOnBank R dims cap slots ByExstack starts g rs' sent' got') (rounds : ℕ) (plan : DrivePlan R dims slots starts rounds)
     (at : slice_get rs r ≡ Some n) (at' : slice_get rs' r ≡ Some n') (others : (k : ℕ) → k ≢ r → slice_get rs' k ≡ slice_get rs k) (t : AfterRank R dims cap slots r n n' sent got sent' got')
     (grows : (l : ℕ) → IsPrefix (got l) (got' l)) (here : v.cycle r ≡ next_cycle (w.cycle r) n n') (elsewhere : (k : ℕ) → k ≢ r → v.cycle k ≡ w.cycle k)
-    (j : ℕ) (all : AllMade (most_rounds R (ranks dims) starts) j w.cycle rs) where
+    (j : ℕ) (all : AllMadeHalves (most_rounds R (ranks dims) starts) j w.cycle rs) where
   abbrev p : ℕ
   p = ranks dims
 
@@ -92,20 +92,20 @@ module _ {S : Type 0} (R : Rules S) (laws : Laws R) (law : ClosesLaws) (dims : L
   is' = stack_is R laws law dims cap slots starts g rs' sent' got' v rounds plan r n' at'
 
   -- the others made what they had made
-  other_made : (k : ℕ) → k ≢ r → (y : RankState S) → slice_get rs' k ≡ Some y → MoverMade most j y.over (v.cycle k) y.node.mover
-  other_made k apart y now = subst (λ c. MoverMade most j y.over c y.node.mover) (sym (elsewhere k apart)) (all k y (sym (others k apart) ∙ now))
+  other_made : (k : ℕ) → k ≢ r → (y : RankState S) → slice_get rs' k ≡ Some y → MoverMadeHalves most j y.over (v.cycle k) y.node.mover
+  other_made k apart y now = subst (λ c. MoverMadeHalves most j y.over c y.node.mover) (sym (elsewhere k apart)) (all k y (sym (others k apart) ∙ now))
 
-  other_stacks : (k : ℕ) → k < p → k ≢ r → HasMade most j (over_in (slice_get rs' k)) (v.cycle k) (stack_in (slice_get rs' k))
+  other_stacks : (k : ℕ) → k < p → k ≢ r → HasMadeHalves most j (over_in (slice_get rs' k)) (v.cycle k) (stack_in (slice_get rs' k))
   other_stacks k lk apart =
       let y = rank_at R laws law dims cap slots starts g rs' sent' got' v rounds plan k lk in
-      subst (λ o. HasMade most j (over_in o) (v.cycle k) (stack_in o)) (sym y.1)
+      subst (λ o. HasMadeHalves most j (over_in o) (v.cycle k) (stack_in o)) (sym y.1)
       (to_stack most j y.0.over (v.cycle k) y.0.node.mover cap (stack_is R laws law dims cap slots starts g rs' sent' got' v rounds plan k y.0 y.1) (other_made k apart y.0 y.1))
 
-  mine : n.over ≡ false → HasMade most j false (w.cycle r) x
-  mine on = subst (λ o. HasMade most j o (w.cycle r) x) on (to_stack most j n.over (w.cycle r) n.node.mover cap is (all r n at))
+  mine : n.over ≡ false → HasMadeHalves most j false (w.cycle r) x
+  mine on = subst (λ o. HasMadeHalves most j o (w.cycle r) x) on (to_stack most j n.over (w.cycle r) n.node.mover cap is (all r n at))
 
   -- a rank whose epoch ended
-  ended : n.over ≡ false → EndsEpoch R dims r n n' sent got sent' got' → HasMade most (j + 1) n'.over (v.cycle r) x'
+  ended : n.over ≡ false → EndsEpoch R dims r n n' sent got sent' got' → HasMadeHalves most (j + 1) n'.over (v.cycle r) x'
   ended on z =
       let s : finished_in (w.cycle r) (stack_in (slice_get rs r)).stage < most (stack_in (slice_get rs r)).epoch = short R laws law dims cap slots starts h rs sent got w rounds plan r low (ap over_in at ∙ on) in
       let s' : finished_in (w.cycle r) x.stage < most x.epoch = subst (λ o. finished_in (w.cycle r) (stack_in o).stage < most (stack_in o).epoch) at s in
@@ -180,38 +180,38 @@ module _ {S : Type 0} (R : Rules S) (laws : Laws R) (law : ClosesLaws) (dims : L
               ap (λ c. cond c (got' (number p r b)) []) off ∙ sym (ap (λ c. cond c (got (number p r b)) []) off)
         ])
 
-    stays : HasMade most (j + 1) n'.over (v.cycle r) x'
+    stays : HasMadeHalves most (j + 1) n'.over (v.cycle r) x'
     stays =
-        let half : HasMade most (j + 1) false (v.cycle r) now =
+        let half : HasMadeHalves most (j + 1) false (v.cycle r) now =
         half_more law.room law.arrival p cap slots most (2 * rounds) (λ k. over_in (slice_get rs' k)) v.cycle (λ k. stack_in (slice_get rs' k)) sent' got' plan.some
         (all_stacks R laws law dims cap slots starts g rs' sent' got' v rounds plan) r low (ap over_in at' ∙ s.still) going x (w.cycle r) (ending_at (p ∷ []) r got) same_ranks same_rank
         same_epoch cycle onward awaits waits still j other_stacks (mine on) in
-        subst (λ o. HasMade most (j + 1) o (v.cycle r) x') (sym s.still) (subst (λ o. HasMade most (j + 1) false (v.cycle r) (stack_in o)) at' half)
+        subst (λ o. HasMadeHalves most (j + 1) o (v.cycle r) x') (sym s.still) (subst (λ o. HasMadeHalves most (j + 1) false (v.cycle r) (stack_in o)) at' half)
 
   -- the rank that was turned has made half a round more, unless its run is over
-  turned : (MoverMade most j n'.over (v.cycle r) n'.node.mover) × ((n'.over ≡ true) ⊎ MoverMade most (j + 1) n'.over (v.cycle r) n'.node.mover)
+  turned : (MoverMadeHalves most j n'.over (v.cycle r) n'.node.mover) × ((n'.over ≡ true) ⊎ MoverMadeHalves most (j + 1) n'.over (v.cycle r) n'.node.mover)
   turned = elim (cases_Bool n.over) [
     | inl over ↦
         let u = t.unturned over in
         let c : v.cycle r ≡ w.cycle r = here ∙ cycle_over (w.cycle r) n n' over in (
-          subst (λ k. MoverMade most j n'.over k n'.node.mover) (sym c) (subst (λ (y : RankState S). MoverMade most j y.over (w.cycle r) y.node.mover) (sym u.same) (all r n at)),
+          subst (λ k. MoverMadeHalves most j n'.over k n'.node.mover) (sym c) (subst (λ (y : RankState S). MoverMadeHalves most j y.over (w.cycle r) y.node.mover) (sym u.same) (all r n at)),
           inl (ap (λ (y : RankState S). y.over) u.same ∙ over),
         )
     | inr on ↦
-        let made : HasMade most (j + 1) n'.over (v.cycle r) x' = elim (t.turned on) [
+        let made : HasMadeHalves most (j + 1) n'.over (v.cycle r) x' = elim (t.turned on) [
           | inl s ↦ stays on s
           | inr z ↦ ended on z
         ] in
         (of_stack most j n'.over (v.cycle r) n'.node.mover cap is' (halves_less most j n'.over (v.cycle r) x' made), inr (of_stack most (j + 1) n'.over (v.cycle r) n'.node.mover cap is' made))
   ]
 
-  pub made_here : (n'.over ≡ true) ⊎ MoverMade most (j + 1) n'.over (v.cycle r) n'.node.mover
+  pub made_here : (n'.over ≡ true) ⊎ MoverMadeHalves most (j + 1) n'.over (v.cycle r) n'.node.mover
   made_here = turned.1
 
-  pub all_made : AllMade most j v.cycle rs'
+  pub all_made : AllMadeHalves most j v.cycle rs'
   all_made k y now = elim (cases_eq k r) [
     | inr apart ↦ other_made k apart y now
     | inl own ↦
         let e : n' ≡ y = get_once rs' r n' y at' (subst (λ q. slice_get rs' q ≡ Some y) own now) in
-        subst (λ q. MoverMade most j y.over (v.cycle q) y.node.mover) (sym own) (subst (λ (z : RankState S). MoverMade most j z.over (v.cycle r) z.node.mover) e turned.0)
+        subst (λ q. MoverMadeHalves most j y.over (v.cycle q) y.node.mover) (sym own) (subst (λ (z : RankState S). MoverMadeHalves most j z.over (v.cycle r) z.node.mover) e turned.0)
   ]

@@ -32,13 +32,13 @@ use Rattle.rank_group.proofs.Bounds.{pushed_all, none_past}
 use Rattle.rank_group.proofs.Counted.{by_segments, pushed_in, all_links, log_short}
 use Rattle.rank_group.proofs.Pushed.{items_before}
 use Rattle.rank_group.proofs.Worlds.{Core, core, still_within, over_at_last}
-use Rattle.rank_group.specs.RanksOverBank.{parcel_entries, World, move_of, moves}
+use Rattle.rank_group.specs.RanksOverBank.{parcel_entries, RanksOnBank, move_of, moves}
 
 total_times : (n k : ℕ) (f : ℕ → ℕ) → total n (λ e. k * f e) ≡ k * total n f
 total_times zero k f = omega arith
 total_times (suc n) k f = ap (λ t. t + k * f n) (total_times n k f) ∙ sym (mul-add k (total n f) (f n))
 
-module _ {S : Type 0} (R : Rules S) (laws : Laws R) (law : ClosesLaws) (dims : List ℕ) (cap slots : ℕ) (steady : Bool) (starts : List S) (h : ℕ → ℕ → S) (rs : List (RankState S)) (sent got : Logs) (w : World R dims cap slots (ByConveyor steady) starts h rs sent got)
+module _ {S : Type 0} (R : Rules S) (laws : Laws R) (law : ClosesLaws) (dims : List ℕ) (cap slots : ℕ) (steady : Bool) (starts : List S) (h : ℕ → ℕ → S) (rs : List (RankState S)) (sent got : Logs) (w : RanksOnBank R dims cap slots (ByConveyor steady) starts h rs sent got)
     (shape : List ℕ) (most n : ℕ) (start : InRound R (ranks dims) 0 shape most starts) (rounds : HasRounds R starts n) where
   epoch_low : (s : ℕ) (x : RankState S) → slice_get rs s ≡ Some x → epoch_in x.node.mover < 2 * n
   epoch_low s x at = elim (cases_Bool x.over) [

@@ -6,21 +6,21 @@ use Rattle.link_slots.proofs.Ported.{one_bank}
 use Rattle.round_program.specs.Rules.{Rules}
 use Rattle.rank_node.specs.Movers.{Manner, epoch_in}
 use Rattle.rank_group.specs.Ranks.{RankState, IsRank, progress}
-use Rattle.rank_group.specs.Seats.{SeatedState, bank_of, HasWay, Ran}
+use Rattle.rank_group.specs.Seats.{SeatedState, bank_of, HasSomeRun, TookTurns}
 
 -- a rank that was turned is still on some way
-pub has_way : {S : Type 0} (R : Rules S) (cap : ℕ) (told : ℕ → ℕ → Bool) (x y : SeatedState S) → HasWay R cap x → Ran R cap told x y → HasWay R cap y
-has_way R cap told x y w ran = let m = ran.kept w.manner w.h w.way in record { manner = w.manner; h = m.0; way = m.2 }
+pub has_way : {S : Type 0} (R : Rules S) (cap : ℕ) (notified : ℕ → ℕ → Bool) (x y : SeatedState S) → HasSomeRun R cap x → TookTurns R cap notified x y → HasSomeRun R cap y
+has_way R cap notified x y w ran = let m = ran.kept w.manner w.h w.way in record { manner = w.manner; h = m.0; way = m.2 }
 
-module _ {S : Type 0} (R : Rules S) (cap : ℕ) (x : SeatedState S) (rank : RankState S) (seat : Manning) (same : bank_of (record x { seat = seat }) ≡ bank_of x) (er : seat.rank ≡ x.seat.rank) (told : ℕ → ℕ → Bool) (heard : told x.seat.rank x.turns ≡ true) where
-  one_more : (n : ℕ) → x.turns ≤ n → n < x.turns + 1 → told x.seat.rank n ≡ true
-  one_more n low high = let e : x.turns ≡ n = omega (arith, low, high) in subst (λ k. told x.seat.rank k ≡ true) e heard
+module _ {S : Type 0} (R : Rules S) (cap : ℕ) (x : SeatedState S) (rank : RankState S) (seat : Manning) (same : bank_of (record x { seat = seat }) ≡ bank_of x) (er : seat.rank ≡ x.seat.rank) (notified : ℕ → ℕ → Bool) (heard : notified x.seat.rank x.turns ≡ true) where
+  one_more : (n : ℕ) → x.turns ≤ n → n < x.turns + 1 → notified x.seat.rank n ≡ true
+  one_more n low high = let e : x.turns ≡ n = omega (arith, low, high) in subst (λ k. notified x.seat.rank k ≡ true) e heard
 
   -- by a turn
   pub turned : x.lost ≡ false → x.rank.over ≡ false → progress rank ≤ progress x.rank + 1
       → ((manner : Manner) (h : ℕ → S) → IsRank R x.seat.shape.dims cap manner x.seat.rank h x.rank (posted_on x.seat) (collected_from x.seat)
       → (g : ℕ → S) × (g 0 ≡ h 0) × IsRank R x.seat.shape.dims cap manner x.seat.rank g rank (posted_on seat) (collected_from seat))
-      → Ran R cap told x (record { rank = rank; seat = seat; turns = x.turns + 1; lost = x.lost })
+      → TookTurns R cap notified x (record { rank = rank; seat = seat; turns = x.turns + 1; lost = x.lost })
   turned kept going epoch more =
       record {
         bank = same;
@@ -40,7 +40,7 @@ module _ {S : Type 0} (R : Rules S) (cap : ℕ) (x : SeatedState S) (rank : Rank
       }
 
   -- and where memory was wanting nothing more is asked
-  pub gave_up : Ran R cap told x (record { rank = rank; seat = seat; turns = x.turns + 1; lost = true })
+  pub gave_up : TookTurns R cap notified x (record { rank = rank; seat = seat; turns = x.turns + 1; lost = true })
   gave_up = record { bank = same; number = er; more = omega arith; heard = one_more; kept = λ manner h is. (h, refl, record { runs = λ q. absurd (true≢false q); few = λ q. absurd (true≢false q) }) }
 
 -- a rank that goes on has completed the epochs before its own

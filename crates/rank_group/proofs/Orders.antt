@@ -18,12 +18,12 @@ use Rattle.rank_node.specs.Movers.MoverState.{Conveying, Stacking}
 use Rattle.rank_node.specs.Movers.Manner.{ByConveyor, ByExstack}
 use Rattle.port_bank.specs.Flow.{IsPrefix}
 use Rattle.rank_group.specs.Closes.{ClosesLaws}
-use Rattle.rank_group.specs.RoundProgress.{most_rounds, MoverMade, next_cycle}
+use Rattle.rank_group.specs.RoundProgress.{most_rounds, MoverMadeHalves, next_cycle}
 use Rattle.rank_group.specs.Ranks.{RankState, AfterRank, IsOrder, progress}
-use Rattle.rank_group.specs.RanksOverBank.{World, inbox, moves, Lawful, RestsBy, DrivePlan, SweptTo, AllMade, progress_in, all_progress}
+use Rattle.rank_group.specs.RanksOverBank.{RanksOnBank, inbox, moves, Lawful, BlocksMover, DrivePlan, AfterSomeTurns, AllMadeHalves, progress_in, all_progress}
 use Rattle.rank_group.proofs.Growing.{moves_on, got_more}
 use Rattle.rank_group.proofs.Swept.{grows, world_on, cycle_here, cycle_other, rests_here, rests_on}
-use Rattle.rank_group.proofs.Made.{all_made, made_here}
+use Rattle.rank_group.proofs.BankShape.{all_made, made_here}
 
 pub lawful : (cap : ℕ) (b : Bank) (dims : List ℕ) (slots : ℕ) → IsBank cap b → b.dims ≡ dims → b.slots ≡ slots → Lawful dims cap slots (sent_of b) (got_of b)
 lawful cap b dims slots is ed es =
@@ -35,8 +35,8 @@ lawful cap b dims slots is ed es =
       relays = is.each_rank;
     }))
 
-pub swept_none : {S : Type 0} (R : Rules S) (dims : List ℕ) (cap slots : ℕ) (manner : Manner) (starts : List S) (order : List ℕ) (h : ℕ → ℕ → S) (rs : List (RankState S)) (sent got : Logs) → (w : World R dims cap slots manner starts h rs sent got)
-    → SweptTo R dims cap slots manner starts order 0 w.cycle rs sent got rs sent got
+pub swept_none : {S : Type 0} (R : Rules S) (dims : List ℕ) (cap slots : ℕ) (manner : Manner) (starts : List S) (order : List ℕ) (h : ℕ → ℕ → S) (rs : List (RankState S)) (sent got : Logs) → (w : RanksOnBank R dims cap slots manner starts h rs sent got)
+    → AfterSomeTurns R dims cap slots manner starts order 0 w.cycle rs sent got rs sent got
 swept_none R dims cap slots manner starts order h rs sent got w =
     record {
       h = h;
@@ -49,25 +49,25 @@ swept_none R dims cap slots manner starts order h rs sent got w =
 
 -- what a turn makes of a round, whatever carries the items
 made_more : {S : Type 0} (R : Rules S) → Laws R → ClosesLaws → (rounds : ℕ) (dims : List ℕ) (cap slots : ℕ) (manner : Manner) (starts : List S) (h g : ℕ → ℕ → S) (r : ℕ) (n n' : RankState S) (rs rs' : List (RankState S)) (sent got sent' got' : Logs)
-    → (w : World R dims cap slots manner starts h rs sent got) (v : World R dims cap slots manner starts g rs' sent' got') → DrivePlan R dims slots starts rounds
+    → (w : RanksOnBank R dims cap slots manner starts h rs sent got) (v : RanksOnBank R dims cap slots manner starts g rs' sent' got') → DrivePlan R dims slots starts rounds
     → slice_get rs r ≡ Some n → slice_get rs' r ≡ Some n' → ((k : ℕ) → k ≢ r → slice_get rs' k ≡ slice_get rs k) → AfterRank R dims cap slots r n n' sent got sent' got'
     → ((l : ℕ) → IsPrefix (got l) (got' l)) → v.cycle r ≡ next_cycle (w.cycle r) n n' → ((k : ℕ) → k ≢ r → v.cycle k ≡ w.cycle k)
-    → (j : ℕ) → AllMade (most_rounds R (ranks dims) starts) j w.cycle rs
-    → AllMade (most_rounds R (ranks dims) starts) j v.cycle rs' × ((n'.over ≡ true) ⊎ MoverMade (most_rounds R (ranks dims) starts) (j + 1) n'.over (v.cycle r) n'.node.mover)
+    → (j : ℕ) → AllMadeHalves (most_rounds R (ranks dims) starts) j w.cycle rs
+    → AllMadeHalves (most_rounds R (ranks dims) starts) j v.cycle rs' × ((n'.over ≡ true) ⊎ MoverMadeHalves (most_rounds R (ranks dims) starts) (j + 1) n'.over (v.cycle r) n'.node.mover)
 made_more R laws closes rounds dims cap slots ByExstack starts h g r n n' rs rs' sent got sent' got' w v plan at at' others t grows here elsewhere j all = (
   all_made R laws closes dims cap slots starts h g r n n' rs rs' sent got sent' got' w v rounds plan at at' others t grows here elsewhere j all,
   made_here R laws closes dims cap slots starts h g r n n' rs rs' sent got sent' got' w v rounds plan at at' others t grows here elsewhere j all,
 )
 made_more {S} R laws closes rounds dims cap slots (ByConveyor steady) starts h g r n n' rs rs' sent got sent' got' w v plan at at' others t grows here elsewhere j all =
     (λ k y now. none j y.over (v.cycle k) y.node.mover ((v.ranked.each k y now).same_manner), inr (none (j + 1) n'.over (v.cycle r) n'.node.mover ((v.ranked.each r n' at').same_manner))) where
-      none : (j : ℕ) (o : Bool) (c : ℕ) (m : MoverState) → manner_in m ≡ ByConveyor steady → MoverMade (most_rounds R (ranks dims) starts) j o c m
+      none : (j : ℕ) (o : Bool) (c : ℕ) (m : MoverState) → manner_in m ≡ ByConveyor steady → MoverMadeHalves (most_rounds R (ranks dims) starts) j o c m
       none j o c (Conveying y) e = tt
       none j o c (Stacking k y) e = absurd (cc)
 
 pub swept_more : {S : Type 0} (R : Rules S) → Laws R → ClosesLaws → (rounds : ℕ) (dims : List ℕ) (cap slots : ℕ) (manner : Manner) (starts : List S) (order : List ℕ) (i r : ℕ) (cycle0 : ℕ → ℕ) (rs0 rs rs' : List (RankState S)) (sent0 got0 sent got sent' got' : Logs)
     → DrivePlan R dims slots starts rounds → slice_get order i ≡ Some r → r < ranks dims → length rs' ≡ length rs → ((k : ℕ) → k ≢ r → slice_get rs' k ≡ slice_get rs k) → Lawful dims cap slots sent' got'
     → ((n n' : RankState S) → slice_get rs r ≡ Some n → slice_get rs' r ≡ Some n' → AfterRank R dims cap slots r n n' sent got sent' got')
-    → SweptTo R dims cap slots manner starts order i cycle0 rs0 sent0 got0 rs sent got → SweptTo R dims cap slots manner starts order (i + 1) cycle0 rs0 sent0 got0 rs' sent' got'
+    → AfterSomeTurns R dims cap slots manner starts order i cycle0 rs0 sent0 got0 rs sent got → AfterSomeTurns R dims cap slots manner starts order (i + 1) cycle0 rs0 sent0 got0 rs' sent' got'
 swept_more {S} R laws closes rounds dims cap slots manner starts order i r cycle0 rs0 rs rs' sent0 got0 sent got sent' got' plan here low size others law turned v =
     let w = v.world in
     let n : (n : RankState S) × (slice_get rs r ≡ Some n) = find rs r (omega (arith, low, w.ranked.all)) in
@@ -94,8 +94,8 @@ swept_more {S} R laws closes rounds dims cap slots manner starts order i r cycle
                 let e : n'.0 ≡ x = get_once rs' r n'.0 x n'.1 (subst (λ q. slice_get rs' q ≡ Some x) now b) in
                 let f = v.forward r x0 n.0 (subst (λ q. slice_get rs0 q ≡ Some x0) now a) n.1 in
                 let p : progress n'.0 ≡ progress n.0 = omega (arith, f, t.forward, same, ap (λ y. progress y) e) in
-                subst (λ q. RestsBy dims slots q x.node.mover sent' got') (sym now)
-                (subst (λ (y : RankState S). RestsBy dims slots r y.node.mover sent' got') e
+                subst (λ q. BlocksMover dims slots q x.node.mover sent' got') (sym now)
+                (subst (λ (y : RankState S). BlocksMover dims slots r y.node.mover sent' got') e
                 (rests_here R dims cap slots manner starts v.h r n.0 n'.0 rs rs' sent got sent' got' w n.1 n'.1 others size t law level (ap (λ (y : RankState S). y.over) e ∙ still) p))
             | inr apart ↦
                 let before : j < i = omega (arith, below, not_last j apart at) in
@@ -111,12 +111,12 @@ swept_more {S} R laws closes rounds dims cap slots manner starts order i r cycle
             λ q k below at x b. elim (cases_eq k r) [
               | inl now ↦
                   let e : n'.0 ≡ x = get_once rs' r n'.0 x n'.1 (subst (λ q. slice_get rs' q ≡ Some x) now b) in
-                  subst (λ q. (x.over ≡ true) ⊎ MoverMade (most_rounds R (ranks dims) starts) (j + 1) x.over (on.1.cycle q) x.node.mover) (sym now)
-                  (subst (λ (y : RankState S). (y.over ≡ true) ⊎ MoverMade (most_rounds R (ranks dims) starts) (j + 1) y.over (on.1.cycle r) y.node.mover) e m.1)
+                  subst (λ q. (x.over ≡ true) ⊎ MoverMadeHalves (most_rounds R (ranks dims) starts) (j + 1) x.over (on.1.cycle q) x.node.mover) (sym now)
+                  (subst (λ (y : RankState S). (y.over ≡ true) ⊎ MoverMadeHalves (most_rounds R (ranks dims) starts) (j + 1) y.over (on.1.cycle r) y.node.mover) e m.1)
               | inr apart ↦
                   let before : q < i = omega (arith, below, not_last q apart at) in
                   let c : on.1.cycle k ≡ w.cycle k = ap (λ (c : ℕ → ℕ). c k) on.2 ∙ cycle_other R dims cap slots manner starts v.h r n.0 n'.0 rs rs' sent got sent' got' w n.1 n'.1 others size t law k apart in
-                  subst (λ c. (x.over ≡ true) ⊎ MoverMade (most_rounds R (ranks dims) starts) (j + 1) x.over c x.node.mover) (sym c) ((v.made j all).1 q k before at x (sym (others k apart) ∙ b))
+                  subst (λ c. (x.over ≡ true) ⊎ MoverMadeHalves (most_rounds R (ranks dims) starts) (j + 1) x.over c x.node.mover) (sym c) ((v.made j all).1 q k before at x (sym (others k apart) ∙ b))
             ],
           );
     } where
@@ -139,8 +139,8 @@ pub record Sweeping {S : Type 0} (R : Rules S) (cap : ℕ) (order : List ℕ) (r
   pub fewest : steps0 ≤ steps
   pub posted : (l : ℕ) → l < links b0.dims → length (sent_of b l) + steps0 ≤ length (sent_of b0 l) + steps
   pub completed : all_progress b0.dims rs + steps0 ≤ all_progress b0.dims rs0 + steps
-  pub swept : (manner : Manner) (starts : List S) (n : ℕ) (h : ℕ → ℕ → S) → DrivePlan R b0.dims b0.slots starts n → (w : World R b0.dims cap b0.slots manner starts h rs0 (sent_of b0) (got_of b0))
-      → SweptTo R b0.dims cap b0.slots manner starts order i w.cycle rs0 (sent_of b0) (got_of b0) rs (sent_of b) (got_of b)
+  pub swept : (manner : Manner) (starts : List S) (n : ℕ) (h : ℕ → ℕ → S) → DrivePlan R b0.dims b0.slots starts n → (w : RanksOnBank R b0.dims cap b0.slots manner starts h rs0 (sent_of b0) (got_of b0))
+      → AfterSomeTurns R b0.dims cap b0.slots manner starts order i w.cycle rs0 (sent_of b0) (got_of b0) rs (sent_of b) (got_of b)
 
 turns_more : {S : Type 0} (order : List ℕ) (rs0 rs rs' : List (RankState S)) (i r steps0 steps steps' : ℕ) (n n' : RankState S) → slice_get order i ≡ Some r → slice_get rs r ≡ Some n → slice_get rs' r ≡ Some n' → ((k : ℕ) → k ≢ r → slice_get rs' k ≡ slice_get rs k)
     → (n.over ≡ true → n' ≡ n) → (n.over ≡ false → steps' ≡ steps + 1) → steps ≤ steps' → steps0 ≤ steps → (steps0 < steps) ⊎ NoneTurned order i rs0 rs → (steps0 < steps') ⊎ NoneTurned order (i + 1) rs0 rs'
@@ -265,8 +265,8 @@ sweeping_more R laws closes cap order rs0 b0 steps0 i r rs rs' b b' steps steps'
 
 -- all ranks in the midst of a sweep
 pub world_at : {S : Type 0} (R : Rules S) (cap : ℕ) (order : List ℕ) (rs0 : List (RankState S)) (b0 : Bank) (steps0 i : ℕ) (rs : List (RankState S)) (b : Bank) (steps : ℕ) → Sweeping R cap order rs0 b0 steps0 i rs b steps
-    → (manner : Manner) (starts : List S) (n : ℕ) (h : ℕ → ℕ → S) → DrivePlan R b0.dims b0.slots starts n → World R b0.dims cap b0.slots manner starts h rs0 (sent_of b0) (got_of b0)
-    → (manner : Manner) × (starts : List S) × (n : ℕ) × (h : ℕ → ℕ → S) × DrivePlan R b.dims b.slots starts n × World R b.dims cap b.slots manner starts h rs (sent_of b) (got_of b)
+    → (manner : Manner) (starts : List S) (n : ℕ) (h : ℕ → ℕ → S) → DrivePlan R b0.dims b0.slots starts n → RanksOnBank R b0.dims cap b0.slots manner starts h rs0 (sent_of b0) (got_of b0)
+    → (manner : Manner) × (starts : List S) × (n : ℕ) × (h : ℕ → ℕ → S) × DrivePlan R b.dims b.slots starts n × RanksOnBank R b.dims cap b.slots manner starts h rs (sent_of b) (got_of b)
 world_at R cap order rs0 b0 steps0 i rs b steps v manner starts n h p w =
     let s = v.swept manner starts n h p w in (
       manner,
@@ -274,7 +274,7 @@ world_at R cap order rs0 b0 steps0 i rs b steps v manner starts n h p w =
       n,
       s.h,
       subst (λ d. DrivePlan R d b.slots starts n) (sym v.same_dims) (subst (λ k. DrivePlan R b0.dims k starts n) (sym v.same_slots) p),
-      subst (λ d. World R d cap b.slots manner starts s.h rs (sent_of b) (got_of b)) (sym v.same_dims) (subst (λ k. World R b0.dims cap k manner starts s.h rs (sent_of b) (got_of b)) (sym v.same_slots) s.world),
+      subst (λ d. RanksOnBank R d cap b.slots manner starts s.h rs (sent_of b) (got_of b)) (sym v.same_dims) (subst (λ k. RanksOnBank R b0.dims cap k manner starts s.h rs (sent_of b) (got_of b)) (sym v.same_slots) s.world),
     )
 
 -- the rank at a place of an order

@@ -20,7 +20,7 @@ use Rattle.rank_node.specs.Nodes.{NodeState, IsNode}
 use Rattle.rank_node.specs.Moves.{Leaves, Waits}
 use Rattle.rank_node.specs.Sending.{to_send}
 use Rattle.rank_node.specs.Cycles.{IsInCycle, cycle_of_turn, TurnsOnward, AwaitsSome}
-use Rattle.rank_group.specs.Ranks.{RankState, HasRank, AfterTurn, AfterRank, IsLeftBy, progress}
+use Rattle.rank_group.specs.Ranks.{RankState, HasRank, AfterTurn, AfterRank, IsBlockedMover, progress}
 use Rattle.rank_group.proofs.OneTurn.{OneTurn, NextTold, stays_in, goes_on}
 
 -- what a turn tells over the port of rank r of a bank, where the port after it is that of rank r'
@@ -58,7 +58,7 @@ lies_by R cap run run' (Stacking k y) (Stacking k' y') got got' x = λ l more be
 
 -- a rank that a turn left in its epoch
 left_by : {S : Type 0} (R : Rules S) (h : ℕ → S) (run : Running S) (m m' : MoverState) (sent got sent' got' : Logs) (is_crowded is_idle : ℕ → Bool) → Waits R run m m' sent got sent' got' is_crowded is_idle
-    → IsNode R h (record { run = run; mover = m }) sent got → ((l : ℕ) → sent' l ≡ sent l) → ((l : ℕ) → got' l ≡ got l) → has_completed m' ≡ false → epoch_in m' ≡ epoch_in m → IsLeftBy m m' sent got sent' got' is_crowded is_idle
+    → IsNode R h (record { run = run; mover = m }) sent got → ((l : ℕ) → sent' l ≡ sent l) → ((l : ℕ) → got' l ≡ got l) → has_completed m' ≡ false → epoch_in m' ≡ epoch_in m → IsBlockedMover m m' sent got sent' got' is_crowded is_idle
 left_by R h run (Conveying c) (Conveying c') sent got sent' got' is_crowded is_idle w is s g going stays = record { stuck = w h is s g; going = going; stays = stays }
 left_by R h run (Conveying c) (Stacking k y) sent got sent' got' is_crowded is_idle w is s g going stays = absurd w
 left_by R h run (Stacking k y) (Conveying c) sent got sent' got' is_crowded is_idle w is s g going stays = absurd w
@@ -73,11 +73,11 @@ same_lying (Stacking k y) (Stacking k' y') l same = refl
 
 pub after_turn : {S : Type 0} (R : Rules S) (cap r : ℕ) (turn : Turn) (n n' : NodeState S) (b b' : Bank) (q q' : ℕ) → q ≡ r → q' ≡ q → mover_dims n.mover ≡ b.dims → mover_rank n.mover ≡ r → PortTurn R cap turn n n' b q b' q'
     → AfterTurn R b.dims cap b.slots r turn n n' (sent_of b) (got_of b) (sent_of b') (got_of b')
-after_turn R cap r turn n n' b b' q q' own same nd nr told =
+after_turn R cap r turn n n' b b' q q' own same nd nr notified =
     let b'' : Bank = record { dims = b.dims; slots = b.slots; channels = b'.channels } in
-    let e : b' ≡ b'' = ap (λ d. record { dims = d; slots = b'.slots; channels = b'.channels }) told.dims ∙ ap (λ k. record { dims = b.dims; slots = k; channels = b'.channels }) told.slots in
+    let e : b' ≡ b'' = ap (λ d. record { dims = d; slots = b'.slots; channels = b'.channels }) notified.dims ∙ ap (λ k. record { dims = b.dims; slots = k; channels = b'.channels }) notified.slots in
     let t : PortTurn R cap turn n n' b r b'' r =
-    subst (λ (x : Bank). PortTurn R cap turn n n' b r x r) e (subst (λ k. PortTurn R cap turn n n' b r b' k) (same ∙ own) (subst (λ k. PortTurn R cap turn n n' b k b' q') own told)) in
+    subst (λ (x : Bank). PortTurn R cap turn n n' b r x r) e (subst (λ k. PortTurn R cap turn n n' b r b' k) (same ∙ own) (subst (λ k. PortTurn R cap turn n n' b k b' q') own notified)) in
     record {
       sent_elsewhere = ap (λ (x : Others). x.sent) t.rest;
       got_elsewhere = ap (λ (x : Others). x.got) t.rest;

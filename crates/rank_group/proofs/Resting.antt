@@ -25,10 +25,10 @@ use Rattle.rank_group.specs.Ranks.{RankState, progress}
 use Rattle.rank_node.proofs.Onward.{done_of_completed, complete_is}
 use Rattle.rank_group.proofs.Still as still
 use Rattle.rank_group.proofs.Worlds.{Core, core, still_within, over_at_last}
-use Rattle.rank_group.specs.RanksOverBank.{no_conveyor, World, Rests, RestsBy, DrivePlan}
+use Rattle.rank_group.specs.RanksOverBank.{no_conveyor, RanksOnBank, IsBlockedRank, BlocksMover, DrivePlan}
 
 -- a rank that its turn left in its epoch is at rest
-pub at_rest : (dims : List ℕ) (slots r : ℕ) (c' : State) (sent got : Logs) → 0 < slots → (x : Rests dims slots r c' sent got) → IsAtRest dims r x.left.stuck.still.before x.left.stuck.still.after sent got
+pub at_rest : (dims : List ℕ) (slots r : ℕ) (c' : State) (sent got : Logs) → 0 < slots → (x : IsBlockedRank dims slots r c' sent got) → IsAtRest dims r x.left.stuck.still.before x.left.stuck.still.after sent got
 at_rest dims slots r c' sent got some x =
     let s = x.left.stuck in
     still.at_rest dims slots r x.c c' sent got some x.same_dims x.same_rank s.still x.kept
@@ -81,10 +81,10 @@ pub by_conveyor : (dims : List ℕ) (r : ℕ) (steady : Bool) (m : MoverState) (
 by_conveyor dims r steady (Conveying c) sent got k same_dims same_rank is = record { c = c; is = refl; same_dims = same_dims; same_rank = same_rank; moving = is }
 by_conveyor dims r steady (Stacking cap x) sent got k same_dims same_rank is = absurd (cc)
 
-module _ {S : Type 0} (R : Rules S) (laws : Laws R) (law : ClosesLaws) (rest : RestLaw) (dims : List ℕ) (cap slots : ℕ) (steady : Bool) (starts : List S) (h : ℕ → ℕ → S) (rs : List (RankState S)) (sent got : Logs) (w : World R dims cap slots (ByConveyor steady) starts h rs sent got)
+module _ {S : Type 0} (R : Rules S) (laws : Laws R) (law : ClosesLaws) (rest : RestLaw) (dims : List ℕ) (cap slots : ℕ) (steady : Bool) (starts : List S) (h : ℕ → ℕ → S) (rs : List (RankState S)) (sent got : Logs) (w : RanksOnBank R dims cap slots (ByConveyor steady) starts h rs sent got)
     (shape : List ℕ) (most n : ℕ) (start : InRound R (ranks dims) 0 shape most starts) (rounds : HasRounds R starts n) (some : 0 < slots) (e : ℕ) (before : e < 2 * n)
     (least : (r : ℕ) (x : RankState S) → slice_get rs r ≡ Some x → e ≤ progress x)
-    (rested : (r : ℕ) (x : RankState S) → slice_get rs r ≡ Some x → x.over ≡ false → progress x ≡ e → RestsBy dims slots r x.node.mover sent got) where
+    (rested : (r : ℕ) (x : RankState S) → slice_get rs r ≡ Some x → x.over ≡ false → progress x ≡ e → BlocksMover dims slots r x.node.mover sent got) where
   -- what is known of the conveyor of rank r, just before its latest advance and just after it
   record Two (r : ℕ) (old new : State) : Type 0 where
     same_dims : new.dims ≡ dims
@@ -126,7 +126,7 @@ module _ {S : Type 0} (R : Rules S) (laws : Laws R) (law : ClosesLaws) (rest : R
         let low' = least r x at in
         elim (cases_eq (progress x) e) [
           | inl here ↦
-              let q : Rests dims slots r c sent got = subst (λ m. RestsBy dims slots r m sent got) v.is (rested r x at on here) in
+              let q : IsBlockedRank dims slots r c sent got = subst (λ m. BlocksMover dims slots r m sent got) v.is (rested r x at on here) in
               let s = q.left.stuck.still in
               let at_e : s.after.epoch ≡ e = s.epoch_after ∙ (s.epoch_before ∙ (q.same_epoch ∙ (sym p ∙ here))) in (
                 s.before,
@@ -193,7 +193,7 @@ module _ {S : Type 0} (R : Rules S) (laws : Laws R) (law : ClosesLaws) (rest : R
             absurd (t.1 (rest dims cap slots e (λ k. (all_two k).0) (λ k. (all_two k).1) sent got sweep r low t.0))
 
 -- the epochs of a run are few
-pub epoch_few : {S : Type 0} (R : Rules S) → Laws R → ClosesLaws → (dims : List ℕ) (cap slots : ℕ) (manner : Manner) (starts : List S) (h : ℕ → ℕ → S) (rs : List (RankState S)) (sent got : Logs) → World R dims cap slots manner starts h rs sent got
+pub epoch_few : {S : Type 0} (R : Rules S) → Laws R → ClosesLaws → (dims : List ℕ) (cap slots : ℕ) (manner : Manner) (starts : List S) (h : ℕ → ℕ → S) (rs : List (RankState S)) (sent got : Logs) → RanksOnBank R dims cap slots manner starts h rs sent got
     → (n : ℕ) → DrivePlan R dims slots starts n → (r : ℕ) (x : RankState S) → slice_get rs r ≡ Some x → epoch_in x.node.mover < 2 ^ 63
 epoch_few R laws law dims cap slots manner starts h rs sent got w n p r x at =
     elim (cases_Bool x.over) [

@@ -28,7 +28,7 @@ use Rattle.rank_node.proofs.Onward.{done_of_completed}
 use Rattle.rank_group.specs.Closes.{ClosesLaws}
 use Rattle.rank_group.specs.Ranks.{RankState}
 use Rattle.rank_group.specs.RoundProgress.{quota_of, most_rounds, HasCycled, IsBetween}
-use Rattle.rank_group.specs.RanksOverBank.{World, DrivePlan, mover_in}
+use Rattle.rank_group.specs.RanksOverBank.{RanksOnBank, DrivePlan, mover_in}
 use Rattle.rank_group.proofs.Worlds.{core, stack_of, is_stacking, still_within, over_at_last}
 use Rattle.exstack.proofs.Lockstep.{begins, to_is, from_is, sent_own, got_own}
 use Rattle.rank_group.proofs.Halves.{AllStacks}
@@ -72,7 +72,7 @@ part_done (Stacking j x) cap sent got e i = i
 epoch_of_stack : (m : MoverState) (cap : ℕ) → m ≡ Stacking cap (stack_of m) → epoch_in m ≡ (stack_of m).epoch
 epoch_of_stack m cap e = ap epoch_in e
 
-module _ {S : Type 0} (R : Rules S) (laws : Laws R) (law : ClosesLaws) (dims : List ℕ) (cap slots : ℕ) (starts : List S) (h : ℕ → ℕ → S) (rs : List (RankState S)) (sent got : Logs) (w : World R dims cap slots ByExstack starts h rs sent got)
+module _ {S : Type 0} (R : Rules S) (laws : Laws R) (law : ClosesLaws) (dims : List ℕ) (cap slots : ℕ) (starts : List S) (h : ℕ → ℕ → S) (rs : List (RankState S)) (sent got : Logs) (w : RanksOnBank R dims cap slots ByExstack starts h rs sent got)
     (n : ℕ) (plan : DrivePlan R dims slots starts n) where
   abbrev p : ℕ
   p = ranks dims

@@ -14,9 +14,9 @@ use Rattle.rank_node.specs.Movers.MoverState.{Conveying, Stacking}
 use Rattle.rank_node.specs.Nodes.{IsNode}
 use Rattle.rank_node.specs.Next.{HasStopped}
 use Rattle.rank_group.specs.Closes.{ClosesLaws}
-use Rattle.rank_group.specs.Ranks.{RankState, HasRank, AllRanks, AfterRank, IsLeftBy, progress, crowded_in, idle_in}
+use Rattle.rank_group.specs.Ranks.{RankState, HasRank, AllRanks, AfterRank, IsBlockedMover, progress, crowded_in, idle_in}
 use Rattle.rank_group.specs.RoundProgress.{quota_of, KeepsCycle, next_cycle}
-use Rattle.rank_group.specs.RanksOverBank.{mover_in, inbox, World, moves, Lawful, RestsBy, DrivePlan}
+use Rattle.rank_group.specs.RanksOverBank.{mover_in, inbox, RanksOnBank, moves, Lawful, BlocksMover, DrivePlan}
 use Rattle.rank_group.proofs.Cycled.{keeps_on}
 use Rattle.rank_group.proofs.Growing.{Grows, sent_same, got_same, inbox_same, inboxes_on}
 use Rattle.rank_group.proofs.Quotas.{sends_few}
@@ -36,7 +36,7 @@ other_rank R dims cap manner r h n sent got sent' got' es eg is =
     }
 
 module _ {S : Type 0} (R : Rules S) (dims : List ℕ) (cap slots : ℕ) (manner : Manner) (starts : List S) (h : ℕ → ℕ → S) (r : ℕ) (n n' : RankState S) (rs rs' : List (RankState S)) (sent got sent' got' : Logs)
-    (w : World R dims cap slots manner starts h rs sent got) (at : slice_get rs r ≡ Some n) (at' : slice_get rs' r ≡ Some n') (others : (k : ℕ) → k ≢ r → slice_get rs' k ≡ slice_get rs k) (size : length rs' ≡ length rs)
+    (w : RanksOnBank R dims cap slots manner starts h rs sent got) (at : slice_get rs r ≡ Some n) (at' : slice_get rs' r ≡ Some n') (others : (k : ℕ) → k ≢ r → slice_get rs' k ≡ slice_get rs k) (size : length rs' ≡ length rs)
     (t : AfterRank R dims cap slots r n n' sent got sent' got') (law : Lawful dims cap slots sent' got') where
   was_in : (l : ℕ) → reader_at dims l ≡ r → inbox dims rs l ≡ lying n.node.mover l
   was_in l here = ap (λ k. lying (mover_in (slice_get rs k)) l) here ∙ ap (λ o. lying (mover_in o) l) at
@@ -110,7 +110,7 @@ module _ {S : Type 0} (R : Rules S) (dims : List ℕ) (cap slots : ℕ) (manner 
         (subst (λ f. KeepsCycle R (quota_of R (ranks dims) starts k) (w.cycle k) x (starting_at dims k sent) f) (sym (got_elsewhere dims r k got got' apart t.got_elsewhere)) (w.keeps k x (sym (others k apart) ∙ now))))
   ]
 
-  pub world_on : Laws R → ClosesLaws → (rounds : ℕ) → DrivePlan R dims slots starts rounds → (g : ℕ → ℕ → S) × (v : World R dims cap slots manner starts g rs' sent' got') × (v.cycle ≡ cycle_on)
+  pub world_on : Laws R → ClosesLaws → (rounds : ℕ) → DrivePlan R dims slots starts rounds → (g : ℕ → ℕ → S) × (v : RanksOnBank R dims cap slots manner starts g rs' sent' got') × (v.cycle ≡ cycle_on)
   world_on laws closes rounds plan = (
     history,
     record {
@@ -127,13 +127,13 @@ module _ {S : Type 0} (R : Rules S) (dims : List ℕ) (cap slots : ℕ) (manner 
 
   -- the rank that was turned, where it stayed in its epoch and nothing moved
   rests_by : (m m' : MoverState) → mover_dims m ≡ dims → mover_rank m ≡ r → ((l : ℕ) → l < links dims → reader_at dims l ≡ r → lying m l ≤ lying m' l)
-      → IsLeftBy m m' (starting_at dims r sent') (ending_at dims r got') (starting_at dims r sent') (ending_at dims r got') (crowded_in dims slots r sent' got') (idle_in dims r sent' got') → RestsBy dims slots r m' sent' got'
+      → IsBlockedMover m m' (starting_at dims r sent') (ending_at dims r got') (starting_at dims r sent') (ending_at dims r got') (crowded_in dims slots r sent' got') (idle_in dims r sent' got') → BlocksMover dims slots r m' sent' got'
   rests_by (Conveying c) (Conveying c') same_dims same_rank kept left = record { c = c; same_dims = same_dims; same_rank = same_rank; same_epoch = sym left.stays; kept = kept; left = left }
   rests_by (Conveying c) (Stacking k x) same_dims same_rank kept left = absurd left
   rests_by (Stacking k x) (Conveying c) same_dims same_rank kept left = absurd left
   rests_by (Stacking k x) (Stacking k' x') same_dims same_rank kept left = tt
 
-  pub rests_here : moves dims rs' sent' got' ≤ moves dims rs sent got → n'.over ≡ false → progress n' ≡ progress n → RestsBy dims slots r n'.node.mover sent' got'
+  pub rests_here : moves dims rs' sent' got' ≤ moves dims rs sent got → n'.over ≡ false → progress n' ≡ progress n → BlocksMover dims slots r n'.node.mover sent' got'
   rests_here light on same =
       let has = w.ranked.each r n at in
       let es = sent_same dims r sent got sent' got' (inbox dims rs) (inbox dims rs') grows light in
@@ -142,9 +142,9 @@ module _ {S : Type 0} (R : Rules S) (dims : List ℕ) (cap slots : ℕ) (manner 
       rests_by n.node.mover n'.node.mover has.same_dims has.same_rank
       (λ l below to.
       omega (arith, was_in l to, now_in l to, inbox_same dims r sent got sent' got' (inbox dims rs) (inbox dims rs') grows light l below))
-      (subst (λ f. IsLeftBy n.node.mover n'.node.mover (starting_at dims r f) (ending_at dims r got') (starting_at dims r sent') (ending_at dims r got') (crowded_in dims slots r sent' got') (idle_in dims r sent' got')) (sym es)
-      (subst (λ f. IsLeftBy n.node.mover n'.node.mover (starting_at dims r sent) (ending_at dims r f) (starting_at dims r sent') (ending_at dims r got') (crowded_in dims slots r sent' got') (idle_in dims r sent' got')) (sym eg) left))
+      (subst (λ f. IsBlockedMover n.node.mover n'.node.mover (starting_at dims r f) (ending_at dims r got') (starting_at dims r sent') (ending_at dims r got') (crowded_in dims slots r sent' got') (idle_in dims r sent' got')) (sym es)
+      (subst (λ f. IsBlockedMover n.node.mover n'.node.mover (starting_at dims r sent) (ending_at dims r f) (starting_at dims r sent') (ending_at dims r got') (crowded_in dims slots r sent' got') (idle_in dims r sent' got')) (sym eg) left))
 
   -- the ranks that rested go on resting
-  pub rests_on : moves dims rs' sent' got' ≤ moves dims rs sent got → (k : ℕ) (m : MoverState) → RestsBy dims slots k m sent got → RestsBy dims slots k m sent' got'
-  rests_on light k m rest = subst (λ f. RestsBy dims slots k m f got') (sym (sent_same dims r sent got sent' got' (inbox dims rs) (inbox dims rs') grows light)) (subst (RestsBy dims slots k m sent) (sym (got_same dims r sent got sent' got' (inbox dims rs) (inbox dims rs') grows light)) rest)
+  pub rests_on : moves dims rs' sent' got' ≤ moves dims rs sent got → (k : ℕ) (m : MoverState) → BlocksMover dims slots k m sent got → BlocksMover dims slots k m sent' got'
+  rests_on light k m rest = subst (λ f. BlocksMover dims slots k m f got') (sym (sent_same dims r sent got sent' got' (inbox dims rs) (inbox dims rs') grows light)) (subst (BlocksMover dims slots k m sent) (sym (got_same dims r sent got sent' got' (inbox dims rs) (inbox dims rs') grows light)) rest)

@@ -20,7 +20,7 @@ use Rattle.rank_node.specs.Movers.{Manner, IsLogShape, epoch_in, part_in}
 use Rattle.rank_node.specs.Next.{HasStopped}
 use Rattle.rank_group.specs.Ranks.{RankState, HasRank, AllRanks}
 use Rattle.rank_node.specs.Runs.{part_lists}
-use Rattle.rank_group.specs.Transcript.{Made, TellsRun, vote_sent}
+use Rattle.rank_group.specs.Transcript.{BankShape, RecordsRun, vote_sent}
 use Rattle.rank_group.proofs.Worlds.{canonical, over_at_last}
 use Rattle.rank_group.specs.RanksOverBank.{progress_in, history_in, mover_in, part_at}
 use Rattle.rank_group.proofs.Movers.{Completed, completed}
@@ -129,7 +129,7 @@ module _ {S : Type 0} (R : Rules S) (laws : Laws R) (law : ClosesLaws) (round : 
             ap (passing_items (belongs dims s d (length dims))) got_none ∙ sym (ap (passing_items (belongs dims s d 1)) sent_none)
       ]
 
-  pub tells_run : (made : Made) → record { dims = round.dims; cap = round.cap; slots = round.slots; by_slots = round.by_slots } ≡ made → round.cap ≡ cap → TellsRun R starts n made manner round
+  pub tells_run : (made : BankShape) → record { dims = round.dims; cap = round.cap; slots = round.slots; by_slots = round.by_slots } ≡ made → round.cap ≡ cap → RecordsRun R starts n made manner round
   tells_run made is same =
       record {
         bank = is;

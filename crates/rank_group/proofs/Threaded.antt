@@ -20,7 +20,7 @@ use Rattle.rank_group.specs.Ranks.{RankState, IsRank, HasRank, AllRanks}
 use Rattle.rank_group.specs.Drives.{progs_of, AreFresh}
 use Rattle.rank_crews.specs.Runs.{AllRan}
 use Rattle.rank_group.proofs.Worlds.{over_at_last}
-use Rattle.rank_group.specs.Seats.{SeatedState, bank_of, IsOnWay, Ran, IsSeated, AreSeated}
+use Rattle.rank_group.specs.Seats.{SeatedState, bank_of, IsRankAtSeat, TookTurns, IsSeated, AreSeated}
 
 some_is : {X : Type 0} {o : Option X} {x : X} → o ≡ Some x → IsSome o
 some_is e = subst IsSome (sym e) refl
@@ -34,7 +34,7 @@ first_true true b e n = refl
 first_true false b e n = absurd (true≢false (sym e ∙ n))
 
 module _ {S : Type 0} (R : Rules S) (cap : ℕ) (b : Identity) (manner : Manner) (starts : List S) (shape : List ℕ) (most : ℕ) (start : InRound R (ranks b.shape.dims) 0 shape most starts)
-    (fs : List (RankState S)) (fresh : AreFresh R b.shape.dims cap manner starts fs) (xs ys : List (SeatedState S)) (firsts : map (λ x. x.rank) xs ≡ fs) (seated : AreSeated R cap manner b xs) (told : ℕ → ℕ → Bool) (ran : AllRan (λ x y. Ran R cap told x y) xs ys) where
+    (fs : List (RankState S)) (fresh : AreFresh R b.shape.dims cap manner starts fs) (xs ys : List (SeatedState S)) (firsts : map (λ x. x.rank) xs ≡ fs) (seated : AreSeated R cap manner b xs) (notified : ℕ → ℕ → Bool) (ran : AllRan (λ x y. TookTurns R cap notified x y) xs ys) where
   abbrev dims : List ℕ
   dims = b.shape.dims
 
@@ -47,16 +47,16 @@ module _ {S : Type 0} (R : Rules S) (cap : ℕ) (b : Identity) (manner : Manner)
     at : slice_get xs r ≡ Some x
     h : ℕ → S
     begins : h 0 ≡ x.rank.node.run.prog
-    way : IsOnWay R cap manner h y
+    way : IsRankAtSeat R cap manner h y
     bank : bank_of y ≡ b
     number : y.seat.rank ≡ r
-    heard : (m : ℕ) → m < y.turns → told r m ≡ true
+    heard : (m : ℕ) → m < y.turns → notified r m ≡ true
 
   came : (r : ℕ) (y : SeatedState S) → slice_get ys r ≡ Some y → Came r y
   came r y at =
       let x : (x : SeatedState S) × (slice_get xs r ≡ Some x) = find xs r (let a = ran.all in omega (arith, within ys r y at, a)) in
       let s : IsSeated R cap manner b r x.0 = seated r x.0 x.1 in
-      let t : Ran R cap told x.0 y = ran.each r x.0 y x.1 at in
+      let t : TookTurns R cap notified x.0 y = ran.each r x.0 y x.1 at in
       let k = t.kept manner (λ m. x.0.rank.node.run.prog) s.way in
       record {
         x = x.0;
@@ -66,7 +66,7 @@ module _ {S : Type 0} (R : Rules S) (cap : ℕ) (b : Identity) (manner : Manner)
         way = k.2;
         bank = t.bank ∙ s.bank;
         number = t.number ∙ s.number;
-        heard = λ m low. subst (λ k. told k m ≡ true) s.number (t.heard m (let z = s.none in omega (arith, z)) low);
+        heard = λ m low. subst (λ k. notified k m ≡ true) s.number (t.heard m (let z = s.none in omega (arith, z)) low);
       }
 
   -- where each sat
@@ -151,8 +151,8 @@ module _ {S : Type 0} (R : Rules S) (cap : ℕ) (b : Identity) (manner : Manner)
         let k = all_get (λ (z : SeatedState S). z.lost ≡ false) ys r y.0 kept y.1 in
         sym (ap (λ (m : RankState S). m.over) y.2) ∙ first_true y.0.rank.over y.0.lost o k
 
-    -- the gate was told of as many turns of each as the run has epochs
-    pub all_told : Laws R → ClosesLaws → (n : ℕ) → HasRounds R starts n → (r m : ℕ) → r < ranks dims → m < 2 * n → told r m ≡ true
+    -- the gate was notified of as many turns of each as the run has epochs
+    pub all_told : Laws R → ClosesLaws → (n : ℕ) → HasRounds R starts n → (r m : ℕ) → r < ranks dims → m < 2 * n → notified r m ≡ true
     all_told laws law n rounds r m low below =
         let y : (y : SeatedState S) × (slice_get ys r ≡ Some y) = find ys r (omega (arith, low, as_many)) in
         let at : slice_get rs r ≡ Some y.0.rank = get_map (λ (z : SeatedState S). z.rank) ys r y.0 y.1 in

@@ -11,7 +11,7 @@ use Rattle.rank_node.specs.Movers.{Manner}
 use Rattle.rank_group.specs.declared.closed_round.ClosedRound.{ClosedRound}
 use Rattle.rank_group.specs.declared.drive.Finished.{Finished}
 use Rattle.rank_group.specs.Rounds.{round_inside}
-use Rattle.rank_group.specs.Transcript.{Made, TellsRun, turns_within}
+use Rattle.rank_group.specs.Transcript.{BankShape, RecordsRun, turns_within}
 use Rattle.rank_group.specs.Turns.{SweptBy}
 
 -- Programs that may be driven on a grid.
@@ -22,16 +22,16 @@ pub record MayRun {S : Type 0} (R : Rules S) (dims : List ℕ) (via : Via) (star
   pub begins : (shape : List ℕ) × (most : ℕ) × InRound R (ranks dims) 0 shape most starts × EndsWithin R starts most
 
 -- What a drive leaves of a run of the programs `starts`, over a bank that was made as said.
-pub record HasFinished {S : Type 0} (R : Rules S) (starts : List S) (made : Made) (manner : Manner)
+pub record HasFinished {S : Type 0} (R : Rules S) (starts : List S) (made : BankShape) (manner : Manner)
     (run : Finished S) : Type 0 where
   -- The programs are as the canonical run leaves them.
   pub ended : HaveEnded R starts run.progs
   -- One closed round tells what was exchanged.
   pub rounds : (c : ClosedRound) × (run.rounds ≡ c ∷ [])
-      × ((n : ℕ) → HasRounds R starts n → TellsRun R starts n made manner (round_inside c))
+      × ((n : ℕ) → HasRounds R starts n → RecordsRun R starts n made manner (round_inside c))
 
 -- What it further leaves on one thread, which counts its turns from `before` to `after`.
-pub record HasSwept {S : Type 0} (R : Rules S) (starts : List S) (made : Made) (manner : Manner) (turned : List ℕ)
+pub record HasSwept {S : Type 0} (R : Rules S) (starts : List S) (made : BankShape) (manner : Manner) (turned : List ℕ)
     (before after : ℕ) (run : Finished S) : Type 0 where
   -- It made sweeps in the order given, and no other turn.
   pub order : SweptBy R made.dims made.cap made.slots manner starts turned before after run.progs
@@ -50,8 +50,8 @@ abbrev pub WithinTurns : {S : Type 0} → Rules S → List S → Manner → List
 WithinTurns R starts manner dims before after = (n : ℕ) → HasRounds R starts n
     → after ≤ before + turns_within R manner dims starts n
 
--- `told` holds of the turns of each rank, by the rank's number and their own: in a run of n rounds,
+-- `notified` holds of the turns of each rank, by the rank's number and their own: in a run of n rounds,
 -- which has 2 * n epochs, of
 -- 2 * n turns at least.
-abbrev pub ToldOfTurns : {S : Type 0} → Rules S → List S → List ℕ → (ℕ → ℕ → Bool) → Type 0
-ToldOfTurns R starts dims told = (n r m : ℕ) → HasRounds R starts n → r < ranks dims → m < 2 * n → told r m ≡ true
+abbrev pub NotifiedOfTurns : {S : Type 0} → Rules S → List S → List ℕ → (ℕ → ℕ → Bool) → Type 0
+NotifiedOfTurns R starts dims notified = (n r m : ℕ) → HasRounds R starts n → r < ranks dims → m < 2 * n → notified r m ≡ true

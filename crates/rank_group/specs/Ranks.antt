@@ -112,25 +112,25 @@ pub record AfterTurn {S : Type 0} (R : Rules S) (dims : List ℕ) (cap slots r :
 
 -- A rank that a turn over a conveyor left in its epoch, having moved no parcel: its epoch isn't
 -- over.
-pub record IsLeft (c c' : State) (sent got sent' got' : Logs) (is_crowded is_idle : ℕ → Bool) : Type 0 where
+pub record IsBlockedConveyor (c c' : State) (sent got sent' got' : Logs) (is_crowded is_idle : ℕ → Bool) : Type 0 where
   pub stuck : IsStuck c c' sent got sent' got' is_crowded is_idle
   pub going : is_complete c'.phase ≡ false
   pub stays : c'.epoch ≡ c.epoch
 
 -- And one over an exstack.
-pub record IsLeftWaiting (x x' : Stack) (got got' : Logs) (is_crowded is_idle : ℕ → Bool) : Type 0 where
+pub record IsBlockedStack (x x' : Stack) (got got' : Logs) (is_crowded is_idle : ℕ → Bool) : Type 0 where
   pub waits : WaitsFor x x' got got' is_crowded is_idle
   pub going : is_all_done x'.stage ≡ false
   pub stays : x'.epoch ≡ x.epoch
 
 -- Either of them.
-abbrev pub IsLeftBy : MoverState → MoverState → Logs → Logs → Logs → Logs → (ℕ → Bool) → (ℕ → Bool) → Type 0
-IsLeftBy (Conveying c) (Conveying c') sent got sent' got' is_crowded is_idle =
-    IsLeft c c' sent got sent' got' is_crowded is_idle
-IsLeftBy (Conveying c) (Stacking k x) sent got sent' got' is_crowded is_idle = ⊥
-IsLeftBy (Stacking k x) (Conveying c) sent got sent' got' is_crowded is_idle = ⊥
-IsLeftBy (Stacking k x) (Stacking k' x') sent got sent' got' is_crowded is_idle =
-    IsLeftWaiting x x' got got' is_crowded is_idle
+abbrev pub IsBlockedMover : MoverState → MoverState → Logs → Logs → Logs → Logs → (ℕ → Bool) → (ℕ → Bool) → Type 0
+IsBlockedMover (Conveying c) (Conveying c') sent got sent' got' is_crowded is_idle =
+    IsBlockedConveyor c c' sent got sent' got' is_crowded is_idle
+IsBlockedMover (Conveying c) (Stacking k x) sent got sent' got' is_crowded is_idle = ⊥
+IsBlockedMover (Stacking k x) (Conveying c) sent got sent' got' is_crowded is_idle = ⊥
+IsBlockedMover (Stacking k x) (Stacking k' x') sent got sent' got' is_crowded is_idle =
+    IsBlockedStack x x' got got' is_crowded is_idle
 
 -- Rank r wasn't turned: nothing of it changed.
 pub record IsUnturned {S : Type 0} (dims : List ℕ) (r : ℕ) (n n' : RankState S)
@@ -202,7 +202,7 @@ pub record AfterRank {S : Type 0} (R : Rules S) (dims : List ℕ) (cap slots r :
       → progress n' ≡ progress n
       → ((l : ℕ) → starting_at dims r sent' l ≡ starting_at dims r sent l)
       → ((l : ℕ) → ending_at dims r got' l ≡ ending_at dims r got l)
-      → IsLeftBy n.node.mover n'.node.mover (starting_at dims r sent) (ending_at dims r got) (starting_at dims r sent')
+      → IsBlockedMover n.node.mover n'.node.mover (starting_at dims r sent) (ending_at dims r got) (starting_at dims r sent')
       (ending_at dims r got') (crowded_in dims slots r sent' got') (idle_in dims r sent' got')
   pub unturned : n.over ≡ true → IsUnturned dims r n n' sent got sent' got'
   pub turned : n.over ≡ false

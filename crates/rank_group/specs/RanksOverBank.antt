@@ -23,8 +23,8 @@ use Rattle.round_program.specs.Canonical.{HasRounds, InRound}
 use Rattle.rank_node.specs.Movers.{MoverState, Manner, part_in, lying}
 use Rattle.rank_node.specs.Movers.MoverState.{Conveying, Stacking}
 use Rattle.rank_node.specs.Next.{with_next}
-use Rattle.rank_group.specs.Ranks.{RankState, AllRanks, IsLeft, progress, crowded_in, idle_in}
-use Rattle.rank_group.specs.RoundProgress.{quota_of, most_rounds, MoverMade, KeepsCycle}
+use Rattle.rank_group.specs.Ranks.{RankState, AllRanks, IsBlockedConveyor, progress, crowded_in, idle_in}
+use Rattle.rank_group.specs.RoundProgress.{quota_of, most_rounds, MoverMadeHalves, KeepsCycle}
 
 -- the entries of some parcels
 abbrev pub parcel_entries : List Shipped → List Entry
@@ -72,7 +72,7 @@ inbox dims rs l = lying (mover_in (slice_get rs (reader_at dims l))) l
 
 -- all ranks over one plain bank
 -- keeps: over exstacks each rank is in some cycle of its epoch
-pub record World {S : Type 0} (R : Rules S) (dims : List ℕ) (cap slots : ℕ) (manner : Manner) (starts : List S)
+pub record RanksOnBank {S : Type 0} (R : Rules S) (dims : List ℕ) (cap slots : ℕ) (manner : Manner) (starts : List S)
     (h : ℕ → ℕ → S) (rs : List (RankState S)) (sent got : Logs) : Type 0 where
   pub ranked : AllRanks R dims cap slots manner starts h rs sent got
   pub none_past : (l : ℕ) → links dims ≤ l → (sent l ≡ []) × (got l ≡ [])
@@ -97,25 +97,25 @@ pub record Lawful (dims : List ℕ) (cap slots : ℕ) (sent got : Logs) : Type 0
   pub relays : (r : ℕ) → r < ranks dims → RelayLaw dims r sent got
 
 -- a rank at rest over a conveyor, over lists that its turn didn't change
-pub record Rests (dims : List ℕ) (slots r : ℕ) (c' : State) (sent got : Logs) : Type 0 where
+pub record IsBlockedRank (dims : List ℕ) (slots r : ℕ) (c' : State) (sent got : Logs) : Type 0 where
   pub c : State
   pub same_dims : c.dims ≡ dims
   pub same_rank : c.rank ≡ r
   pub same_epoch : c.epoch ≡ c'.epoch
   pub kept : (l : ℕ) → l < links dims → reader_at dims l ≡ r
       → length (in_of c l).parcel.untaken ≤ length (in_of c' l).parcel.untaken
-  pub left : IsLeft c c' (starting_at dims r sent) (ending_at dims r got) (starting_at dims r sent)
+  pub left : IsBlockedConveyor c c' (starting_at dims r sent) (ending_at dims r got) (starting_at dims r sent)
       (ending_at dims r got) (crowded_in dims slots r sent got) (idle_in dims r sent got)
 
 -- of ranks over exstacks nothing is said
-abbrev pub RestsBy : List ℕ → ℕ → ℕ → MoverState → Logs → Logs → Type 0
-RestsBy dims slots r (Conveying c') sent got = Rests dims slots r c' sent got
-RestsBy dims slots r (Stacking cap x) sent got = ⊤
+abbrev pub BlocksMover : List ℕ → ℕ → ℕ → MoverState → Logs → Logs → Type 0
+BlocksMover dims slots r (Conveying c') sent got = IsBlockedRank dims slots r c' sent got
+BlocksMover dims slots r (Stacking cap x) sent got = ⊤
 
 -- Every rank, in its cycle, has made j halves of rounds.
-abbrev pub AllMade : {S : Type 0} → (ℕ → ℕ) → ℕ → (ℕ → ℕ) → List (RankState S) → Type 0
-AllMade {S} most j cycle rs = (r : ℕ) (x : RankState S) → slice_get rs r ≡ Some x
-    → MoverMade most j x.over (cycle r) x.node.mover
+abbrev pub AllMadeHalves : {S : Type 0} → (ℕ → ℕ) → ℕ → (ℕ → ℕ) → List (RankState S) → Type 0
+AllMadeHalves {S} most j cycle rs = (r : ℕ) (x : RankState S) → slice_get rs r ≡ Some x
+    → MoverMadeHalves most j x.over (cycle r) x.node.mover
 
 -- What turns leave of the plain bank that they began with.
 pub record KeepsBank (cap : ℕ) (before after : Bank) : Type 0 where
@@ -139,18 +139,18 @@ pub record DrivePlan {S : Type 0} (R : Rules S) (dims : List ℕ) (slots : ℕ) 
 -- rests: where nothing moved, each rank that was turned and is in its epoch still is at rest.
 -- made: over exstacks, where every rank had made j halves of rounds, each still has, and one that
 -- was turned has made one more.
-pub record SweptTo {S : Type 0} (R : Rules S) (dims : List ℕ) (cap slots : ℕ) (manner : Manner) (starts : List S)
+pub record AfterSomeTurns {S : Type 0} (R : Rules S) (dims : List ℕ) (cap slots : ℕ) (manner : Manner) (starts : List S)
     (order : List ℕ) (i : ℕ) (cycle0 : ℕ → ℕ) (rs0 : List (RankState S)) (sent0 got0 : Logs) (rs : List (RankState S))
     (sent got : Logs) : Type 0 where
   pub h : ℕ → ℕ → S
-  pub world : World R dims cap slots manner starts h rs sent got
+  pub world : RanksOnBank R dims cap slots manner starts h rs sent got
   pub grown : moves dims rs0 sent0 got0 ≤ moves dims rs sent got
   pub forward : (r : ℕ) (x0 x : RankState S) → slice_get rs0 r ≡ Some x0 → slice_get rs r ≡ Some x
       → progress x0 ≤ progress x
   pub rests : moves dims rs sent got ≤ moves dims rs0 sent0 got0 → (j r : ℕ) → j < i → slice_get order j ≡ Some r
       → (x0 x : RankState S) → slice_get rs0 r ≡ Some x0 → slice_get rs r ≡ Some x
-      → x.over ≡ false → progress x ≡ progress x0 → RestsBy dims slots r x.node.mover sent got
-  pub made : (j : ℕ) → AllMade (most_rounds R (ranks dims) starts) j cycle0 rs0
-      → AllMade (most_rounds R (ranks dims) starts) j world.cycle rs
+      → x.over ≡ false → progress x ≡ progress x0 → BlocksMover dims slots r x.node.mover sent got
+  pub made : (j : ℕ) → AllMadeHalves (most_rounds R (ranks dims) starts) j cycle0 rs0
+      → AllMadeHalves (most_rounds R (ranks dims) starts) j world.cycle rs
       × ((p r : ℕ) → p < i → slice_get order p ≡ Some r → (x : RankState S) → slice_get rs r ≡ Some x
-      → (x.over ≡ true) ⊎ MoverMade (most_rounds R (ranks dims) starts) (j + 1) x.over (world.cycle r) x.node.mover)
+      → (x.over ≡ true) ⊎ MoverMadeHalves (most_rounds R (ranks dims) starts) (j + 1) x.over (world.cycle r) x.node.mover)

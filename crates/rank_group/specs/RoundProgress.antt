@@ -51,14 +51,14 @@ pub record IsHalfway (x : Stack) : Type 0 where
 
 -- A rank has made j halves of rounds: posts are the first half of a round, and collects the second.
 -- With 3 rounds made it has made 6, and 7 where it is halfway in its next round.
-abbrev pub HasMade : (ℕ → ℕ) → ℕ → Bool → ℕ → Stack → Type 0
-HasMade most j over n x =
+abbrev pub HasMadeHalves : (ℕ → ℕ) → ℕ → Bool → ℕ → Stack → Type 0
+HasMadeHalves most j over n x =
     (j ≤ 2 * rounds_made most over n x) ⊎ ((j ≡ 2 * rounds_made most over n x + 1) × (over ≡ false) × IsHalfway x)
 
 -- The same of whatever carries a rank's items; of conveyors nothing is said.
-abbrev pub MoverMade : (ℕ → ℕ) → ℕ → Bool → ℕ → MoverState → Type 0
-MoverMade most j over n (Conveying c) = ⊤
-MoverMade most j over n (Stacking cap x) = HasMade most j over n x
+abbrev pub MoverMadeHalves : (ℕ → ℕ) → ℕ → Bool → ℕ → MoverState → Type 0
+MoverMadeHalves most j over n (Conveying c) = ⊤
+MoverMadeHalves most j over n (Stacking cap x) = HasMadeHalves most j over n x
 
 -- What is left of the cycles where a rank's run is over.
 abbrev pub HasCycled : (ℕ → ℕ) → ℕ → MoverState → Logs → Logs → Type 0

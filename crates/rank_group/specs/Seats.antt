@@ -21,27 +21,27 @@ bank_of x = record { id = x.seat.id; shape = x.seat.shape }
 -- By its seat's lists it is a rank of a run; h m is the state of its program as round m began.
 -- Nothing is said where memory was wanting.
 -- few: it completed no more epochs than it made turns.
-pub record IsOnWay {S : Type 0} (R : Rules S) (cap : ℕ) (manner : Manner) (h : ℕ → S) (x : SeatedState S) : Type 0 where
+pub record IsRankAtSeat {S : Type 0} (R : Rules S) (cap : ℕ) (manner : Manner) (h : ℕ → S) (x : SeatedState S) : Type 0 where
   pub runs : x.lost ≡ false
       → IsRank R x.seat.shape.dims cap manner x.seat.rank h x.rank (posted_on x.seat) (collected_from x.seat)
   pub few : x.lost ≡ false → progress x.rank ≤ x.turns
 
 -- The same, of some run.
-pub record HasWay {S : Type 0} (R : Rules S) (cap : ℕ) (x : SeatedState S) : Type 0 where
+pub record HasSomeRun {S : Type 0} (R : Rules S) (cap : ℕ) (x : SeatedState S) : Type 0 where
   pub manner : Manner
   pub h : ℕ → S
-  pub way : IsOnWay R cap manner h x
+  pub way : IsRankAtSeat R cap manner h x
 
 -- Turns took a rank from x to y: it sits where it sat, and is still on the way of its run.
--- heard: `told` holds of each of them, by the rank's number and its own, counted from 0 over the
+-- heard: `notified` holds of each of them, by the rank's number and its own, counted from 0 over the
 -- whole run.
-pub record Ran {S : Type 0} (R : Rules S) (cap : ℕ) (told : ℕ → ℕ → Bool) (x y : SeatedState S) : Type 0 where
+pub record TookTurns {S : Type 0} (R : Rules S) (cap : ℕ) (notified : ℕ → ℕ → Bool) (x y : SeatedState S) : Type 0 where
   pub bank : bank_of y ≡ bank_of x
   pub number : y.seat.rank ≡ x.seat.rank
   pub more : x.turns ≤ y.turns
-  pub heard : (n : ℕ) → x.turns ≤ n → n < y.turns → told x.seat.rank n ≡ true
-  pub kept : (manner : Manner) (h : ℕ → S) → IsOnWay R cap manner h x
-      → (g : ℕ → S) × (g 0 ≡ h 0) × IsOnWay R cap manner g y
+  pub heard : (n : ℕ) → x.turns ≤ n → n < y.turns → notified x.seat.rank n ≡ true
+  pub kept : (manner : Manner) (h : ℕ → S) → IsRankAtSeat R cap manner h x
+      → (g : ℕ → S) × (g 0 ≡ h 0) × IsRankAtSeat R cap manner g y
 
 -- A rank that hasn't turned sits at the bank b with the number r.
 pub record IsSeated {S : Type 0} (R : Rules S) (cap : ℕ) (manner : Manner) (b : Identity) (r : ℕ)
@@ -49,7 +49,7 @@ pub record IsSeated {S : Type 0} (R : Rules S) (cap : ℕ) (manner : Manner) (b 
   pub bank : bank_of x ≡ b
   pub number : x.seat.rank ≡ r
   pub none : x.turns ≡ 0
-  pub way : IsOnWay R cap manner (λ m. x.rank.node.run.prog) x
+  pub way : IsRankAtSeat R cap manner (λ m. x.rank.node.run.prog) x
 
 -- Ranks that haven't turned sit at the bank b in order.
 abbrev pub AreSeated : {S : Type 0} → Rules S → ℕ → Manner → Identity → List (SeatedState S) → Type 0
@@ -57,7 +57,7 @@ AreSeated {S} R cap manner b xs = (r : ℕ) (x : SeatedState S) → slice_get xs
 
 -- Turns from x to y made no progress: no parcel was posted or collected, no item was pushed, no
 -- epoch ended, and the run didn't end for want of memory.
-pub record MadeNone {S : Type 0} (x y : SeatedState S) : Type 0 where
+pub record MadeNoProgress {S : Type 0} (x y : SeatedState S) : Type 0 where
   pub parcels : HasSame x.seat y.seat
   pub pushed : y.rank.node.run.next ≡ x.rank.node.run.next
   pub epochs : progress y.rank ≡ progress x.rank

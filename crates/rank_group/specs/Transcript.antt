@@ -14,7 +14,7 @@ use Rattle.rank_node.specs.Movers.Manner.{ByConveyor, ByExstack}
 
 -- With what a bank was made: the grid, the capacity of a parcel, the slots of a link, and whether
 -- it was a slot bank.
-pub record Made : Type 0 where
+pub record BankShape : Type 0 where
   pub dims : List ℕ
   pub cap : ℕ
   pub slots : ℕ
@@ -39,7 +39,7 @@ vote_sent R (Some s) = vote_item (R.vote s) ∷ []
 -- aren't steady, an epoch's entries travel in few parcels (port_bank's few_parcels_law).
 -- With two ranks and six rounds there are 12 epochs; in each odd one each of the four pairs has one
 -- item.
-pub record TellsRun {S : Type 0} (R : Rules S) (starts : List S) (n : ℕ) (made : Made) (manner : Manner)
+pub record RecordsRun {S : Type 0} (R : Rules S) (starts : List S) (n : ℕ) (made : BankShape) (manner : Manner)
     (round : Round) : Type 0 where
   pub bank : record { dims = round.dims; cap = round.cap; slots = round.slots; by_slots = round.by_slots } ≡ made
   pub ended : (l : ℕ) → l < links round.dims → lasts (logs_of round.sent l) ≡ 2 * n

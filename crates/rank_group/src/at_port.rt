@@ -2,8 +2,8 @@
 ghost use Rattle.std.specs.Prelude.{◌<◌, ◌^◌};
 
 use crate::noting::NotingPort;
-use crate::sweeping::Rank;
-use crate::turning::turn_over;
+use crate::sweep::Rank;
+use crate::rank_turn::turn_over;
 use bale_items::{NoMemory, Steps};
 use port_bank::Port;
 use rank_crews::{GateLog, Seated};
@@ -32,22 +32,22 @@ pub struct AtPort<'a, Q: Program, const CAP: usize, const HOPS: usize> {
 }
 
 impl<'a, Q: Program, const CAP: usize, const HOPS: usize> Model for AtPort<'a, Q, CAP, HOPS> {
-    ghost use Rattle.rank_group.specs.Seats.{SeatedState, HasWay};
+    ghost use Rattle.rank_group.specs.Seats.{SeatedState, HasSomeRun};
 
     ghost Value = { SeatedState Q };
 
     ghost view = { λ s. record { rank = s.rank; seat = s.port.port.seat; turns = s.turns; lost = s.lost } };
 
-    ghost invariant = { λ s. HasWay Q.rules CAP
+    ghost invariant = { λ s. HasSomeRun Q.rules CAP
         (record { rank = s.rank; seat = s.port.port.seat; turns = s.turns; lost = s.lost }) };
 }
 
 impl<'a, Q: Program, const CAP: usize, const HOPS: usize> Seated for AtPort<'a, Q, CAP, HOPS> {
     ghost use Rattle.std.specs.Prelude.{◌||◌};
-    ghost use Rattle.rank_group.specs.Seats.{Ran, MadeNone};
+    ghost use Rattle.rank_group.specs.Seats.{TookTurns, MadeNoProgress};
     ghost use Rattle.rank_group.specs.laws.SeatLaws.{ran_laws, none_laws};
 
-    ghost ran = { λ told x y. Ran Q.rules CAP told x y };
+    ghost ran = { λ notified x y. TookTurns Q.rules CAP notified x y };
 
     ghost number = { λ x. x.seat.rank };
 
@@ -55,9 +55,9 @@ impl<'a, Q: Program, const CAP: usize, const HOPS: usize> Seated for AtPort<'a, 
 
     ghost over = { λ x. x.rank.over || x.lost };
 
-    ghost still = { λ x y. MadeNone x y };
+    ghost still = { λ x y. MadeNoProgress x y };
 
-    ghost laws = { λ told. ran_laws Q.rules CAP told };
+    ghost laws = { λ notified. ran_laws Q.rules CAP notified };
 
     ghost still_laws = { none_laws };
 

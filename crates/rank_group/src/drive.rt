@@ -10,7 +10,7 @@ ghost use Rattle.rank_node.specs.Fits.{FitsGrid};
 use crate::closed_round::{ClosedRound, Rounds};
 use crate::closes::closes_laws;
 use crate::ranks::{ranks_of, take_progs};
-use crate::running::run_all;
+use crate::sweeps::run_all;
 use bale_items::{NoMemory, Steps};
 use port_bank::PlainBank;
 use rank_node::Via;

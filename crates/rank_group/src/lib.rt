@@ -33,12 +33,12 @@ mod list_parts;
 mod noting;
 mod ranks;
 mod rest;
-mod running;
+mod sweeps;
 mod seating;
-mod sweeping;
+mod sweep;
 mod thread_count;
 mod threads;
-mod turning;
+mod rank_turn;
 
 pub use at_port::await_turn;
 pub use bale_items::Steps;

@@ -7,7 +7,7 @@ ghost use Rattle.rank_group.specs.Drives.{progs_of, AreFresh};
 ghost use Rattle.rank_node.specs.Fits.{FitsGrid};
 
 use crate::list_parts::one_by_one;
-use crate::sweeping::Rank;
+use crate::sweep::Rank;
 use bale_items::NoMemory;
 use rank_node::{Node, Via};
 use round_program::{Program, Progs};

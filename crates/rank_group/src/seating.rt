@@ -10,7 +10,7 @@ ghost use Rattle.rank_group.specs.Seats.{bank_of, AreSeated};
 use crate::at_port::AtPort;
 use crate::list_parts::one_by_one;
 use crate::noting::NotingPort;
-use crate::sweeping::Rank;
+use crate::sweep::Rank;
 use bale_items::NoMemory;
 use link_slots::{GatherSeat, SlotBank};
 use round_program::Program;

@@ -2,7 +2,7 @@
 ghost use Rattle.std.specs.Prelude.{◌<◌, true, IfOk, OnOk};
 ghost use Rattle.port_bank.specs.Port.{IsSlots};
 ghost use Rattle.rank_node.specs.Movers.{manner_of};
-ghost use Rattle.rank_group.specs.DrivePromises.{MayRun, HasFinished, ToldOfTurns};
+ghost use Rattle.rank_group.specs.DrivePromises.{MayRun, HasFinished, NotifiedOfTurns};
 ghost use Rattle.rank_node.specs.Fits.{FitsGrid};
 
 use crate::closed_round::{ClosedRound, Rounds};
@@ -57,7 +57,7 @@ pub fn drive_threads<
         (record { dims = grid.now; cap = CAP; slots = slots; by_slots = true }) (manner_of via steady)) }
 
     // This gate was notified of the turns of each rank.
-    ensures told { OnOk result (ToldOfTurns Q.rules progs grid.now (G.told gate.now)) }
+    ensures notified { OnOk result (NotifiedOfTurns Q.rules progs grid.now (G.notified gate.now)) }
 {
     let number = threads_for(rt, grid.ranks());
     drive_with::<CAP, HOPS, R, Q, G>(
@@ -102,7 +102,7 @@ pub fn drive_with<
     requires run { MayRun Q.rules grid.now via progs }
     ensures finished { IfOk result (HasFinished Q.rules progs
         (record { dims = grid.now; cap = CAP; slots = slots; by_slots = true }) (manner_of via steady)) }
-    ensures told { OnOk result (ToldOfTurns Q.rules progs grid.now (G.told gate.now)) }
+    ensures notified { OnOk result (NotifiedOfTurns Q.rules progs grid.now (G.notified gate.now)) }
 {
     closes_laws();
     grid.known();

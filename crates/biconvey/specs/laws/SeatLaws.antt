@@ -4,10 +4,10 @@ use Rattle.std.proofs.lemmas.Bool.{cases_lt}
 use Rattle.rank_crews.specs.Runs.{RanLaws}
 use Rattle.round_program.specs.Talks.{Talk}
 use Rattle.rank_group.specs.laws.NotedLaws.{same_laws}
-use Rattle.biconvey.specs.Seats.{BiSeatedState, BiRan, AskerMadeNone}
+use Rattle.biconvey.specs.Seats.{BiSeatedState, TookBiTurns, AskerMadeNoProgress}
 
-pub bi_ran_laws : {S : Type 0} (T : Talk S) (cap : ℕ) (told : ℕ → ℕ → Bool) → RanLaws (λ x y. BiRan T cap told x y)
-bi_ran_laws T cap told =
+pub bi_ran_laws : {S : Type 0} (T : Talk S) (cap : ℕ) (notified : ℕ → ℕ → Bool) → RanLaws (λ x y. TookBiTurns T cap notified x y)
+bi_ran_laws T cap notified =
     record {
       none = λ x. record {
         queries = record { bank = refl; number = refl };
@@ -22,13 +22,13 @@ bi_ran_laws T cap told =
         more = (let p = a.more in let q = b.more in omega (arith, p, q));
         heard = λ n low high. elim (cases_lt n y.turns) [
           | inl before ↦ a.heard n low before
-          | inr after ↦ subst (λ r. told r n ≡ true) a.queries.number (b.heard n after high)
+          | inr after ↦ subst (λ r. notified r n ≡ true) a.queries.number (b.heard n after high)
         ];
         kept = λ steady start way. b.kept steady start (a.kept steady start way);
       };
     }
 
-pub asker_none_laws : {S : Type 0} → RanLaws (AskerMadeNone {S = S})
+pub asker_none_laws : {S : Type 0} → RanLaws (AskerMadeNoProgress {S = S})
 asker_none_laws {S} =
     let q = same_laws (λ (x : BiSeatedState S). x.queries) in
     let p = same_laws (λ (x : BiSeatedState S). x.replies) in

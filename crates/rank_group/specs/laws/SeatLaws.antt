@@ -3,11 +3,11 @@ use Rattle.std.proofs.Common.{◌≡◌, ℕ, Bool, true, refl, subst, ◌∙◌
 use Rattle.std.proofs.lemmas.Bool.{cases_lt}
 use Rattle.round_program.specs.Rules.{Rules}
 use Rattle.rank_crews.specs.Runs.{RanLaws}
-use Rattle.rank_group.specs.Seats.{SeatedState, Ran, MadeNone}
+use Rattle.rank_group.specs.Seats.{SeatedState, TookTurns, MadeNoProgress}
 use Rattle.rank_group.specs.laws.NotedLaws.{same_laws}
 
-pub ran_laws : {S : Type 0} (R : Rules S) (cap : ℕ) (told : ℕ → ℕ → Bool) → RanLaws (λ x y. Ran R cap told x y)
-ran_laws R cap told =
+pub ran_laws : {S : Type 0} (R : Rules S) (cap : ℕ) (notified : ℕ → ℕ → Bool) → RanLaws (λ x y. TookTurns R cap notified x y)
+ran_laws R cap notified =
     record {
       none = λ x. record {
         bank = refl;
@@ -22,7 +22,7 @@ ran_laws R cap told =
         more = (let p = a.more in let q = b.more in omega (arith, p, q));
         heard = λ n low high. elim (cases_lt n y.turns) [
           | inl before ↦ a.heard n low before
-          | inr after ↦ subst (λ r. told r n ≡ true) a.number (b.heard n after high)
+          | inr after ↦ subst (λ r. notified r n ≡ true) a.number (b.heard n after high)
         ];
         kept = λ manner h is.
             let m = a.kept manner h is in
@@ -31,7 +31,7 @@ ran_laws R cap told =
       };
     }
 
-pub none_laws : {S : Type 0} → RanLaws (MadeNone {S = S})
+pub none_laws : {S : Type 0} → RanLaws (MadeNoProgress {S = S})
 none_laws {S} =
     let parcels = same_laws (λ (x : SeatedState S). x.seat) in
     record {

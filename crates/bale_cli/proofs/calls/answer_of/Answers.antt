@@ -5,7 +5,7 @@ use Rattle.bale_subjects.specs.declared.refusal.Refusal.TheVariants as refusal
 use Rattle.bale_subjects.specs.declared.unfit.Unfit.{Unfit}
 use Rattle.bale_subjects.specs.Reading.{IsSubjectOf}
 use Rattle.bale_subjects.specs.Fitness.{unfitness}
-use Rattle.bale_runs.specs.Reports.{ToldOfEpochs}
+use Rattle.bale_runs.specs.Reports.{NotifiedOfEpochs}
 use Rattle.bale_runs.specs.Jobs.{as_asked}
 use Rattle.bale_cli.proofs.Answering.{ok_where, subject_refused, ran_answered, same_Err}
 use Rattle.bale_cli.proofs.calls.answer_of.Goals as goal
@@ -15,7 +15,7 @@ returns-in-Ok g c =
     ran_answered c.run_command.result c.args.command.now c.in-Ok.subject c.requires.ranges c.in-Ok.ensures.subject
     (subst (λ (b : Bool). unfitness c.args.command.now c.in-Ok.subject b ≡ None) c.drives_serially-serial.ensures c.in-Ok.ensures.fits) (c.in-Ok.ensures.faults.no_fault (λ e. cc)) c.subject_for.ensures.unread
     c.in-Ok.ensures.read_whole c.run_command.ensures.finish
-    (ok_where c.run_command.result (as_asked c.args.command.now ≡ false) (λ f. ToldOfEpochs c.args.command.now.grid (g.G.Gate.told c.args.gate.now) f.rounds) c.run_command.ensures.told)
+    (ok_where c.run_command.result (as_asked c.args.command.now ≡ false) (λ f. NotifiedOfEpochs c.args.command.now.grid (g.G.Gate.notified c.args.gate.now) f.rounds) c.run_command.ensures.notified)
 
 pub returns-in-Err : goal.returns-in-Err
 returns-in-Err g c =

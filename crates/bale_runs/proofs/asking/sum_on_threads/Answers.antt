@@ -2,12 +2,12 @@ use Rattle.std.proofs.Common.{◌<◌, ◌≤◌, ◌≡◌, ◌∙◌, ℕ, Lis
 use Rattle.route_tensor.proofs.Coordinates.{ranks_some}
 use Rattle.route_tensor.specs.Grid.{ranks}
 use Rattle.rank_node.specs.Movers.{manner_of}
-use Rattle.rank_group.specs.DrivePromises.{HasFinished, ToldOfTurns}
+use Rattle.rank_group.specs.DrivePromises.{HasFinished, NotifiedOfTurns}
 use Rattle.rank_node.specs.declared.via.Via.TheVariants as via
 use Rattle.round_program.specs.Canonical.{InRound, EndsWithin}
 use Rattle.app_cases.specs.Any.{any_rules, sums_way}
 use Rattle.app_histo_ig.specs.SumsRuns.{sums_starts}
-use Rattle.bale_runs.specs.Asking.{HasSummed, ToldBy}
+use Rattle.bale_runs.specs.Asking.{HasSummed, NotifiedBy}
 use Rattle.bale_subjects.specs.declared.subject.Subject.TheVariants as subject
 use Rattle.app_histo_ig.proofs.SumsStarts.{one_round}
 use Rattle.bale_runs.specs.Runs.{made_for}
@@ -58,12 +58,12 @@ case_threads-requires-clause-capacity g c κs within = c.requires.ranges.travel.
 pub case_threads-requires-clause-slots : goal.case_threads-requires-clause-slots
 case_threads-requires-clause-slots g c κs within = is_slots c.args.command.now.travel.slots c.requires.ranges.travel.slots
 
-pub returns-clause-told : goal.returns-clause-told
-returns-clause-told g c =
-    let x = (goal.at.returns-clause-told g c).In_ok-progs in
+pub returns-clause-notified : goal.returns-clause-notified
+returns-clause-notified g c =
+    let x = (goal.at.returns-clause-notified g c).In_ok-progs in
     let dims = c.args.command.now.grid in
     let starts = sums_starts (ranks dims) c.args.m.now in
-    on_ok c.case_threads.result (ToldOfTurns any_rules c.in_ok-progs.progs dims (g.G.Gate.told c.args.gate.now))
-    (ToldBy true c.args.command.now (subject.Matrix c.args.m.now) (g.G.Gate.told c.args.gate.now))
-    (λ f r m low few. told_turns sums_way.is_case starts c.in_ok-progs.progs dims (g.G.Gate.told c.args.gate.now) (are g x) (some g x) f 1 r m (one_round starts) low few)
-    c.case_threads.ensures.told
+    on_ok c.case_threads.result (NotifiedOfTurns any_rules c.in_ok-progs.progs dims (g.G.Gate.notified c.args.gate.now))
+    (NotifiedBy true c.args.command.now (subject.Matrix c.args.m.now) (g.G.Gate.notified c.args.gate.now))
+    (λ f r m low few. told_turns sums_way.is_case starts c.in_ok-progs.progs dims (g.G.Gate.notified c.args.gate.now) (are g x) (some g x) f 1 r m (one_round starts) low few)
+    c.case_threads.ensures.notified

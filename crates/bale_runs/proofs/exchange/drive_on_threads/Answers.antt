@@ -9,7 +9,7 @@ use Rattle.bale_answers.specs.Tasks.{starts_of}
 use Rattle.bale_runs.specs.Runs.{made_for, IsTaskRun}
 use Rattle.rank_node.specs.Movers.{manner_of}
 use Rattle.rank_group.specs.DrivePromises.{HasFinished}
-use Rattle.rank_group.specs.DrivePromises.{ToldOfTurns}
+use Rattle.rank_group.specs.DrivePromises.{NotifiedOfTurns}
 use Rattle.bale_answers.specs.Tasks.{plan_of}
 use Rattle.bale_runs.proofs.Cases.{task_run, on_ok, told_of_task}
 use Rattle.bale_runs.proofs.Exchanges.{is_slots, fit_grid}
@@ -55,10 +55,10 @@ returns-clause-run g c =
     (subst (λ v. HasFinished any_rules c.in_ok-progs.progs (made_for false c.args.command.now) (manner_of v c.args.command.now.travel.steady) run) c.via_of.ensures h))
     c.case_threads.ensures.finished
 
-pub returns-clause-told : goal.returns-clause-told
-returns-clause-told g c =
-    let x = (goal.at.returns-clause-told g c).In_ok-progs in
+pub returns-clause-notified : goal.returns-clause-notified
+returns-clause-notified g c =
+    let x = (goal.at.returns-clause-notified g c).In_ok-progs in
     let dims = c.args.command.now.grid in
     let t = c.args.command.now.task in
-    on_ok c.case_threads.result (ToldOfTurns any_rules c.in_ok-progs.progs dims (g.G.Gate.told c.args.gate.now)) (ToldOfTurns (plan_of t c.args.subject.now).rules ((plan_of t c.args.subject.now).starts (ranks dims)) dims (g.G.Gate.told c.args.gate.now))
-    (told_of_task t c.args.subject.now dims (g.G.Gate.told c.args.gate.now) c.in_ok-progs.progs (are g x) (some g x)) c.case_threads.ensures.told
+    on_ok c.case_threads.result (NotifiedOfTurns any_rules c.in_ok-progs.progs dims (g.G.Gate.notified c.args.gate.now)) (NotifiedOfTurns (plan_of t c.args.subject.now).rules ((plan_of t c.args.subject.now).starts (ranks dims)) dims (g.G.Gate.notified c.args.gate.now))
+    (told_of_task t c.args.subject.now dims (g.G.Gate.notified c.args.gate.now) c.in_ok-progs.progs (are g x) (some g x)) c.case_threads.ensures.notified

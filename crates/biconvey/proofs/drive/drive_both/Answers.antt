@@ -14,7 +14,7 @@ use Rattle.biconvey.specs.Turns.{AskingScene, IsAskingTurn}
 use Rattle.biconvey.specs.RanksOverBanks.{sides_of}
 use Rattle.biconvey.specs.Drives.{askers_of}
 use Rattle.biconvey.specs.DrivePromises.{HasExchanged, HasSweptBoth}
-use Rattle.biconvey.proofs.Ended.{first, banks_first, world_first, begins, steps_at, fewest_at, world_last, banks_last, have_heard, told}
+use Rattle.biconvey.proofs.Ended.{first, banks_first, world_first, begins, steps_at, fewest_at, world_last, banks_last, have_heard, notified}
 use Rattle.biconvey.proofs.drive.drive_both.Goals as goal
 
 pub run_all-requires : goal.run_all-requires
@@ -51,7 +51,7 @@ returns-clause-exchanged g c =
     record {
       heard = have_heard T g.met.A.Asker.laws c.closes_law.ensures g.row.CAP c.args.grid.now c.args.slots c.args.steady c.args.askers (first g.A.Asker.talk g.row.CAP c.args.grid.now c.args.slots c.args.steady c.args.askers c.in_ok-all.all.items c.in_ok-banks.banks.queries c.in_ok-banks.banks.replies c.in_ok-all.ensures c.requires.askers c.requires.fits.cap_is.some c.in_ok-banks.ensures.queries c.in_ok-banks.ensures.replies c.in_ok-banks.ensures.lawful).0 ns b.queries b.replies c.requires.askers banks w c.in_ok-banks-2.ensures.over f.progs
           (if_ok_is (λ f. f.progs ≡ askers_of ns) c.finish.result f e c.finish.ensures.progs);
-      rounds = (x.0, x.1, x.2, told T g.met.A.Asker.laws c.closes_law.ensures g.row.CAP c.args.grid.now c.args.slots c.args.steady c.args.askers (first g.A.Asker.talk g.row.CAP c.args.grid.now c.args.slots c.args.steady c.args.askers c.in_ok-all.all.items c.in_ok-banks.banks.queries c.in_ok-banks.banks.replies c.in_ok-all.ensures c.requires.askers c.requires.fits.cap_is.some c.in_ok-banks.ensures.queries c.in_ok-banks.ensures.replies c.in_ok-banks.ensures.lawful).0 ns b.queries b.replies c.requires.askers banks w c.in_ok-banks-2.ensures.over (round_inside x.0) (round_inside x.1) x.3 x.4 x.5 x.6);
+      rounds = (x.0, x.1, x.2, notified T g.met.A.Asker.laws c.closes_law.ensures g.row.CAP c.args.grid.now c.args.slots c.args.steady c.args.askers (first g.A.Asker.talk g.row.CAP c.args.grid.now c.args.slots c.args.steady c.args.askers c.in_ok-all.all.items c.in_ok-banks.banks.queries c.in_ok-banks.banks.replies c.in_ok-all.ensures c.requires.askers c.requires.fits.cap_is.some c.in_ok-banks.ensures.queries c.in_ok-banks.ensures.replies c.in_ok-banks.ensures.lawful).0 ns b.queries b.replies c.requires.askers banks w c.in_ok-banks-2.ensures.over (round_inside x.0) (round_inside x.1) x.3 x.4 x.5 x.6);
     })
 
 pub returns-clause-swept : goal.returns-clause-swept
@@ -90,10 +90,10 @@ returns-clause-swept g c =
           let same : x.0 ∷ x.1 ∷ [] ≡ q ∷ r ∷ [] = sym x.2 ∙ is in
           let same_q : x.0 ≡ q = get_once (x.0 ∷ x.1 ∷ []) 0 x.0 q refl (ap (λ rs. slice_get rs 0) same) in
           let same_r : x.1 ≡ r = get_once (x.0 ∷ x.1 ∷ []) 1 x.1 r refl (ap (λ rs. slice_get rs 1) same) in
-          let told = c.in_ok-banks-2.ensures.posted l (subst (λ (y : Bank). l < links y.dims) (sym c.in_ok-banks.ensures.queries) below) in
+          let notified = c.in_ok-banks-2.ensures.posted l (subst (λ (y : Bank). l < links y.dims) (sym c.in_ok-banks.ensures.queries) below) in
           let none_q : length (sent_of c.in_ok-banks.banks.queries l) ≡ 0 = ap (λ (y : Bank). length (sent_of y l)) c.in_ok-banks.ensures.queries ∙ none_first c.args.grid.now c.args.slots l in
           let none_r : length (sent_of c.in_ok-banks.banks.replies l) ≡ 0 = ap (λ (y : Bank). length (sent_of y l)) c.in_ok-banks.ensures.replies ∙ none_first c.args.grid.now c.args.slots l in
           let all_q : length (logs_of (round_inside q).sent l) ≡ length (sent_of b.queries l) = ap (λ y. length (logs_of (round_inside y).sent l)) (sym same_q) ∙ ap length (all_sent g.row.CAP b.queries (round_inside x.0) l x.3) in
           let all_r : length (logs_of (round_inside r).sent l) ≡ length (sent_of b.replies l) = ap (λ y. length (logs_of (round_inside y).sent l)) (sym same_r) ∙ ap length (all_sent g.row.CAP b.replies (round_inside x.1) l x.5) in
-          (omega (arith, told.0, none_q, all_q), omega (arith, told.1, none_r, all_r));
+          (omega (arith, notified.0, none_q, all_q), omega (arith, notified.1, none_r, all_r));
     })

@@ -1,6 +1,6 @@
 use Rattle.std.proofs.Common.{◌≡◌, ◌++◌}
 use Rattle.item_buffer.specs.Contents.{blank}
-use Rattle.convey.specs.Way.{LeftByCollects}
+use Rattle.convey.specs.AdvanceSteps.{LeftByCollects}
 use Rattle.hop_core.specs.Link.{is_wanted}
 use Rattle.convey.specs.Buffers.{in_of}
 use Rattle.convey.proofs.Ways.{Collecting}

@@ -15,7 +15,7 @@ use Rattle.convey.specs.Buffers.{in_of}
 use Rattle.convey.specs.Due.{Wants}
 use Rattle.port_bank.specs.Calls.{once_if}
 use Rattle.port_bank.specs.Calls.Call.{Collect}
-use Rattle.convey.specs.Way.{GoesOn}
+use Rattle.convey.specs.AdvanceSteps.{GoesOn}
 use Rattle.convey.proofs.Ways.{no_more, goes_on_refl, collects_first}
 use Rattle.convey.proofs.States.{in_number}
 use Rattle.convey.proofs.Collects.{filled, fair_at, collected_one, came_lies, grew, still_ready}

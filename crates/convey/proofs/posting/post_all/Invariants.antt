@@ -1,6 +1,6 @@
 use Rattle.std.proofs.Common.{◌≡◌, ◌++◌}
 use Rattle.item_buffer.specs.Contents.{blank}
-use Rattle.convey.specs.Way.{LeftByPosts}
+use Rattle.convey.specs.AdvanceSteps.{LeftByPosts}
 use Rattle.route_tensor.specs.Neighbour.{link_to}
 use Rattle.convey.specs.Due.{was_served}
 use Rattle.convey.proofs.Ways.{Serving}

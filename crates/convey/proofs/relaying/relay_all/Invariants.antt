@@ -4,7 +4,7 @@ use Rattle.route_tensor.specs.Ends.{hop_at}
 use Rattle.port_bank.specs.Logs.{Logs}
 use Rattle.hop_core.specs.Standing.{IsState}
 use Rattle.convey.specs.Due.{IsBlocked}
-use Rattle.convey.specs.Way.{IsReady, PassedOn}
+use Rattle.convey.specs.AdvanceSteps.{IsReady, PassedOn}
 use Rattle.convey.proofs.relaying.relay_all.Given as goal
 
 abbrev pub invariant-loop-h : goal.invariant-loop-h

@@ -7,7 +7,7 @@ use Rattle.hop_core.specs.Relay.{held}
 use Rattle.route_tensor.specs.Pair.{PassesThrough}
 use Rattle.convey.specs.Buffers.{out_of, in_of}
 use Rattle.convey.specs.Due.{IsBlocked}
-use Rattle.convey.specs.Way.{PassedOn}
+use Rattle.convey.specs.AdvanceSteps.{PassedOn}
 use Rattle.convey.proofs.Relays.{relayed_one}
 use Rattle.convey.proofs.Blocks.{blocked_here, same_ins, same_outs}
 use Rattle.convey.proofs.relaying.relay_one.Goals as goal

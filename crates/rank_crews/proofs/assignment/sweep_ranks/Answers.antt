@@ -7,7 +7,7 @@ use Rattle.rank_crews.proofs.assignment.sweep_ranks.Goals as goal
 
 pub loop-i-preserved : goal.loop-i-preserved
 loop-i-preserved g c =
-    let told = g.J.GateLog.told in
+    let notified = g.J.GateLog.notified in
     let ys = c.loop-i.ranks.items in
     let was = c.args.ranks.now.items in
     let i = c.len-count.result - 1 - c.loop-i.i in
@@ -21,7 +21,7 @@ loop-i-preserved g c =
     let count : c.len-count.result ≡ length was = omega (arith, c.len-count.ensures) in
     record {
       counted = omega (arith, more, before, now);
-      ran = ran_on (g.A.Seated.ran told) (g.met.A.Seated.laws told) was ys i c.index_mut.result.now c.turn_one-moved.new.at c.loop-i.invariant.ran at one.ran;
+      ran = ran_on (g.A.Seated.ran notified) (g.met.A.Seated.laws notified) was ys i c.index_mut.result.now c.turn_one-moved.new.at c.loop-i.invariant.ran at one.ran;
       each = subst (λ n. SweptSoFar g.A.Seated.over g.A.Seated.turns (c.loop-i.i + 1) was (slice_set ys (n - 1 - c.loop-i.i) c.turn_one-moved.new.at)) (sym count)
           (swept_more g.A.Seated.over g.A.Seated.turns c.loop-i.i was ys c.index_mut.result.now c.turn_one-moved.new.at c.loop-i.invariant.each (omega (arith, c.loop-i-test.true, count))
           (subst (λ n. slice_get ys (n - 1 - c.loop-i.i) ≡ Some c.index_mut.result.now) count at) one.one);
@@ -33,7 +33,7 @@ loop-i-preserved g c =
 pub loop-i-init : goal.loop-i-init
 loop-i-init g c = record {
   counted = refl;
-  ran = (all_ran_laws (g.A.Seated.ran g.J.GateLog.told) (g.met.A.Seated.laws g.J.GateLog.told)).none c.args.ranks.now.items;
+  ran = (all_ran_laws (g.A.Seated.ran g.J.GateLog.notified) (g.met.A.Seated.laws g.J.GateLog.notified)).none c.args.ranks.now.items;
   each = swept_none g.A.Seated.over g.A.Seated.turns c.args.ranks.now.items;
   still = λ none. (all_ran_laws g.A.Seated.still g.met.A.Seated.still_laws).none c.args.ranks.now.items;
 }

@@ -27,12 +27,12 @@ loop-number-preserved g c =
     let below = c.loop-number-test.true in
     record {
       so_far = λ all size run.
-          subst (λ k. Gathered (A.ran g.J.GateLog.told) A.over n (r + 1) all (slice_set crews (r % k) rest) c.push_reserved.new.self.items) (sym len)
-          (subst (λ z. Gathered (A.ran g.J.GateLog.told) A.over n (r + 1) all (slice_set crews (r % n) rest) z) (sym push.items)
-          (gathered_more (A.ran g.J.GateLog.told) A.over n r all crews c.loop-number.ended.items (v.so_far all size run) (omega (arith, below, size)) old at rest y is));
+          subst (λ k. Gathered (A.ran g.J.GateLog.notified) A.over n (r + 1) all (slice_set crews (r % k) rest) c.push_reserved.new.self.items) (sym len)
+          (subst (λ z. Gathered (A.ran g.J.GateLog.notified) A.over n (r + 1) all (slice_set crews (r % n) rest) z) (sym push.items)
+          (gathered_more (A.ran g.J.GateLog.notified) A.over n r all crews c.loop-number.ended.items (v.so_far all size run) (omega (arith, below, size)) old at rest y is));
       over = subst (λ z. All (λ k. A.over k ≡ true) z) (sym push.items)
           (All-push (λ k. A.over k ≡ true) c.loop-number.ended.items y v.over
-          (came_over (A.ran g.J.GateLog.told) A.over n r q.0 crews c.loop-number.ended.items (v.so_far q.0 q.1 q.2) (omega (arith, below, q.1)) old at rest y is));
+          (came_over (A.ran g.J.GateLog.notified) A.over n r q.0 crews c.loop-number.ended.items (v.so_far q.0 q.1 q.2) (omega (arith, below, q.1)) old at rest y is));
       size = length-set crews (r % c.len.result) rest ∙ v.size;
       back = omega (arith, ap length push.items, length-append c.loop-number.ended.items (y ∷ []), v.back);
       room = omega (arith, v.room, push.capacity);
@@ -53,4 +53,4 @@ unreachable-requires g c =
     let len : c.len.result ≡ n = omega (arith, c.len.ensures, v.size) in
     let low : r % n < length crews = omega (arith, mod_below r n some, v.size) in
     let at = slice_get_read crews (length crews) (r % n) c.index_mut.result.now refl low (c.index_mut.ensures.value ∙ ap (λ k. slice_index_or crews (r % k) c.index_mut.result.now) len) in
-    still_some (g.A.Seated.ran g.J.GateLog.told) g.A.Seated.over n r q.0 crews c.loop-number.ended.items so_far (omega (arith, c.loop-number-test.true, q.1)) c.index_mut.result.now at c.in_default.ensures.none
+    still_some (g.A.Seated.ran g.J.GateLog.notified) g.A.Seated.over n r q.0 crews c.loop-number.ended.items so_far (omega (arith, c.loop-number-test.true, q.1)) c.index_mut.result.now at c.in_default.ensures.none

@@ -8,7 +8,7 @@ use Rattle.rank_crews.proofs.threads.take_ranks.Goals as goal
 
 pub loop-child-preserved : goal.loop-child-preserved
 loop-child-preserved g c =
-    let ran = AllRan (g.A.Seated.ran g.J.GateLog.told) in
+    let ran = AllRan (g.A.Seated.ran g.J.GateLog.notified) in
     let v = c.loop-child.invariant in
     let child = c.in-Some.child in
     let back = v.back ++ first_of child ∷ [] in

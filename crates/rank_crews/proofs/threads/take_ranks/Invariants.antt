@@ -9,7 +9,7 @@ abbrev pub invariant-loop-child : goal.invariant-loop-child
 invariant-loop-child g l = record {
   back : List (List g.row.A.Denot);
   left : back ++ reverse (map first_of l.children.items) ≡ reverse (map first_of l.fn.children.items);
-  ran : AllRan (AllRan (g.A.Seated.ran g.J.GateLog.told)) back l.back.items;
+  ran : AllRan (AllRan (g.A.Seated.ran g.J.GateLog.notified)) back l.back.items;
   over : All (λ xs. list_all g.A.Seated.over xs ≡ true) l.back.items;
   ended : All (HasEnded g.A.Seated.over) l.children.items;
   room : length l.fn.children.items ≤ vec_capacity l.back;

@@ -9,7 +9,7 @@ use Rattle.rank_group.specs.Ranks.{IsOrder}
 use Rattle.rank_group.specs.Turns.{Scene, SweepsOf}
 use Rattle.rank_group.specs.RanksOverBank.{all_progress}
 use Rattle.rank_group.specs.declared.closed_round.ClosedRound.TheVariants.{Plain}
-use Rattle.rank_group.proofs.Ended.{run_needs, steps_at, world_after, have_ended, told, fewest_turns, only_one, none_first, all_sent, all_got}
+use Rattle.rank_group.proofs.Ended.{run_needs, steps_at, world_after, have_ended, notified, fewest_turns, only_one, none_first, all_sent, all_got}
 use Rattle.rank_group.proofs.drive.drive_serial.Goals as goal
 
 pub run_all-requires : goal.run_all-requires
@@ -60,7 +60,7 @@ returns-clause-finished g c =
         Plain c.close.result,
         c.in_ok-add.ensures.added ∙ ap (λ xs. xs ++ Plain c.close.result ∷ []) c.new-rounds.ensures,
         λ n rounds.
-            told g.Q.Program.rules g.met.Q.Program.laws c.closes_laws.ensures g.row.CAP c.args.grid.now c.args.slots (manner_of c.args.via c.args.steady) c.args.progs w.0 c.run_all.new.all.items c.in_ok-bank-2.bank ed es w.1.ranked (c.in_ok-bank-2.ensures.over) c.requires.run.begins.0 c.requires.run.begins.1 n c.requires.run.begins.2 rounds c.close.result c.close.ensures.round c.close.ensures.in_order,
+            notified g.Q.Program.rules g.met.Q.Program.laws c.closes_laws.ensures g.row.CAP c.args.grid.now c.args.slots (manner_of c.args.via c.args.steady) c.args.progs w.0 c.run_all.new.all.items c.in_ok-bank-2.bank ed es w.1.ranked (c.in_ok-bank-2.ensures.over) c.requires.run.begins.0 c.requires.run.begins.1 n c.requires.run.begins.2 rounds c.close.result c.close.ensures.round c.close.ensures.in_order,
       );
     }
 
@@ -97,8 +97,8 @@ returns-clause-swept g c =
       posted = λ round is l below.
           let rounds = c.in_ok-add.ensures.added ∙ ap (λ xs. xs ++ Plain c.close.result ∷ []) c.new-rounds.ensures in
           let same : Plain c.close.result ≡ round = only_one (Plain c.close.result) round (sym rounds ∙ is) in
-          let told = c.in_ok-bank-2.ensures.posted l (subst (λ d. l < links d) (sym (ap (λ (b : Bank). b.dims) made)) below) in
+          let notified = c.in_ok-bank-2.ensures.posted l (subst (λ d. l < links d) (sym (ap (λ (b : Bank). b.dims) made)) below) in
           let none : length (sent_of c.in_ok-bank.bank l) ≡ 0 = ap (λ (b : Bank). length (sent_of b l)) made ∙ none_first c.args.grid.now c.args.slots l in
           let all : length (logs_of (round_inside round).sent l) ≡ length (sent_of c.in_ok-bank-2.bank l) = ap (λ x. length (logs_of (round_inside x).sent l)) (sym same) ∙ ap length (all_sent g.row.CAP c.in_ok-bank-2.bank c.close.result l c.close.ensures.round) in
-          omega (arith, told, none, all);
+          omega (arith, notified, none, all);
     }

@@ -14,7 +14,7 @@ use Rattle.round_program.specs.Canonical.{InRound}
 use Rattle.rank_node.specs.Movers.{manner_of}
 use Rattle.rank_group.specs.declared.closed_round.ClosedRound.TheVariants.{Slots}
 use Rattle.rank_group.specs.Drives.{progs_of, AreFresh}
-use Rattle.rank_group.specs.Transcript.{Made, TellsRun}
+use Rattle.rank_group.specs.Transcript.{BankShape, RecordsRun}
 use Rattle.rank_group.proofs.Ended.{have_ended}
 use Rattle.rank_group.proofs.Telling.{tells_run}
 use Rattle.rank_group.proofs.Threaded.{sat_at, numbered_at, all_there, history, all_ranked, all_over, all_told}
@@ -36,8 +36,8 @@ gather_all-requires g c =
             (
               c.seat_all.ensures.bank,
               (
-                sat_at R g.row.CAP c.in_ok-bank.bank (manner_of c.args.via c.args.steady) c.args.progs c.requires.run.begins.0 c.requires.run.begins.1 start c.in_ok-all.all.items fresh c.in_ok-seated.seated.items c.in_ok-ended.ended.items c.in_ok-seated.ensures.ranks seated (g.G.Gate.told c.args.gate.now) c.in_ok-ended.ensures.ran,
-                numbered_at R g.row.CAP c.in_ok-bank.bank (manner_of c.args.via c.args.steady) c.args.progs c.requires.run.begins.0 c.requires.run.begins.1 start c.in_ok-all.all.items fresh c.in_ok-seated.seated.items c.in_ok-ended.ended.items c.in_ok-seated.ensures.ranks seated (g.G.Gate.told c.args.gate.now) c.in_ok-ended.ensures.ran,
+                sat_at R g.row.CAP c.in_ok-bank.bank (manner_of c.args.via c.args.steady) c.args.progs c.requires.run.begins.0 c.requires.run.begins.1 start c.in_ok-all.all.items fresh c.in_ok-seated.seated.items c.in_ok-ended.ended.items c.in_ok-seated.ensures.ranks seated (g.G.Gate.notified c.args.gate.now) c.in_ok-ended.ensures.ran,
+                numbered_at R g.row.CAP c.in_ok-bank.bank (manner_of c.args.via c.args.steady) c.args.progs c.requires.run.begins.0 c.requires.run.begins.1 start c.in_ok-all.all.items fresh c.in_ok-seated.seated.items c.in_ok-ended.ended.items c.in_ok-seated.ensures.ranks seated (g.G.Gate.notified c.args.gate.now) c.in_ok-ended.ensures.ran,
               ),
             ),
           ),
@@ -56,7 +56,7 @@ close-requires g c =
         search rules,
         (
           c.gather_all.ensures.bank,
-          all_there R g.row.CAP c.in_ok-bank.bank (manner_of c.args.via c.args.steady) c.args.progs c.requires.run.begins.0 c.requires.run.begins.1 start c.in_ok-all.all.items fresh c.in_ok-seated.seated.items c.in_ok-ended.ended.items c.in_ok-seated.ensures.ranks seated (g.G.Gate.told c.args.gate.now) c.in_ok-ended.ensures.ran c.gather_all.new.gather c.in_ok-over.ensures.there,
+          all_there R g.row.CAP c.in_ok-bank.bank (manner_of c.args.via c.args.steady) c.args.progs c.requires.run.begins.0 c.requires.run.begins.1 start c.in_ok-all.all.items fresh c.in_ok-seated.seated.items c.in_ok-ended.ended.items c.in_ok-seated.ensures.ranks seated (g.G.Gate.notified c.args.gate.now) c.in_ok-ended.ensures.ran c.gather_all.new.gather c.in_ok-over.ensures.there,
         ),
       ),
     )
@@ -74,10 +74,10 @@ returns-clause-finished g c =
     let order = subst IsRound c.close.ensures.round c.close.ensures.in_order in
     let sent = subst (λ (z : Round). (s : Manning) → slice_index_or lists s.rank None ≡ Some s.lists → starting_at b.shape.dims s.rank (logs_of z.sent) ≡ posted_on s) c.close.ensures.round c.close.ensures.sent in
     let got = subst (λ (z : Round). (s : Manning) → slice_index_or lists s.rank None ≡ Some s.lists → ending_at b.shape.dims s.rank (logs_of z.got) ≡ collected_from s) c.close.ensures.round c.close.ensures.got in
-    let h = history R g.row.CAP c.in_ok-bank.bank (manner_of c.args.via c.args.steady) c.args.progs c.requires.run.begins.0 c.requires.run.begins.1 start c.in_ok-all.all.items fresh c.in_ok-seated.seated.items c.in_ok-ended.ended.items c.in_ok-seated.ensures.ranks seated (g.G.Gate.told c.args.gate.now) c.in_ok-ended.ensures.ran c.in_ok-ended.ensures.over c.in_ok-over.ensures.none_lost c.gather_all.new.gather c.in_ok-over.ensures.there order sent got in
-    let w = all_ranked R g.row.CAP c.in_ok-bank.bank (manner_of c.args.via c.args.steady) c.args.progs c.requires.run.begins.0 c.requires.run.begins.1 start c.in_ok-all.all.items fresh c.in_ok-seated.seated.items c.in_ok-ended.ended.items c.in_ok-seated.ensures.ranks seated (g.G.Gate.told c.args.gate.now) c.in_ok-ended.ensures.ran c.in_ok-ended.ensures.over c.in_ok-over.ensures.none_lost c.gather_all.new.gather c.in_ok-over.ensures.there order sent got in
-    let over = all_over R g.row.CAP c.in_ok-bank.bank (manner_of c.args.via c.args.steady) c.args.progs c.requires.run.begins.0 c.requires.run.begins.1 start c.in_ok-all.all.items fresh c.in_ok-seated.seated.items c.in_ok-ended.ended.items c.in_ok-seated.ensures.ranks seated (g.G.Gate.told c.args.gate.now) c.in_ok-ended.ensures.ran c.in_ok-ended.ensures.over c.in_ok-over.ensures.none_lost c.gather_all.new.gather c.in_ok-over.ensures.there order sent got in
-    let made : Made = record { dims = c.args.grid.now; cap = g.row.CAP; slots = c.args.slots; by_slots = true } in
+    let h = history R g.row.CAP c.in_ok-bank.bank (manner_of c.args.via c.args.steady) c.args.progs c.requires.run.begins.0 c.requires.run.begins.1 start c.in_ok-all.all.items fresh c.in_ok-seated.seated.items c.in_ok-ended.ended.items c.in_ok-seated.ensures.ranks seated (g.G.Gate.notified c.args.gate.now) c.in_ok-ended.ensures.ran c.in_ok-ended.ensures.over c.in_ok-over.ensures.none_lost c.gather_all.new.gather c.in_ok-over.ensures.there order sent got in
+    let w = all_ranked R g.row.CAP c.in_ok-bank.bank (manner_of c.args.via c.args.steady) c.args.progs c.requires.run.begins.0 c.requires.run.begins.1 start c.in_ok-all.all.items fresh c.in_ok-seated.seated.items c.in_ok-ended.ended.items c.in_ok-seated.ensures.ranks seated (g.G.Gate.notified c.args.gate.now) c.in_ok-ended.ensures.ran c.in_ok-ended.ensures.over c.in_ok-over.ensures.none_lost c.gather_all.new.gather c.in_ok-over.ensures.there order sent got in
+    let over = all_over R g.row.CAP c.in_ok-bank.bank (manner_of c.args.via c.args.steady) c.args.progs c.requires.run.begins.0 c.requires.run.begins.1 start c.in_ok-all.all.items fresh c.in_ok-seated.seated.items c.in_ok-ended.ended.items c.in_ok-seated.ensures.ranks seated (g.G.Gate.notified c.args.gate.now) c.in_ok-ended.ensures.ran c.in_ok-ended.ensures.over c.in_ok-over.ensures.none_lost c.gather_all.new.gather c.in_ok-over.ensures.there order sent got in
+    let made : BankShape = record { dims = c.args.grid.now; cap = g.row.CAP; slots = c.args.slots; by_slots = true } in
     let is = ap (λ (s : Shape). record { dims = s.dims; cap = g.row.CAP; slots = s.slots; by_slots = true }) c.in_ok-bank.ensures.bank in
     record {
       ended = have_ended R (g.met.Q.Program g.world.𝓛 g.world.𝓜 g.world.𝓡 ((λ s x. x), (λ x. x), (λ x. x), λ x. x)).laws c.closes_laws.ensures g.row.CAP b.shape.dims b.shape.slots (manner_of c.args.via c.args.steady) c.args.progs h (map (λ y. y.rank) ys) (logs_of round.sent) (logs_of round.got) w over
@@ -85,14 +85,14 @@ returns-clause-finished g c =
       rounds = (
         Slots c.close.result,
         c.in_ok-add.ensures.added ∙ ap (λ xs. xs ++ Slots c.close.result ∷ []) c.new-rounds.ensures,
-        λ n rounds. subst (λ z. TellsRun R c.args.progs n made (manner_of c.args.via c.args.steady) z) (sym c.close.ensures.round)
+        λ n rounds. subst (λ z. RecordsRun R c.args.progs n made (manner_of c.args.via c.args.steady) z) (sym c.close.ensures.round)
             (tells_run R (g.met.Q.Program g.world.𝓛 g.world.𝓜 g.world.𝓡 ((λ s x. x), (λ x. x), (λ x. x), λ x. x)).laws c.closes_laws.ensures round g.row.CAP b.shape.slots (manner_of c.args.via c.args.steady) c.args.progs h (map (λ y. y.rank) ys) w order.in_order over
             c.requires.run.begins.0 c.requires.run.begins.1 n start rounds made is refl),
       );
     }
 
-pub returns-clause-told : goal.returns-clause-told
-returns-clause-told g c = λ n r m rounds low below.
+pub returns-clause-notified : goal.returns-clause-notified
+returns-clause-notified g c = λ n r m rounds low below.
     let R = g.Q.Program.rules in
     let fresh = subst (λ (h : Shape). AreFresh R h.dims g.row.CAP (manner_of c.args.via c.args.steady) c.args.progs c.in_ok-all.all.items) (sym c.in_ok-bank.ensures.bank) c.in_ok-all.ensures.fresh in
     let start = subst (λ (h : Shape). InRound R (ranks h.dims) 0 c.requires.run.begins.0 c.requires.run.begins.1 c.args.progs) (sym c.in_ok-bank.ensures.bank) c.requires.run.begins.2 in
@@ -104,7 +104,7 @@ returns-clause-told g c = λ n r m rounds low below.
     let order = subst IsRound c.close.ensures.round c.close.ensures.in_order in
     let sent = subst (λ (z : Round). (s : Manning) → slice_index_or lists s.rank None ≡ Some s.lists → starting_at b.shape.dims s.rank (logs_of z.sent) ≡ posted_on s) c.close.ensures.round c.close.ensures.sent in
     let got = subst (λ (z : Round). (s : Manning) → slice_index_or lists s.rank None ≡ Some s.lists → ending_at b.shape.dims s.rank (logs_of z.got) ≡ collected_from s) c.close.ensures.round c.close.ensures.got in
-    all_told R g.row.CAP c.in_ok-bank.bank (manner_of c.args.via c.args.steady) c.args.progs c.requires.run.begins.0 c.requires.run.begins.1 start c.in_ok-all.all.items fresh c.in_ok-seated.seated.items c.in_ok-ended.ended.items c.in_ok-seated.ensures.ranks seated (g.G.Gate.told c.args.gate.now) c.in_ok-ended.ensures.ran c.in_ok-ended.ensures.over c.in_ok-over.ensures.none_lost c.gather_all.new.gather c.in_ok-over.ensures.there order sent got
+    all_told R g.row.CAP c.in_ok-bank.bank (manner_of c.args.via c.args.steady) c.args.progs c.requires.run.begins.0 c.requires.run.begins.1 start c.in_ok-all.all.items fresh c.in_ok-seated.seated.items c.in_ok-ended.ended.items c.in_ok-seated.ensures.ranks seated (g.G.Gate.notified c.args.gate.now) c.in_ok-ended.ensures.ran c.in_ok-ended.ensures.over c.in_ok-over.ensures.none_lost c.gather_all.new.gather c.in_ok-over.ensures.there order sent got
     (g.met.Q.Program g.world.𝓛 g.world.𝓜 g.world.𝓡 ((λ s x. x), (λ x. x), (λ x. x), λ x. x)).laws c.closes_laws.ensures n rounds r m (subst (λ (h : Shape). r < ranks h.dims) (sym c.in_ok-bank.ensures.bank) low) below
 
 pub run_together-requires-send-A : goal.run_together-requires-send-A

@@ -2,7 +2,7 @@ use Rattle.std.proofs.Common.{◌≡◌, ◌==◌, ◌+◌, Bool, true, false, t
 use Rattle.std.proofs.lemmas.Bool.{eq-eqb}
 use Rattle.port_bank.specs.Port.{Others}
 use Rattle.rank_crews.proofs.Crewed.{neither}
-use Rattle.biconvey.specs.Seats.{BiSeatedState, HasBiWay, BiRan, AskerMadeNone}
+use Rattle.biconvey.specs.Seats.{BiSeatedState, HasSomeBiRun, TookBiTurns, AskerMadeNoProgress}
 use Rattle.biconvey.specs.RanksOverBanks.{is_over}
 use Rattle.biconvey.proofs.OnPorts.{one_seat, has_way, turned, none_moved, some_moved, any_of}
 use Rattle.biconvey.proofs.at_ports.AtPortsSeated.turn.Goals as goal
@@ -17,9 +17,9 @@ invariant_of-self g c =
     let x : BiSeatedState g.row.A.Denot = record { node = i.node; queries = q; replies = p; turns = i.turns } in
     let was : BiSeatedState g.row.A.Denot = record { node = i.node; queries = i.queries.port.seat; replies = i.replies.port.seat; turns = i.turns } in
     let at : x ≡ was = ap (λ k. record { node = i.node; queries = k.seat; replies = p; turns = i.turns }) c.watch.ensures.port ∙ ap (λ k. record { node = i.node; queries = i.queries.port.seat; replies = k.seat; turns = i.turns }) c.watch-2.ensures.port in
-    let heard = subst (λ (z : BiSeatedState g.row.A.Denot). g.J.GateLog.told z.queries.rank z.turns ≡ true) (sym (at ∙ c.self.view_is)) c.requires.notified in
-    has_way g.A.Asker.talk g.row.CAP g.J.GateLog.told x _ (subst (HasBiWay g.A.Asker.talk g.row.CAP) (sym at) c.self.invariant)
-    (turned g.A.Asker.talk g.row.CAP g.J.GateLog.told i.node n.self q n.queries.port.seat p n.replies.port.seat i.turns heard
+    let heard = subst (λ (z : BiSeatedState g.row.A.Denot). g.J.GateLog.notified z.queries.rank z.turns ≡ true) (sym (at ∙ c.self.view_is)) c.requires.notified in
+    has_way g.A.Asker.talk g.row.CAP g.J.GateLog.notified x _ (subst (HasSomeBiRun g.A.Asker.talk g.row.CAP) (sym at) c.self.invariant)
+    (turned g.A.Asker.talk g.row.CAP g.J.GateLog.notified i.node n.self q n.queries.port.seat p n.replies.port.seat i.turns heard
     (one_seat q n.queries.port.seat (ap (λ (r : Others). r.bank) t.queries.same_port.others) t.queries.same_port.dims t.queries.same_port.slots t.queries.same_port.rank)
     (one_seat p n.replies.port.seat (ap (λ (r : Others). r.bank) t.replies.same_port.others) t.replies.same_port.dims t.replies.same_port.slots t.replies.same_port.rank)
     t.dims t.rank t.queries.steady t.replies.steady t.kept t.queries.grows.shape t.replies.grows.shape)
@@ -35,10 +35,10 @@ returns g c =
     let was : BiSeatedState g.row.A.Denot = record { node = i.node; queries = i.queries.port.seat; replies = i.replies.port.seat; turns = i.turns } in
     let at : x ≡ was = ap (λ k. record { node = i.node; queries = k.seat; replies = p; turns = i.turns }) c.watch.ensures.port ∙ ap (λ k. record { node = i.node; queries = i.queries.port.seat; replies = k.seat; turns = i.turns }) c.watch-2.ensures.port in
     let y : BiSeatedState g.row.A.Denot = record { node = n.self; queries = n.queries.port.seat; replies = n.replies.port.seat; turns = i.turns + 1 } in
-    let heard = subst (λ (z : BiSeatedState g.row.A.Denot). g.J.GateLog.told z.queries.rank z.turns ≡ true) (sym (at ∙ c.self.view_is)) c.requires.notified in
+    let heard = subst (λ (z : BiSeatedState g.row.A.Denot). g.J.GateLog.notified z.queries.rank z.turns ≡ true) (sym (at ∙ c.self.view_is)) c.requires.notified in
     record {
-      ran = subst (λ (z : BiSeatedState g.row.A.Denot). BiRan g.A.Asker.talk g.row.CAP g.J.GateLog.told z y) (at ∙ c.self.view_is)
-          (turned g.A.Asker.talk g.row.CAP g.J.GateLog.told i.node n.self q n.queries.port.seat p n.replies.port.seat i.turns heard
+      ran = subst (λ (z : BiSeatedState g.row.A.Denot). TookBiTurns g.A.Asker.talk g.row.CAP g.J.GateLog.notified z y) (at ∙ c.self.view_is)
+          (turned g.A.Asker.talk g.row.CAP g.J.GateLog.notified i.node n.self q n.queries.port.seat p n.replies.port.seat i.turns heard
           (one_seat q n.queries.port.seat (ap (λ (r : Others). r.bank) t.queries.same_port.others) t.queries.same_port.dims t.queries.same_port.slots t.queries.same_port.rank)
           (one_seat p n.replies.port.seat (ap (λ (r : Others). r.bank) t.replies.same_port.others) t.replies.same_port.dims t.replies.same_port.slots t.replies.same_port.rank)
           t.dims t.rank t.queries.steady t.replies.steady t.kept t.queries.grows.shape t.replies.grows.shape);
@@ -49,7 +49,7 @@ returns g c =
           let last = neither ((asked || c.is_over-has_ended.result) || c.moved.result) c.moved-2.result none in
           let first = neither (asked || c.is_over-has_ended.result) c.moved.result last.0 in
           let made = neither asked c.is_over-has_ended.result first.0 in
-          subst (λ (z : BiSeatedState g.row.A.Denot). AskerMadeNone z y) c.self.view_is
+          subst (λ (z : BiSeatedState g.row.A.Denot). AskerMadeNoProgress z y) c.self.view_is
           record {
             queries = none_moved i.queries.port.seat c.watch.new.self.first.value.seat n.queries.first.value.seat n.queries.port.seat (c.moved.ensures.none first.1)
                 (ap (λ (r : Others). r.sent) t.queries.same_port.others) (ap (λ (r : Others). r.got) t.queries.same_port.others) (ap (λ k. k.seat) c.watch.ensures.first);
@@ -59,7 +59,7 @@ returns g c =
             over = sym c.is_over-has_ended.ensures ∙ (made.1 ∙ sym (ap (λ (z : BiSeatedState g.row.A.Denot). is_over z.node) c.self.view_is ∙ c.requires.going));
           };
       progress = λ some same'.
-          let same = subst (λ (z : BiSeatedState g.row.A.Denot). AskerMadeNone z y) (sym c.self.view_is) same' in
+          let same = subst (λ (z : BiSeatedState g.row.A.Denot). AskerMadeNoProgress z y) (sym c.self.view_is) same' in
           let asked = not (c.asked.result == c.asked-asked.result) in
           any_of ((asked || c.is_over-has_ended.result) || c.moved.result) c.moved-2.result some
           (λ e. any_of (asked || c.is_over-has_ended.result) c.moved.result e

@@ -10,7 +10,7 @@ use Rattle.convey.specs.Buffers.{out_of, in_of, is_complete, buffers_of}
 use Rattle.convey.specs.Agreement.{Agrees}
 use Rattle.convey.specs.Due.{IsDue, WasServed, StopsAt, NextIs, WasFull, HeldUp, collects_of, posts_below}
 use Rattle.convey.specs.Progress.{progress_of}
-use Rattle.convey.specs.Way.{MovesOn, HasServed}
+use Rattle.convey.specs.AdvanceSteps.{MovesOn, HasServed}
 use Rattle.convey.specs.Advance.{WereAsked}
 use Rattle.convey.proofs.Blocks.{next_map}
 use Rattle.convey.proofs.Posts.{due_ending}

@@ -9,7 +9,7 @@ use Rattle.rank_group.specs.declared.drive.Finished.{Finished}
 use Rattle.rank_group.specs.declared.defaults.Settings.{Settings}
 use Rattle.rank_group.specs.Defaults.{count_of, HasDriven}
 use Rattle.rank_group.specs.DrivePromises.{HasFinished, HasSwept}
-use Rattle.rank_group.specs.Transcript.{Made}
+use Rattle.rank_group.specs.Transcript.{BankShape}
 use Rattle.rank_group.specs.Turns.{SweptBy}
 use Rattle.rank_group.proofs.defaults.DrivingInTurn.run.Goals as goal
 
@@ -18,7 +18,7 @@ module _ {S : Type 0} (R : Rules S) (cap : ℕ) (dims : List ℕ) (settings : Se
   abbrev manner : Manner
   manner = manner_of settings.via settings.steady
 
-  abbrev made : ℕ → Made
+  abbrev made : ℕ → BankShape
   made slots = record { dims = dims; cap = cap; slots = slots; by_slots = false }
 
   driven : (slots : ℕ) (order : List ℕ) (before after : ℕ) → slots ≡ count_of settings.slots → order ≡ range_with_len 0 (ranks dims) → IfOk r (HasFinished R starts (made slots) manner)

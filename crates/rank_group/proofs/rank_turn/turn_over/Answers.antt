@@ -1,0 +1,96 @@
+use Rattle.std.proofs.Common.{rules, ◌≡◌, ◌+◌, ◌<◌, ◌^◌, Bool, true, false, not, cond, refl, ap, Ok, ◌∙◌, sym, subst, arith}
+use Rattle.rank_node.specs.Movers.{epoch_in}
+use Rattle.rank_group.specs.Ranks.{RankState, IsRank, progress}
+use Rattle.rank_group.proofs.OneTurn.{OneTurn, NextTold, stays_in, goes_on}
+use Rattle.rank_node.proofs.Halted.{ok_once}
+use Rattle.rank_group.proofs.rank_turn.turn_over.Goals as goal
+
+pub turn-requires : goal.turn-requires
+turn-requires g c =
+    let P = g.P.Port in
+    let p = c.args.port.now in
+    let is = c.requires.rank.2 in
+    let inside : RankState g.row.Q.Denot = record { node = c.rank.inside.node; over = c.rank.inside.over } in
+    let mine : IsRank g.Q.Program.rules (P.dims p) g.row.CAP c.requires.rank.0 (P.rank p) c.requires.rank.1 inside (P.sent p) (P.got p) =
+    subst (λ (m : RankState g.row.Q.Denot). IsRank g.Q.Program.rules (P.dims p) g.row.CAP c.requires.rank.0 (P.rank p) c.requires.rank.1 m (P.sent p) (P.got p)) (sym c.rank.view_is) is in
+    (search rules, record { same_dims = sym mine.same_dims; same_rank = sym mine.same_rank; first = c.requires.rank.1; node = mine.runs (ap (λ (m : RankState g.row.Q.Denot). m.over) c.rank.view_is ∙ c.requires.going) })
+
+pub next-requires : goal.next-requires
+next-requires g c =
+    let P = g.P.Port in
+    let p = c.args.port.now in
+    let inside : RankState g.row.Q.Denot = record { node = c.rank.inside.node; over = c.rank.inside.over } in
+    let mine : IsRank g.Q.Program.rules (P.dims p) g.row.CAP c.requires.rank.0 (P.rank p) c.requires.rank.1 inside (P.sent p) (P.got p) =
+    subst (λ (m : RankState g.row.Q.Denot). IsRank g.Q.Program.rules (P.dims p) g.row.CAP c.requires.rank.0 (P.rank p) c.requires.rank.1 m (P.sent p) (P.got p)) (sym c.rank.view_is) c.requires.rank.2 in
+    let few = subst (λ (m : RankState g.row.Q.Denot). epoch_in m.node.mover < 2 ^ 63) (sym c.rank.view_is) c.requires.few in (
+      search rules,
+      (
+        c.in-Ok.ensures.ended (ap Ok c.in-Ended.is),
+        (
+          subst (λ e. e < 2 ^ 63) (sym c.turn.ensures.turns.moves.epoch) few,
+          (c.requires.rank.1, P.sent c.turn.new.port, P.got c.turn.new.port, c.turn.ensures.turns.moves.kept c.requires.rank.1 (mine.runs (ap (λ (m : RankState g.row.Q.Denot). m.over) c.rank.view_is ∙ c.requires.going))),
+        ),
+      ),
+    )
+
+pub returns-in-Going-clause-kept : goal.returns-in-Going-clause-kept
+returns-in-Going-clause-kept g c = λ manner h is.
+    let P = g.P.Port in
+    let p = c.args.port.now in
+    let q = c.turn.new.port in
+    let R = g.Q.Program.rules in
+    let inside : RankState g.row.Q.Denot = record { node = c.rank.inside.node; over = c.rank.inside.over } in
+    let on = ap (λ (m : RankState g.row.Q.Denot). m.over) c.rank.view_is ∙ c.requires.going in
+    let mine : IsRank R (P.dims p) g.row.CAP manner (P.rank p) h inside (P.sent p) (P.got p) =
+    subst (λ (m : RankState g.row.Q.Denot). IsRank R (P.dims p) g.row.CAP manner (P.rank p) h m (P.sent p) (P.got p)) (sym c.rank.view_is) is in
+    let t : OneTurn R g.row.CAP c.rank.inside.node c.turn.new.self (P.sent p) (P.got p) (P.sent q) (P.got q) =
+    record { dims = c.turn.ensures.turns.moves.dims; rank = c.turn.ensures.turns.moves.rank; manner = c.turn.ensures.turns.moves.manner; cap_is = c.turn.ensures.cap; shape = c.turn.ensures.turns.moves.shape; kept = c.turn.ensures.turns.moves.kept } in
+    (h, refl, stays_in R (P.dims p) g.row.CAP (P.rank p) manner h inside c.turn.new.self (P.sent p) (P.got p) (P.sent q) (P.got q) mine on t c.rank.inside.over on)
+
+pub returns-in_ok-rank-inside-in-Ended-clause-kept : goal.returns-in_ok-rank-inside-in-Ended-clause-kept
+returns-in_ok-rank-inside-in-Ended-clause-kept g c = λ manner h is.
+    let P = g.P.Port in
+    let p = c.args.port.now in
+    let q = c.turn.new.port in
+    let R = g.Q.Program.rules in
+    let more = c.in_ok-rank-inside-in-Ended.field-0 in
+    let inside : RankState g.row.Q.Denot = record { node = c.rank.inside.node; over = c.rank.inside.over } in
+    let on = ap (λ (m : RankState g.row.Q.Denot). m.over) c.rank.view_is ∙ c.requires.going in
+    let mine : IsRank R (P.dims p) g.row.CAP manner (P.rank p) h inside (P.sent p) (P.got p) =
+    subst (λ (m : RankState g.row.Q.Denot). IsRank R (P.dims p) g.row.CAP manner (P.rank p) h m (P.sent p) (P.got p)) (sym c.rank.view_is) is in
+    let t : OneTurn R g.row.CAP c.rank.inside.node c.turn.new.self (P.sent p) (P.got p) (P.sent q) (P.got q) =
+    record { dims = c.turn.ensures.turns.moves.dims; rank = c.turn.ensures.turns.moves.rank; manner = c.turn.ensures.turns.moves.manner; cap_is = c.turn.ensures.cap; shape = c.turn.ensures.turns.moves.shape; kept = c.turn.ensures.turns.moves.kept } in
+    let x : NextTold R g.row.CAP c.turn.new.self c.next.new.self more = record {
+      self_dims = c.next.ensures.self_dims;
+      self_rank = c.next.ensures.self_rank;
+      manner = c.next.ensures.manner;
+      cap_is = c.next.ensures.cap;
+      epoch = λ e. c.in_ok-rank-inside-in-Ended.ensures.epoch (ap Ok e);
+      unread = c.next.ensures.unread;
+      votes = λ v. (ok_once (c.in_ok-rank-inside-in-Ended.ensures.votes v).0, (c.in_ok-rank-inside-in-Ended.ensures.votes v).1);
+      work = λ v e. c.in_ok-rank-inside-in-Ended.ensures.work v (ap Ok e);
+      stays = λ e. c.in_ok-rank-inside-in-Ended.ensures.stays (ap Ok e);
+      stopped = λ e. c.in_ok-rank-inside-in-Ended.ensures.stopped (ap Ok e);
+    } in
+    goes_on R (P.dims p) g.row.CAP (P.rank p) manner h inside c.turn.new.self (P.sent p) (P.got p) (P.sent q) (P.got q) mine on t c.next.new.self more x
+
+pub returns-in-Going-clause-epoch : goal.returns-in-Going-clause-epoch
+returns-in-Going-clause-epoch g c =
+    let e = c.turn.ensures.turns.moves.epoch in
+    let on = ap (λ (m : RankState g.row.Q.Denot). m.over) c.rank.view_is ∙ c.requires.going in
+    let was = ap (λ (m : RankState g.row.Q.Denot). progress m) c.rank.view_is in
+    let here = ap (λ b. cond b (epoch_in c.rank.inside.node.mover + 1) (epoch_in c.rank.inside.node.mover)) on in
+    let now = ap (λ b. cond b (epoch_in c.turn.new.self.mover + 1) (epoch_in c.turn.new.self.mover)) on in
+    omega (arith, e, was, here, now)
+
+pub returns-in_ok-rank-inside-in-Ended-clause-epoch : goal.returns-in_ok-rank-inside-in-Ended-clause-epoch
+returns-in_ok-rank-inside-in-Ended-clause-epoch g c =
+    let e = c.turn.ensures.turns.moves.epoch in
+    let on = ap (λ (m : RankState g.row.Q.Denot). m.over) c.rank.view_is ∙ c.requires.going in
+    let was = ap (λ (m : RankState g.row.Q.Denot). progress m) c.rank.view_is in
+    let here = ap (λ b. cond b (epoch_in c.rank.inside.node.mover + 1) (epoch_in c.rank.inside.node.mover)) on in
+    let now : progress (record { node = c.next.new.self; over = not c.in_ok-rank-inside-in-Ended.field-0 }) ≡ epoch_in c.turn.new.self.mover + 1 = by c.in_ok-rank-inside-in-Ended.field-0 refl in
+    omega (arith, e, was, here, now) where
+      by : (more : Bool) → c.in_ok-rank-inside-in-Ended.field-0 ≡ more → progress (record { node = c.next.new.self; over = not c.in_ok-rank-inside-in-Ended.field-0 }) ≡ epoch_in c.turn.new.self.mover + 1
+      by true is = ap (λ b. cond (not b) (epoch_in c.next.new.self.mover + 1) (epoch_in c.next.new.self.mover)) is ∙ c.in_ok-rank-inside-in-Ended.ensures.epoch (ap Ok is)
+      by false is = ap (λ b. cond (not b) (epoch_in c.next.new.self.mover + 1) (epoch_in c.next.new.self.mover)) is ∙ ap (λ m. epoch_in m + 1) (c.in_ok-rank-inside-in-Ended.ensures.stays (ap Ok is))

@@ -37,7 +37,8 @@ use Rattle.rank_group.proofs.Pushed.{flow_pushed}
 use Rattle.round_program.specs.Replies.{carrying, asks_of}
 use Rattle.query_node.specs.States.{BiState, Sides}
 use Rattle.query_node.specs.Ranks.{AllBiRanks}
-use Rattle.biconvey.specs.ConveyorsOverBank.{bi_parcel_entries, bi_move_of, bi_moves, AreConveyorsOver}
+use Rattle.rank_group.specs.BankLogs.{parcel_entries, moved_over}
+use Rattle.biconvey.specs.ConveyorsOverBank.{bi_inbox, bi_moves, AreConveyorsOver}
 use Rattle.biconvey.specs.RanksOverBanks.{BiRanksOnBanks, all_moves, queries_in}
 use Rattle.port_bank.proofs.Marks.{at_most}
 use Rattle.query_node.proofs.Taken.{items_begin}
@@ -109,27 +110,27 @@ module _ (dims : List ℕ) (cap slots : ℕ) (steady : Bool) (cs : List State) (
   whole : (l : ℕ) → l < links dims → segment 0 (sent l) ≡ sent l
   whole l below = let c = closed_at l below in whole_segment (sent l) c.0 c.1 c.2
 
-  fair_in : (l : ℕ) → l < links dims → All (λ (x : Entry). IsFair dims (hop_at dims l) x.tag) (bi_parcel_entries (segment 0 (sent l)))
+  fair_in : (l : ℕ) → l < links dims → All (λ (x : Entry). IsFair dims (hop_at dims l) x.tag) (parcel_entries (segment 0 (sent l)))
   fair_in l below = all_flat (λ (x : Entry). IsFair dims (hop_at dims l) x.tag) (λ (p : Shipped). p.entries) (segment 0 (sent l)) (subst (All (HasFairTags dims (hop_at dims l))) (sym (whole l below)) (fair l below))
 
-  sent_all : total (links dims) (λ l. length (bi_parcel_entries (sent l))) ≤ length dims * pushed_in dims sent 0
+  sent_all : total (links dims) (λ l. length (parcel_entries (sent l))) ≤ length dims * pushed_in dims sent 0
   sent_all =
-      let a = total_same (links dims) (λ l. length (bi_parcel_entries (sent l))) (λ l. length (bi_parcel_entries (segment 0 (sent l)))) (λ l below. ap (λ (log : List Shipped). length (bi_parcel_entries log)) (sym (whole l below))) in
+      let a = total_same (links dims) (λ l. length (parcel_entries (sent l))) (λ l. length (parcel_entries (segment 0 (sent l)))) (λ l below. ap (λ (log : List Shipped). length (parcel_entries log)) (sym (whole l below))) in
       let b = all_links dims sent got keeps fair 0 fair_in in
       omega (arith, a, b)
 
   pub moves_few : bi_moves dims cs sent got ≤ 3 * (length dims * pushed_in dims sent 0) + links dims * 2
   moves_few =
-      let a = total_le (links dims) (bi_move_of dims cs sent got) (λ l. 3 * length (bi_parcel_entries (sent l)) + 2) one in
-      let b = total_add (links dims) (λ l. 3 * length (bi_parcel_entries (sent l))) (λ l. 2) in
-      let c = total_times (links dims) 3 (λ l. length (bi_parcel_entries (sent l))) in
+      let a = total_le (links dims) (moved_over sent got (bi_inbox dims cs)) (λ l. 3 * length (parcel_entries (sent l)) + 2) one in
+      let b = total_add (links dims) (λ l. 3 * length (parcel_entries (sent l))) (λ l. 2) in
+      let c = total_times (links dims) 3 (λ l. length (parcel_entries (sent l))) in
       let d = total_const (links dims) 2 in
       omega (arith, a, b, c, d, sent_all) where
-        one : (l : ℕ) → l < links dims → bi_move_of dims cs sent got l ≤ 3 * length (bi_parcel_entries (sent l)) + 2
+        one : (l : ℕ) → l < links dims → moved_over sent got (bi_inbox dims cs) l ≤ 3 * length (parcel_entries (sent l)) + 2
         one l below =
             let front : IsPrefix (got l) (sent l) = (w.lawful.links_keep l below).begins in
             let g = begins_shorter (got l) (sent l) front in
-            let e = begins_shorter (bi_parcel_entries (got l)) (bi_parcel_entries (sent l)) (begins_flat_map (λ (p : Shipped). p.entries) (got l) (sent l) front) in
+            let e = begins_shorter (parcel_entries (got l)) (parcel_entries (sent l)) (begins_flat_map (λ (p : Shipped). p.entries) (got l) (sent l) front) in
             let s = log_short steady cap (sent l) some (w.shape l) in
             let c = closed_at l below in
             let f = at_most 0 c.0 in

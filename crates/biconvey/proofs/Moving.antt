@@ -9,12 +9,13 @@ use Rattle.port_bank.specs.Shapes.{IsConveyorShape}
 use Rattle.hop_core.specs.State.{State}
 use Rattle.convey.specs.Buffers.{in_of}
 use Rattle.convey.proofs.OneRank.{starting-own}
+use Rattle.rank_group.specs.BankLogs.{AreBankLogs}
 use Rattle.rank_group.proofs.Growing.{Grows, inbox_same, inboxes_on}
-use Rattle.biconvey.specs.ConveyorsOverBank.{conveyor_in, bi_inbox, bi_moves, BiBankLawful, AreConveyorsOver, AfterBiAdvance}
+use Rattle.biconvey.specs.ConveyorsOverBank.{conveyor_in, bi_inbox, bi_moves, AreConveyorsOver, AfterBiAdvance}
 
 module _ (dims : List ℕ) (cap slots : ℕ) (steady : Bool) (r : ℕ) (c c' : State) (cs cs' : List State) (sent got sent' got' : Logs)
     (w : AreConveyorsOver dims cap slots steady cs sent got) (at : slice_get cs r ≡ Some c) (at' : slice_get cs' r ≡ Some c') (others : (k : ℕ) → k ≢ r → slice_get cs' k ≡ slice_get cs k) (size : length cs' ≡ length cs)
-    (t : AfterBiAdvance dims cap r c c' sent got sent' got') (law : BiBankLawful dims cap slots sent' got') where
+    (t : AfterBiAdvance dims cap r c c' sent got sent' got') (law : AreBankLogs dims cap slots sent' got') where
   was_at : (l : ℕ) → reader_at dims l ≡ r → bi_inbox dims cs l ≡ length (in_of c l).parcel.untaken
   was_at l here = ap (λ k. length (in_of (conveyor_in (slice_get cs k)) l).parcel.untaken) here ∙ ap (λ o. length (in_of (conveyor_in o) l).parcel.untaken) at
 
@@ -23,10 +24,7 @@ module _ (dims : List ℕ) (cap slots : ℕ) (steady : Bool) (r : ℕ) (c c' : S
 
   pub grows : Grows dims r sent got sent' got' (bi_inbox dims cs) (bi_inbox dims cs')
   grows = record {
-    sent_elsewhere = t.sent_elsewhere;
-    got_elsewhere = t.got_elsewhere;
-    sent_grows = t.sent_grows;
-    got_grows = t.got_grows;
+    own = t.own;
     apart = λ l apart. ap (λ o. length (in_of (conveyor_in o) l).parcel.untaken) (others (reader_at dims l) apart);
     lies = λ l more below here own. omega (arith, was_at l here, now_at l here, t.lies l more below here own);
     inboxes = w.inboxes;
@@ -51,7 +49,7 @@ module _ (dims : List ℕ) (cap slots : ℕ) (steady : Bool) (r : ℕ) (c c' : S
           subst (IsConveyorShape steady cap) (starting-own dims r sent' l here)
           (subst (λ b. IsConveyorShape b cap (starting_at dims r sent' l)) s (t.shape l (subst (λ b. IsConveyorShape b cap (starting_at dims r sent l)) (sym s) (subst (IsConveyorShape steady cap) (sym (starting-own dims r sent l here)) (w.shape l)))))
       | inr apart ↦
-          let e : cond (sender_at dims l == r) [] (sent' l) ≡ cond (sender_at dims l == r) [] (sent l) = ap (λ (f : Logs). f l) t.sent_elsewhere in
+          let e : cond (sender_at dims l == r) [] (sent' l) ≡ cond (sender_at dims l == r) [] (sent l) = ap (λ (f : Logs). f l) t.own.sent_elsewhere in
           let same : sent' l ≡ sent l = sym (ap (λ b. cond b [] (sent' l)) (ne_eqb (sender_at dims l) r apart)) ∙ (e ∙ ap (λ b. cond b [] (sent l)) (ne_eqb (sender_at dims l) r apart)) in
           subst (IsConveyorShape steady cap) (sym same) (w.shape l)
     ];

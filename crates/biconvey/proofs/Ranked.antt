@@ -68,21 +68,25 @@ after_turn T dims cap slots number n n' q a q' a' r b r' b' qd qs rd rs qd' qs' 
     (subst (λ k. PortTurns T cap n n' q number q' k r b r' b') (ea' ∙ ea) (subst (λ k. PortTurns T cap n n' q k q' a' r b r' b') ea notified))))))) in
     record {
       queries = record {
-        sent_elsewhere = ap (λ (x : Others). x.sent) t.queries_rest;
-        got_elsewhere = ap (λ (x : Others). x.got) t.queries_rest;
-        sent_grows = t.queries_sent;
-        got_grows = t.queries_got;
-        once = λ l below from. t.queries_once l (subst (λ (d : List ℕ). l < links d) (sym nd) below) (subst (λ (d : List ℕ). sender_at d l ≡ n.queries.rank) (sym nd) (from ∙ sym nr));
+        own = record {
+          sent_elsewhere = ap (λ (x : Others). x.sent) t.queries_rest;
+          got_elsewhere = ap (λ (x : Others). x.got) t.queries_rest;
+          sent_grows = t.queries_sent;
+          got_grows = t.queries_got;
+          one_sent = λ l below from. t.queries_once l (subst (λ (d : List ℕ). l < links d) (sym nd) below) (subst (λ (d : List ℕ). sender_at d l ≡ n.queries.rank) (sym nd) (from ∙ sym nr));
+        };
         steady = t.steady;
         shape = t.queries_shape;
         lies = λ l more below to. t.queries_lie l more (subst (λ (d : List ℕ). l < links d) (sym nd) below) (subst (λ (d : List ℕ). reader_at d l ≡ n.queries.rank) (sym nd) (to ∙ sym nr));
       };
       replies = record {
-        sent_elsewhere = ap (λ (x : Others). x.sent) t.replies_rest;
-        got_elsewhere = ap (λ (x : Others). x.got) t.replies_rest;
-        sent_grows = t.replies_sent;
-        got_grows = t.replies_got;
-        once = λ l below from. t.replies_once l (subst (λ (d : List ℕ). l < links d) (sym md) below) (subst (λ (d : List ℕ). sender_at d l ≡ n.replies.rank) (sym md) (from ∙ sym mr));
+        own = record {
+          sent_elsewhere = ap (λ (x : Others). x.sent) t.replies_rest;
+          got_elsewhere = ap (λ (x : Others). x.got) t.replies_rest;
+          sent_grows = t.replies_sent;
+          got_grows = t.replies_got;
+          one_sent = λ l below from. t.replies_once l (subst (λ (d : List ℕ). l < links d) (sym md) below) (subst (λ (d : List ℕ). sender_at d l ≡ n.replies.rank) (sym md) (from ∙ sym mr));
+        };
         steady = t.steady_replies;
         shape = t.replies_shape;
         lies = λ l more below to. t.replies_lie l more (subst (λ (d : List ℕ). l < links d) (sym md) below) (subst (λ (d : List ℕ). reader_at d l ≡ n.replies.rank) (sym md) (to ∙ sym mr));

@@ -17,26 +17,16 @@ use Rattle.round_program.specs.Talks.{Talk}
 use Rattle.query_node.specs.States.{BiState, Sides, IsBiNode}
 use Rattle.query_node.specs.Still.{IsStuckBoth}
 use Rattle.query_node.specs.Ranks.{HasBiRank, sides_at}
-use Rattle.biconvey.specs.ConveyorsOverBank.{bi_inbox, bi_moves, BiBankLawful, AfterBiAdvance}
+use Rattle.biconvey.specs.ConveyorsOverBank.{bi_inbox, bi_moves}
 use Rattle.biconvey.specs.RanksOverBanks.{AreBanks, AfterBiRank, PostedWithin, IsBlockedBiRank, BiRanksOnBanks, all_moves, AfterSomeBiTurns, sides_of, known_at}
-use Rattle.rank_group.proofs.Growing.{Grows, moves_on, sent_same, got_same}
+use Rattle.rank_group.specs.BankLogs.{AreBankLogs}
+use Rattle.rank_group.proofs.Growing.{Grows, lawful, posted_once, moves_on, sent_same, got_same}
 use Rattle.biconvey.proofs.Moving.{grows, inbox_kept, way_on}
 
-lawful : (cap : ℕ) (b : Bank) (dims : List ℕ) (slots : ℕ) → IsBank cap b → b.dims ≡ dims → b.slots ≡ slots → BiBankLawful dims cap slots (sent_of b) (got_of b)
-lawful cap b dims slots is ed es =
-    subst (λ d. BiBankLawful d cap slots (sent_of b) (got_of b)) ed
-    (subst (λ k. BiBankLawful b.dims cap k (sent_of b) (got_of b)) es
-    (record {
-      grid = is.grid;
-      links_keep = is.each_link;
-      none_past = λ l past. let e : channel_at b l ≡ unused_channel = get_or_past b.channels l unused_channel (omega (arith, past, is.number)) in (ap (λ c. c.sent) e, ap (λ c. c.got) e);
-      relays = is.each_rank;
-    }))
-
-pub queries_lawful : (cap : ℕ) (dims : List ℕ) (slots : ℕ) (q r : Bank) → AreBanks cap dims slots q r → BiBankLawful dims cap slots (sent_of q) (got_of q)
+pub queries_lawful : (cap : ℕ) (dims : List ℕ) (slots : ℕ) (q r : Bank) → AreBanks cap dims slots q r → AreBankLogs dims cap slots (sent_of q) (got_of q)
 queries_lawful cap dims slots q r b = lawful cap q dims slots b.queries b.queries_dims b.queries_slots
 
-pub replies_lawful : (cap : ℕ) (dims : List ℕ) (slots : ℕ) (q r : Bank) → AreBanks cap dims slots q r → BiBankLawful dims cap slots (sent_of r) (got_of r)
+pub replies_lawful : (cap : ℕ) (dims : List ℕ) (slots : ℕ) (q r : Bank) → AreBanks cap dims slots q r → AreBankLogs dims cap slots (sent_of r) (got_of r)
 replies_lawful cap dims slots q r b = lawful cap r dims slots b.replies b.replies_dims b.replies_slots
 
 -- a rank whose own lists are as they were
@@ -54,7 +44,7 @@ other_rank T dims r start n s s' a b c d h = record {
 
 module _ {S : Type 0} (T : Talk S) (dims : List ℕ) (cap slots : ℕ) (steady : Bool) (starts : ℕ → S) (r : ℕ) (n n' : BiState S) (ns ns' : List (BiState S)) (s s' : Sides)
     (w : BiRanksOnBanks T dims cap slots steady starts ns s) (at : slice_get ns r ≡ Some n) (at' : slice_get ns' r ≡ Some n') (others : (k : ℕ) → k ≢ r → slice_get ns' k ≡ slice_get ns k) (long : length ns' ≡ length ns)
-    (t : AfterBiRank T dims cap slots r n n' s s') (lq : BiBankLawful dims cap slots s'.asking s'.asked) (lr : BiBankLawful dims cap slots s'.replying s'.replied) where
+    (t : AfterBiRank T dims cap slots r n n' s s') (lq : AreBankLogs dims cap slots s'.asking s'.asked) (lr : AreBankLogs dims cap slots s'.replying s'.replied) where
   others_in : (f : BiState S → State) (k : ℕ) → k ≢ r → slice_get (map f ns') k ≡ slice_get (map f ns) k
   others_in f k apart = slice_get-map f ns' k ∙ (ap (option_map f) (others k apart) ∙ sym (slice_get-map f ns k))
 
@@ -109,8 +99,8 @@ module _ {S : Type 0} (T : Talk S) (dims : List ℕ) (cap slots : ℕ) (steady :
           let e : n' ≡ x = get_once ns' r n' x at' (subst (λ q. slice_get ns' q ≡ Some x) here now) in
           subst (λ q. HasBiRank T dims q (starts q) x s') (sym here) (subst (λ y. HasBiRank T dims r (starts r) y s') e (t.kept (starts r) (w.each r n at)))
       | inr apart ↦
-          other_rank T dims k (starts k) x s s' (sent_elsewhere dims r k s.asking s'.asking apart t.queries.sent_elsewhere) (got_elsewhere dims r k s.asked s'.asked apart t.queries.got_elsewhere)
-          (sent_elsewhere dims r k s.replying s'.replying apart t.replies.sent_elsewhere) (got_elsewhere dims r k s.replied s'.replied apart t.replies.got_elsewhere) (w.each k x (sym (others k apart) ∙ now))
+          other_rank T dims k (starts k) x s s' (sent_elsewhere dims r k s.asking s'.asking apart t.queries.own.sent_elsewhere) (got_elsewhere dims r k s.asked s'.asked apart t.queries.own.got_elsewhere)
+          (sent_elsewhere dims r k s.replying s'.replying apart t.replies.own.sent_elsewhere) (got_elsewhere dims r k s.replied s'.replied apart t.replies.own.got_elsewhere) (w.each k x (sym (others k apart) ∙ now))
     ];
   }
 
@@ -135,7 +125,7 @@ pub swept_none : {S : Type 0} (T : Talk S) (dims : List ℕ) (cap slots : ℕ) (
 swept_none T dims cap slots steady starts order ns s w = record { world = w; grown = omega arith; rests = λ light j r low at. absurd (omega (arith, low)) }
 
 pub swept_more : {S : Type 0} (T : Talk S) (dims : List ℕ) (cap slots : ℕ) (steady : Bool) (starts : ℕ → S) (order : List ℕ) (i r : ℕ) (ns0 ns ns' : List (BiState S)) (s0 s s' : Sides)
-    → slice_get order i ≡ Some r → r < ranks dims → length ns' ≡ length ns → ((k : ℕ) → k ≢ r → slice_get ns' k ≡ slice_get ns k) → BiBankLawful dims cap slots s'.asking s'.asked → BiBankLawful dims cap slots s'.replying s'.replied
+    → slice_get order i ≡ Some r → r < ranks dims → length ns' ≡ length ns → ((k : ℕ) → k ≢ r → slice_get ns' k ≡ slice_get ns k) → AreBankLogs dims cap slots s'.asking s'.asked → AreBankLogs dims cap slots s'.replying s'.replied
     → ((n n' : BiState S) → slice_get ns r ≡ Some n → slice_get ns' r ≡ Some n' → AfterBiRank T dims cap slots r n n' s s')
     → AfterSomeBiTurns T dims cap slots steady starts order i ns0 s0 ns s → AfterSomeBiTurns T dims cap slots steady starts order (i + 1) ns0 s0 ns' s'
 swept_more {S} T dims cap slots steady starts order i r ns0 ns ns' s0 s s' here low long others lq lr turned v =
@@ -163,15 +153,6 @@ swept_more {S} T dims cap slots steady starts order i r ns0 ns ns' s0 s s' here 
       not_last : (j : ℕ) {k : ℕ} → k ≢ r → slice_get order j ≡ Some k → j ≢ i
       not_last j {k} apart at e = apart (get_once order i k r (subst (λ q. slice_get order q ≡ Some k) e at) here)
 
--- a turn posts at most one parcel on a link
-posted_once : (dims : List ℕ) (cap r : ℕ) (c c' : State) (sent got sent' got' : Logs) → AfterBiAdvance dims cap r c c' sent got sent' got' → (l : ℕ) → l < links dims → length (sent' l) ≤ length (sent l) + 1
-posted_once dims cap r c c' sent got sent' got' t l below = elim (cases_eq (sender_at dims l) r) [
-  | inl here ↦ let once = t.once l below here in omega (arith, once, ap length (starting-own dims r sent l here), ap length (starting-own dims r sent' l here))
-  | inr apart ↦
-      let same : sent' l ≡ sent l = subst (λ b. cond b [] (sent' l) ≡ cond b [] (sent l)) (ne_eqb (sender_at dims l) r apart) (ap (λ (f : Logs). f l) t.sent_elsewhere) in
-      omega (arith, ap length same)
-]
-
 -- a sweep's loop
 pub record Sweeping {S : Type 0} (T : Talk S) (cap : ℕ) (dims : List ℕ) (slots : ℕ) (order : List ℕ) (ns0 : List (BiState S)) (s0 : Sides) (steps0 i : ℕ) (ns : List (BiState S)) (q r : Bank) (steps : ℕ) : Type 0 where
   pub banks : AreBanks cap dims slots q r
@@ -194,8 +175,8 @@ sweeping_more {S} T cap dims slots order ns0 s0 steps0 i k ns ns' q r q' r' step
       fewest_steps = omega (arith, count, v.fewest_steps);
       posted = λ l below.
           let so = v.posted l below in
-          let asked = posted_once dims cap k n.0.queries n'.0.queries (sent_of q) (got_of q) (sent_of q') (got_of q') t.queries l below in
-          let replied = posted_once dims cap k n.0.replies n'.0.replies (sent_of r) (got_of r) (sent_of r') (got_of r') t.replies l below in
+          let asked = posted_once dims k (sent_of q) (got_of q) (sent_of q') (got_of q') t.queries.own l below in
+          let replied = posted_once dims k (sent_of r) (got_of r) (sent_of r') (got_of r') t.replies.own l below in
           (omega (arith, count, so.0, asked), omega (arith, count, so.1, replied));
       swept = λ steady starts w.
           swept_more T dims cap slots steady starts order i k ns0 ns ns' s0 (sides_of q r) (sides_of q' r') here low long others

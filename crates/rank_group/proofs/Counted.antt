@@ -23,7 +23,7 @@ use Rattle.port_bank.proofs.Kept.{flow_begins}
 use Rattle.port_bank.proofs.Pipeline.{Keeps}
 use Rattle.port_bank.proofs.Routes.{IsNumber, numbered, link-on_route}
 use Rattle.port_bank.proofs.Segments.{lasts_first}
-use Rattle.rank_group.specs.RanksOverBank.{parcel_entries}
+use Rattle.rank_group.specs.BankLogs.{parcel_entries}
 
 -- a log's entries are those of its segments
 segments_first : (n : ℕ) (f g : ℕ → ℕ) → ((e : ℕ) → g e ≡ f (suc e)) → total (suc n) f ≡ f 0 + total n g

@@ -83,23 +83,23 @@ module _ {S : Type 0} (R : Rules S) (dims : List ℕ) (cap slots r : ℕ) (manne
   stays : n.over ≡ false → StaysIn R dims slots r n n' sent got sent' got' → KeepsCycle R quota (next_cycle k n n') n' (starting_at dims r sent') (ending_at dims r got')
   stays on s =
       subst (λ c. KeepsCycle R quota c n' (starting_at dims r sent') (ending_at dims r got')) (sym (cycle_stays k n n' on s.epoch))
-      (record { running = λ on'. (s.cycle quota k (keeps.running on).0, between_by n'.node.mover s.going); over = λ over. absurd (true≢false (sym over ∙ s.still)) })
+      (record { running = λ on'. (s.within.cycle quota k (keeps.running on).0, between_by n'.node.mover s.going); over = λ over. absurd (true≢false (sym over ∙ s.still)) })
 
-  ends : n.over ≡ false → EndsEpoch R dims r n n' sent got sent' got' → KeepsCycle R quota (next_cycle k n n') n' (starting_at dims r sent') (ending_at dims r got')
+  ends : n.over ≡ false → EndsEpoch R dims slots r n n' sent got sent' got' → KeepsCycle R quota (next_cycle k n n') n' (starting_at dims r sent') (ending_at dims r got')
   ends on z = record {
     running = λ on'.
         let anew' = z.anew on' quota (cycle_of_turn k n.node.mover) at_end (few on') in (
           subst (λ c. IsInCycle R quota c n'.node.run n'.node.mover (starting_at dims r sent') (ending_at dims r got')) (sym (cycle_anew k n n' on (z.next on'))) anew',
-          begun_anew R quota (cycle_of_turn k n.node.mover) 0 z.at_end.run n'.node.run z.at_end.mover n'.node.mover (starting_at dims r sent') (ending_at dims r got') (has'.same_manner ∙ (sym has.same_manner ∙ sym z.same_manner)) (has'.same_dims ∙ (sym has.same_dims ∙ sym z.same_dims)) (has'.same_rank ∙ (sym has.same_rank ∙ sym z.same_rank))
-              (z.next on' ∙ ap (λ e. e + 1) (sym z.epoch)) (has'.runs on').moving at_end anew',
+          begun_anew R quota (cycle_of_turn k n.node.mover) 0 z.at_end.run n'.node.run z.at_end.mover n'.node.mover (starting_at dims r sent') (ending_at dims r got') (has'.same_manner ∙ (sym has.same_manner ∙ sym z.same.manner)) (has'.same_dims ∙ (sym has.same_dims ∙ sym z.same.dims)) (has'.same_rank ∙ (sym has.same_rank ∙ sym z.same.rank))
+              (z.next on' ∙ ap (λ e. e + 1) (sym z.same.epoch)) (has'.runs on').moving at_end anew',
         );
     over = λ over'.
-        let same : epoch_in n'.node.mover ≡ epoch_in n.node.mover = ap epoch_in (z.over over') ∙ z.epoch in
+        let same : epoch_in n'.node.mover ≡ epoch_in n.node.mover = ap epoch_in (z.over over') ∙ z.same.epoch in
         subst (λ c. HasCycled quota c n'.node.mover (starting_at dims r sent') (ending_at dims r got')) (sym (cycle_stays k n n' on same))
         (subst (λ (m : MoverState). HasCycled quota (cycle_of_turn k n.node.mover) m (starting_at dims r sent') (ending_at dims r got')) (sym (z.over over')) (cycled_by R quota (cycle_of_turn k n.node.mover) z.at_end.run z.at_end.mover _ _ at_end));
   } where
     at_end : IsInCycle R quota (cycle_of_turn k n.node.mover) z.at_end.run z.at_end.mover (starting_at dims r sent') (ending_at dims r got')
-    at_end = z.cycle quota k (keeps.running on).0
+    at_end = z.within.cycle quota k (keeps.running on).0
 
   -- whatever its turn did
   pub keeps_on : KeepsCycle R quota (next_cycle k n n') n' (starting_at dims r sent') (ending_at dims r got')

@@ -28,7 +28,7 @@ use Rattle.rank_group.proofs.Quotas.{round_turns}
 use Rattle.rank_group.proofs.Halves.{total_more, halves_low}
 use Rattle.rank_group.proofs.Worlds.{stack_of}
 use Rattle.rank_group.proofs.Stacks.{over_in, stack_in, stack_is, all_stacks}
-use Rattle.rank_group.proofs.BankShape.{to_stack, of_stack}
+use Rattle.rank_group.proofs.MadeHalves.{to_stack, of_stack}
 use Rattle.rank_group.specs.RanksOverBank.{RanksOnBank, moves, BlocksMover, DrivePlan, AfterSomeTurns, AllMadeHalves}
 use Rattle.rank_group.specs.Drives.{progs_of}
 

@@ -27,7 +27,7 @@ pub mod Cycled
 pub mod Stacks
 pub mod Quotas
 pub mod OwnLink
-pub mod BankShape
+pub mod MadeHalves
 pub mod Crosses
 pub mod Quiet
 pub mod NotedMoves

@@ -32,7 +32,8 @@ use Rattle.rank_group.proofs.Bounds.{pushed_all, none_past}
 use Rattle.rank_group.proofs.Counted.{by_segments, pushed_in, all_links, log_short}
 use Rattle.rank_group.proofs.Pushed.{items_before}
 use Rattle.rank_group.proofs.Worlds.{Core, core, still_within, over_at_last}
-use Rattle.rank_group.specs.RanksOverBank.{parcel_entries, RanksOnBank, move_of, moves}
+use Rattle.rank_group.specs.BankLogs.{parcel_entries, moved_over}
+use Rattle.rank_group.specs.RanksOverBank.{inbox, RanksOnBank, moves}
 
 total_times : (n k : ℕ) (f : ℕ → ℕ) → total n (λ e. k * f e) ≡ k * total n f
 total_times zero k f = omega arith
@@ -86,12 +87,12 @@ module _ {S : Type 0} (R : Rules S) (laws : Laws R) (law : ClosesLaws) (dims : L
   -- all moves
   pub moves_few : moves dims rs sent got ≤ 3 * (length dims * items_before R (ranks dims) starts n) + links dims * (4 * n)
   moves_few =
-      let a = total_le (links dims) (move_of dims rs sent got) (λ l. 3 * length (parcel_entries (sent l)) + 4 * n) one in
+      let a = total_le (links dims) (moved_over sent got (inbox dims rs)) (λ l. 3 * length (parcel_entries (sent l)) + 4 * n) one in
       let b = total_add (links dims) (λ l. 3 * length (parcel_entries (sent l))) (λ l. 4 * n) in
       let c = total_times (links dims) 3 (λ l. length (parcel_entries (sent l))) in
       let d = total_const (links dims) (4 * n) in
       omega (arith, a, b, c, d, sent_all) where
-        one : (l : ℕ) → l < links dims → move_of dims rs sent got l ≤ 3 * length (parcel_entries (sent l)) + 4 * n
+        one : (l : ℕ) → l < links dims → moved_over sent got (inbox dims rs) l ≤ 3 * length (parcel_entries (sent l)) + 4 * n
         one l below =
             let front : IsPrefix (got l) (sent l) = (w.ranked.links_keep l below).begins in
             let g = begins_shorter (got l) (sent l) front in

@@ -10,30 +10,21 @@ use Rattle.route_tensor.specs.Grid.{ranks}
 use Rattle.route_tensor.specs.Link.{links}
 use Rattle.route_tensor.specs.Ends.{sender_at}
 use Rattle.port_bank.specs.Logs.{Logs}
-use Rattle.port_bank.specs.Plain.{Bank, IsBank, unused_channel, channel_at, sent_of, got_of}
+use Rattle.port_bank.specs.Plain.{Bank, IsBank, sent_of, got_of}
 use Rattle.round_program.specs.Rules.{Rules}
 use Rattle.round_program.specs.Laws.{Laws}
 use Rattle.rank_node.specs.Movers.{MoverState, Manner, epoch_in, manner_in}
 use Rattle.rank_node.specs.Movers.MoverState.{Conveying, Stacking}
 use Rattle.rank_node.specs.Movers.Manner.{ByConveyor, ByExstack}
 use Rattle.port_bank.specs.Flow.{IsPrefix}
+use Rattle.rank_group.specs.BankLogs.{AreBankLogs}
 use Rattle.rank_group.specs.Closes.{ClosesLaws}
 use Rattle.rank_group.specs.RoundProgress.{most_rounds, MoverMadeHalves, next_cycle}
 use Rattle.rank_group.specs.Ranks.{RankState, AfterRank, IsOrder, progress}
-use Rattle.rank_group.specs.RanksOverBank.{RanksOnBank, inbox, moves, Lawful, BlocksMover, DrivePlan, AfterSomeTurns, AllMadeHalves, progress_in, all_progress}
-use Rattle.rank_group.proofs.Growing.{moves_on, got_more}
+use Rattle.rank_group.specs.RanksOverBank.{RanksOnBank, inbox, moves, BlocksMover, DrivePlan, AfterSomeTurns, AllMadeHalves, progress_in, all_progress}
+use Rattle.rank_group.proofs.Growing.{lawful, posted_once, moves_on, got_more}
 use Rattle.rank_group.proofs.Swept.{grows, world_on, cycle_here, cycle_other, rests_here, rests_on}
-use Rattle.rank_group.proofs.BankShape.{all_made, made_here}
-
-pub lawful : (cap : ℕ) (b : Bank) (dims : List ℕ) (slots : ℕ) → IsBank cap b → b.dims ≡ dims → b.slots ≡ slots → Lawful dims cap slots (sent_of b) (got_of b)
-lawful cap b dims slots is ed es =
-    subst (λ d. Lawful d cap slots (sent_of b) (got_of b)) ed
-    (subst (λ k. Lawful b.dims cap k (sent_of b) (got_of b)) es
-    (record {
-      links_keep = is.each_link;
-      none_past = λ l past. let e : channel_at b l ≡ unused_channel = get_or_past b.channels l unused_channel (omega (arith, past, is.number)) in (ap (λ c. c.sent) e, ap (λ c. c.got) e);
-      relays = is.each_rank;
-    }))
+use Rattle.rank_group.proofs.MadeHalves.{all_made, made_here}
 
 pub swept_none : {S : Type 0} (R : Rules S) (dims : List ℕ) (cap slots : ℕ) (manner : Manner) (starts : List S) (order : List ℕ) (h : ℕ → ℕ → S) (rs : List (RankState S)) (sent got : Logs) → (w : RanksOnBank R dims cap slots manner starts h rs sent got)
     → AfterSomeTurns R dims cap slots manner starts order 0 w.cycle rs sent got rs sent got
@@ -65,7 +56,7 @@ made_more {S} R laws closes rounds dims cap slots (ByConveyor steady) starts h g
       none j o c (Stacking k y) e = absurd (cc)
 
 pub swept_more : {S : Type 0} (R : Rules S) → Laws R → ClosesLaws → (rounds : ℕ) (dims : List ℕ) (cap slots : ℕ) (manner : Manner) (starts : List S) (order : List ℕ) (i r : ℕ) (cycle0 : ℕ → ℕ) (rs0 rs rs' : List (RankState S)) (sent0 got0 sent got sent' got' : Logs)
-    → DrivePlan R dims slots starts rounds → slice_get order i ≡ Some r → r < ranks dims → length rs' ≡ length rs → ((k : ℕ) → k ≢ r → slice_get rs' k ≡ slice_get rs k) → Lawful dims cap slots sent' got'
+    → DrivePlan R dims slots starts rounds → slice_get order i ≡ Some r → r < ranks dims → length rs' ≡ length rs → ((k : ℕ) → k ≢ r → slice_get rs' k ≡ slice_get rs k) → AreBankLogs dims cap slots sent' got'
     → ((n n' : RankState S) → slice_get rs r ≡ Some n → slice_get rs' r ≡ Some n' → AfterRank R dims cap slots r n n' sent got sent' got')
     → AfterSomeTurns R dims cap slots manner starts order i cycle0 rs0 sent0 got0 rs sent got → AfterSomeTurns R dims cap slots manner starts order (i + 1) cycle0 rs0 sent0 got0 rs' sent' got'
 swept_more {S} R laws closes rounds dims cap slots manner starts order i r cycle0 rs0 rs rs' sent0 got0 sent got sent' got' plan here low size others law turned v =
@@ -181,7 +172,7 @@ at_most_one : {S : Type 0} (R : Rules S) (dims : List ℕ) (cap slots r : ℕ) (
 at_most_one {S} R dims cap slots r n n' sent got sent' got' t on = elim (t.turned on) [
   | inl stays ↦ let e = stays.epoch in omega (arith, here n' stays.still, here n on, e)
   | inr ends ↦ elim (cases_Bool n'.over) [
-    | inl over ↦ let m = ap epoch_in (ends.over over) in let e = ends.epoch in omega (arith, last n' over, here n on, m, e)
+    | inl over ↦ let m = ap epoch_in (ends.over over) in let e = ends.same.epoch in omega (arith, last n' over, here n on, m, e)
     | inr off ↦ let e = ends.next off in omega (arith, here n' off, here n on, e)
   ]
 ] where
@@ -191,25 +182,9 @@ at_most_one {S} R dims cap slots r n n' sent got sent' got' t on = elim (t.turne
   last : (n : RankState S) → n.over ≡ true → progress n ≡ epoch_in n.node.mover + 1
   last n e = ap (λ b. cond b (epoch_in n.node.mover + 1) (epoch_in n.node.mover)) e
 
--- a turn posts at most one parcel on a link
-one_posted : {S : Type 0} (R : Rules S) (dims : List ℕ) (cap slots r : ℕ) (n n' : RankState S) (sent got sent' got' : Logs) → AfterRank R dims cap slots r n n' sent got sent' got' → (l : ℕ) → l < links dims → length (sent' l) ≤ length (sent l) + 1
-one_posted R dims cap slots r n n' sent got sent' got' t l below = elim (cases_eq (sender_at dims l) r) [
-  | inl own ↦
-      let is : (sender_at dims l == r) ≡ true = grind (arith, nat_tests) in
-      let few = t.one_sent l below own in
-      let was : length (cond (sender_at dims l == r) (sent l) []) ≡ length (sent l) = ap (λ b. length (cond b (sent l) [])) is in
-      let now : length (cond (sender_at dims l == r) (sent' l) []) ≡ length (sent' l) = ap (λ b. length (cond b (sent' l) [])) is in
-      omega (arith, few, was, now)
-  | inr other ↦
-      let is : (sender_at dims l == r) ≡ false = grind (arith, nat_tests) in
-      let same : cond (sender_at dims l == r) [] (sent' l) ≡ cond (sender_at dims l == r) [] (sent l) = ap (λ (f : Logs). f l) t.sent_elsewhere in
-      let both : sent' l ≡ sent l = sym (ap (λ b. cond b [] (sent' l)) is) ∙ (same ∙ ap (λ b. cond b [] (sent l)) is) in
-      omega (arith, ap length both)
-]
-
--- and none where the rank's run is over
+-- a turn posts nothing where the rank's run is over
 none_posted : {S : Type 0} (R : Rules S) (dims : List ℕ) (cap slots r : ℕ) (n n' : RankState S) (sent got sent' got' : Logs) → AfterRank R dims cap slots r n n' sent got sent' got' → n.over ≡ true → (l : ℕ) → length (sent' l) ≡ length (sent l)
-none_posted R dims cap slots r n n' sent got sent' got' t over l = by (sender_at dims l == r) (ap (λ (f : Logs). f l) (t.unturned over).same_sent) (ap (λ (f : Logs). f l) t.sent_elsewhere) where
+none_posted R dims cap slots r n n' sent got sent' got' t over l = by (sender_at dims l == r) (ap (λ (f : Logs). f l) (t.unturned over).same_sent) (ap (λ (f : Logs). f l) t.own.sent_elsewhere) where
   by : (b : Bool) → cond b (sent' l) [] ≡ cond b (sent l) [] → cond b [] (sent' l) ≡ cond b [] (sent l) → length (sent' l) ≡ length (sent l)
   by true own other = ap length own
   by false own other = ap length other
@@ -245,7 +220,7 @@ sweeping_more R laws closes cap order rs0 b0 steps0 i r rs rs' b b' steps steps'
           let before = v.posted l below in
           elim (cases_Bool n.0.over) [
             | inl over ↦ let same = none_posted R b.dims cap b.slots r n.0 n'.0 (sent_of b) (got_of b) (sent_of b') (got_of b') t over l in omega (arith, before, same, fewest)
-            | inr on ↦ let more = one_posted R b.dims cap b.slots r n.0 n'.0 (sent_of b) (got_of b) (sent_of b') (got_of b') t l (subst (λ d. l < links d) (sym v.same_dims) below) in let s = turn n.0 n.1 on in omega (arith, before, more, s)
+            | inr on ↦ let more = posted_once b.dims r (sent_of b) (got_of b) (sent_of b') (got_of b') t.own l (subst (λ d. l < links d) (sym v.same_dims) below) in let s = turn n.0 n.1 on in omega (arith, before, more, s)
           ];
       completed = (let n = find rs r (omega (arith, low, all)) in
           let n' = find rs' r (omega (arith, low, all, size)) in

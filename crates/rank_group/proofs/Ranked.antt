@@ -20,7 +20,7 @@ use Rattle.rank_node.specs.Nodes.{NodeState, IsNode}
 use Rattle.rank_node.specs.Moves.{Leaves, Waits}
 use Rattle.rank_node.specs.Sending.{to_send}
 use Rattle.rank_node.specs.Cycles.{IsInCycle, cycle_of_turn, TurnsOnward, AwaitsSome}
-use Rattle.rank_group.specs.Ranks.{RankState, HasRank, AfterTurn, AfterRank, IsBlockedMover, progress}
+use Rattle.rank_group.specs.Ranks.{RankState, HasRank, SameMover, AfterTurn, AfterRank, IsBlockedMover, progress}
 use Rattle.rank_group.proofs.OneTurn.{OneTurn, NextTold, stays_in, goes_on}
 
 -- what a turn tells over the port of rank r of a bank, where the port after it is that of rank r'
@@ -29,11 +29,8 @@ pub record PortTurn {S : Type 0} (R : Rules S) (cap : ℕ) (turn : Turn) (n n' :
   pub dims : b'.dims ≡ b.dims
   pub slots : b'.slots ≡ b.slots
   pub rest : others_of r' b' ≡ others_of r b
-  pub node_dims : mover_dims n'.mover ≡ mover_dims n.mover
-  pub node_rank : mover_rank n'.mover ≡ mover_rank n.mover
-  pub node_manner : manner_in n'.mover ≡ manner_in n.mover
+  pub same : SameMover n.mover n'.mover
   pub node_cap : HasCap cap n'.mover
-  pub node_epoch : epoch_in n'.mover ≡ epoch_in n.mover
   pub sent_grows : (l : ℕ) → IsPrefix (starting_at b.dims r (sent_of b) l) (starting_at b'.dims r' (sent_of b') l)
   pub got_grows : (l : ℕ) → IsPrefix (ending_at b.dims r (got_of b) l) (ending_at b'.dims r' (got_of b') l)
   pub one_sent : (l : ℕ) → l < links (mover_dims n.mover) → sender_at (mover_dims n.mover) l ≡ mover_rank n.mover → length (starting_at b'.dims r' (sent_of b') l) ≤ length (starting_at b.dims r (sent_of b) l) + 1
@@ -79,25 +76,21 @@ after_turn R cap r turn n n' b b' q q' own same nd nr notified =
     let t : PortTurn R cap turn n n' b r b'' r =
     subst (λ (x : Bank). PortTurn R cap turn n n' b r x r) e (subst (λ k. PortTurn R cap turn n n' b r b' k) (same ∙ own) (subst (λ k. PortTurn R cap turn n n' b k b' q') own notified)) in
     record {
-      sent_elsewhere = ap (λ (x : Others). x.sent) t.rest;
-      got_elsewhere = ap (λ (x : Others). x.got) t.rest;
-      node_dims = t.node_dims;
-      node_rank = t.node_rank;
-      node_manner = t.node_manner;
-      node_cap = t.node_cap;
-      node_epoch = t.node_epoch;
-      sent_grows = t.sent_grows;
-      got_grows = t.got_grows;
-      one_sent = λ l below own. t.one_sent l (subst (λ (d : List ℕ). l < links d) (sym nd) below) (subst (λ (d : List ℕ). sender_at d l ≡ mover_rank n.mover) (sym nd) (own ∙ sym nr));
+      own = record {
+        sent_elsewhere = ap (λ (x : Others). x.sent) t.rest;
+        got_elsewhere = ap (λ (x : Others). x.got) t.rest;
+        sent_grows = t.sent_grows;
+        got_grows = t.got_grows;
+        one_sent = λ l below own. t.one_sent l (subst (λ (d : List ℕ). l < links d) (sym nd) below) (subst (λ (d : List ℕ). sender_at d l ≡ mover_rank n.mover) (sym nd) (own ∙ sym nr));
+      };
+      same = t.same;
+      same_cap = t.node_cap;
       shape = λ l below own. t.shape l (subst (λ (d : List ℕ). l < links d) (sym nd) below) (subst (λ (d : List ℕ). sender_at d l ≡ mover_rank n.mover) (sym nd) (own ∙ sym nr));
       lies = λ l more below to. lies_by R cap n.run n'.run n.mover n'.mover _ _ t.leaves l more (subst (λ (d : List ℕ). l < links d) (sym nd) below) (subst (λ (d : List ℕ). reader_at d l ≡ mover_rank n.mover) (sym nd) (to ∙ sym nr));
       kept = t.kept;
       ended = t.ended;
       going = t.going;
-      waits = t.waits;
-      cycle = t.cycle;
-      onward = t.onward;
-      awaits = t.awaits;
+      within = record { waits = t.waits; cycle = t.cycle; onward = t.onward; awaits = t.awaits };
     }
 
 module _ {S : Type 0} (R : Rules S) (dims : List ℕ) (cap slots r : ℕ) where
@@ -105,11 +98,13 @@ module _ {S : Type 0} (R : Rules S) (dims : List ℕ) (cap slots r : ℕ) where
   pub rank_over : (n : RankState S) (sent got : Logs) → n.over ≡ true → AfterRank R dims cap slots r n n sent got sent got
   rank_over n sent got over =
       record {
-        sent_elsewhere = refl;
-        got_elsewhere = refl;
-        sent_grows = λ l. record { rest = []; is = sym (append-nil (starting_at dims r sent l)) };
-        got_grows = λ l. record { rest = []; is = sym (append-nil (ending_at dims r got l)) };
-        one_sent = λ l below own. omega arith;
+        own = record {
+          sent_elsewhere = refl;
+          got_elsewhere = refl;
+          sent_grows = λ l. record { rest = []; is = sym (append-nil (starting_at dims r sent l)) };
+          got_grows = λ l. record { rest = []; is = sym (append-nil (ending_at dims r got l)) };
+          one_sent = λ l below own. omega arith;
+        };
         lies = λ l more below to is. omega arith;
         forward = omega arith;
         kept = λ manner h is. (h, refl, is);
@@ -122,10 +117,10 @@ module _ {S : Type 0} (R : Rules S) (dims : List ℕ) (cap slots r : ℕ) where
   own_turn : (turn : Turn) (n n' : NodeState S) (sent got sent' got' : Logs) → mover_dims n.mover ≡ dims → mover_rank n.mover ≡ r → AfterTurn R dims cap slots r turn n n' sent got sent' got' → OneTurn R cap n n' (starting_at dims r sent) (ending_at dims r got) (starting_at dims r sent') (ending_at dims r got')
   own_turn turn n n' sent got sent' got' nd nr t =
       record {
-        dims = t.node_dims;
-        rank = t.node_rank;
-        manner = t.node_manner;
-        cap_is = t.node_cap;
+        dims = t.same.dims;
+        rank = t.same.rank;
+        manner = t.same.manner;
+        cap_is = t.same_cap;
         shape = λ l below own. t.shape l (subst (λ (d : List ℕ). l < links d) nd below) (subst (λ (d : List ℕ). sender_at d l ≡ r) nd (own ∙ nr));
         kept = t.kept;
       }
@@ -134,19 +129,15 @@ module _ {S : Type 0} (R : Rules S) (dims : List ℕ) (cap slots r : ℕ) where
       → AfterRank R dims cap slots r n (record { node = n'; over = over }) sent got sent' got'
   rank_going n n' over sent got sent' got' on still t =
       record {
-        sent_elsewhere = t.sent_elsewhere;
-        got_elsewhere = t.got_elsewhere;
-        sent_grows = t.sent_grows;
-        got_grows = t.got_grows;
-        one_sent = t.one_sent;
+        own = t.own;
         lies = t.lies;
         forward = let a : progress n ≡ epoch_in n.node.mover = ap (λ b. cond b (epoch_in n.node.mover + 1) (epoch_in n.node.mover)) on in
             let b : cond over (epoch_in n'.mover + 1) (epoch_in n'.mover) ≡ epoch_in n'.mover = ap (λ b. cond b (epoch_in n'.mover + 1) (epoch_in n'.mover)) still in
-            omega (arith, a, b, t.node_epoch);
+            omega (arith, a, b, t.same.epoch);
         kept = λ manner h is. (h, refl, stays_in R dims cap r manner h n n' _ _ _ _ is on (own_turn Going n.node n' sent got sent' got' is.same_dims is.same_rank t) over still);
-        left = λ manner h is e same s g. left_by R h n.node.run n.node.mover n'.mover _ _ _ _ _ _ t.waits (is.runs on) s g (t.going refl) t.node_epoch;
+        left = λ manner h is e same s g. left_by R h n.node.run n.node.mover n'.mover _ _ _ _ _ _ t.within.waits (is.runs on) s g (t.going refl) t.same.epoch;
         unturned = λ over'. absurd (true≢false (sym over' ∙ on));
-        turned = λ _. inl (record { still = still; epoch = t.node_epoch; going = t.going refl; cycle = t.cycle; onward = t.onward; awaits = t.awaits; waits = t.waits });
+        turned = λ _. inl (record { still = still; epoch = t.same.epoch; going = t.going refl; within = t.within });
       }
 
 module _ {S : Type 0} (R : Rules S) (dims : List ℕ) (cap slots r : ℕ) (n : RankState S) (n1 n2 : NodeState S) (more : Bool) (sent got sent' got' : Logs)
@@ -154,8 +145,8 @@ module _ {S : Type 0} (R : Rules S) (dims : List ℕ) (cap slots r : ℕ) (n : R
     (anew : more ≡ true → (quota : ℕ → ℕ) (k : ℕ) (sent got : Logs) → IsInCycle R quota k n1.run n1.mover sent got → length (to_send R n2.run.prog n2.run.sends) ≤ quota (epoch_in n2.mover) → IsInCycle R quota 0 n2.run n2.mover sent got) where
   ended_epoch : cond (not more) (epoch_in n2.mover + 1) (epoch_in n2.mover) ≡ epoch_in n.node.mover + 1
   ended_epoch = elim (cases_Bool more) [
-    | inl yes' ↦ ap (λ b. cond (not b) (epoch_in n2.mover + 1) (epoch_in n2.mover)) yes' ∙ (x.epoch yes' ∙ ap (λ e. e + 1) t.node_epoch)
-    | inr no' ↦ ap (λ b. cond (not b) (epoch_in n2.mover + 1) (epoch_in n2.mover)) no' ∙ (ap (λ m. epoch_in m + 1) (x.stays no') ∙ ap (λ e. e + 1) t.node_epoch)
+    | inl yes' ↦ ap (λ b. cond (not b) (epoch_in n2.mover + 1) (epoch_in n2.mover)) yes' ∙ (x.epoch yes' ∙ ap (λ e. e + 1) t.same.epoch)
+    | inr no' ↦ ap (λ b. cond (not b) (epoch_in n2.mover + 1) (epoch_in n2.mover)) no' ∙ (ap (λ m. epoch_in m + 1) (x.stays no') ∙ ap (λ e. e + 1) t.same.epoch)
   ]
 
   abbrev n' : RankState S
@@ -167,11 +158,7 @@ module _ {S : Type 0} (R : Rules S) (dims : List ℕ) (cap slots r : ℕ) (n : R
   pub rank_ended : AfterRank R dims cap slots r n (record { node = n2; over = not more }) sent got sent' got'
   rank_ended =
       record {
-        sent_elsewhere = t.sent_elsewhere;
-        got_elsewhere = t.got_elsewhere;
-        sent_grows = t.sent_grows;
-        got_grows = t.got_grows;
-        one_sent = t.one_sent;
+        own = t.own;
         lies = λ l xs below to is. omega (arith, t.lies l xs below to is, same_lying n1.mover n2.mover l x.unread);
         forward = let a : progress n ≡ epoch_in n.node.mover = ap (λ b. cond b (epoch_in n.node.mover + 1) (epoch_in n.node.mover)) on in
             let b = ended_epoch in
@@ -183,13 +170,10 @@ module _ {S : Type 0} (R : Rules S) (dims : List ℕ) (cap slots r : ℕ) (n : R
         unturned = λ over. absurd (true≢false (sym over ∙ on));
         turned = λ _. inr (record {
           at_end = n1;
-          same_dims = t.node_dims;
-          same_rank = t.node_rank;
-          same_manner = t.node_manner;
-          epoch = t.node_epoch;
-          cycle = t.cycle;
+          same = t.same;
+          within = t.within;
           over = λ over. x.stays (negated more over);
-          next = λ on'. x.epoch (affirmed more on') ∙ ap (λ e. e + 1) t.node_epoch;
+          next = λ on'. x.epoch (affirmed more on') ∙ ap (λ e. e + 1) t.same.epoch;
           anew = λ on' quota k is few. anew (affirmed more on') quota k _ _ is few;
         });
       } where

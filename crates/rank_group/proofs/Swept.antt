@@ -13,10 +13,11 @@ use Rattle.rank_node.specs.Movers.{MoverState, Manner, IsLogShape, mover_dims, m
 use Rattle.rank_node.specs.Movers.MoverState.{Conveying, Stacking}
 use Rattle.rank_node.specs.Nodes.{IsNode}
 use Rattle.rank_node.specs.Next.{HasStopped}
+use Rattle.rank_group.specs.BankLogs.{AreBankLogs}
 use Rattle.rank_group.specs.Closes.{ClosesLaws}
 use Rattle.rank_group.specs.Ranks.{RankState, HasRank, AllRanks, AfterRank, IsBlockedMover, progress, crowded_in, idle_in}
 use Rattle.rank_group.specs.RoundProgress.{quota_of, KeepsCycle, next_cycle}
-use Rattle.rank_group.specs.RanksOverBank.{mover_in, inbox, RanksOnBank, moves, Lawful, BlocksMover, DrivePlan}
+use Rattle.rank_group.specs.RanksOverBank.{mover_in, inbox, RanksOnBank, moves, BlocksMover, DrivePlan}
 use Rattle.rank_group.proofs.Cycled.{keeps_on}
 use Rattle.rank_group.proofs.Growing.{Grows, sent_same, got_same, inbox_same, inboxes_on}
 use Rattle.rank_group.proofs.Quotas.{sends_few}
@@ -37,7 +38,7 @@ other_rank R dims cap manner r h n sent got sent' got' es eg is =
 
 module _ {S : Type 0} (R : Rules S) (dims : List ℕ) (cap slots : ℕ) (manner : Manner) (starts : List S) (h : ℕ → ℕ → S) (r : ℕ) (n n' : RankState S) (rs rs' : List (RankState S)) (sent got sent' got' : Logs)
     (w : RanksOnBank R dims cap slots manner starts h rs sent got) (at : slice_get rs r ≡ Some n) (at' : slice_get rs' r ≡ Some n') (others : (k : ℕ) → k ≢ r → slice_get rs' k ≡ slice_get rs k) (size : length rs' ≡ length rs)
-    (t : AfterRank R dims cap slots r n n' sent got sent' got') (law : Lawful dims cap slots sent' got') where
+    (t : AfterRank R dims cap slots r n n' sent got sent' got') (law : AreBankLogs dims cap slots sent' got') where
   was_in : (l : ℕ) → reader_at dims l ≡ r → inbox dims rs l ≡ lying n.node.mover l
   was_in l here = ap (λ k. lying (mover_in (slice_get rs k)) l) here ∙ ap (λ o. lying (mover_in o) l) at
 
@@ -46,10 +47,7 @@ module _ {S : Type 0} (R : Rules S) (dims : List ℕ) (cap slots : ℕ) (manner 
 
   pub grows : Grows dims r sent got sent' got' (inbox dims rs) (inbox dims rs')
   grows = record {
-    sent_elsewhere = t.sent_elsewhere;
-    got_elsewhere = t.got_elsewhere;
-    sent_grows = t.sent_grows;
-    got_grows = t.got_grows;
+    own = t.own;
     apart = λ l apart. ap (λ o. lying (mover_in o) l) (others (reader_at dims l) apart);
     lies = λ l more below here own. omega (arith, was_in l here, now_in l here, t.lies l more below here own);
     inboxes = w.inboxes;
@@ -76,7 +74,7 @@ module _ {S : Type 0} (R : Rules S) (dims : List ℕ) (cap slots : ℕ) (manner 
               (subst (λ q. HasRank R dims cap manner q kept_on.0 x sent' got') (sym here) (subst (λ y. HasRank R dims cap manner r kept_on.0 y sent' got') e kept_on.2))
           | inr apart ↦
               subst (λ f. HasRank R dims cap manner k f x sent' got') (sym (ap (λ b. cond b kept_on.0 (h k)) (ne_eqb k r apart)))
-              (other_rank R dims cap manner k (h k) x sent got sent' got' (sent_elsewhere dims r k sent sent' apart t.sent_elsewhere) (got_elsewhere dims r k got got' apart t.got_elsewhere) (w.ranked.each k x (sym (others k apart) ∙ now)))
+              (other_rank R dims cap manner k (h k) x sent got sent' got' (sent_elsewhere dims r k sent sent' apart t.own.sent_elsewhere) (got_elsewhere dims r k got got' apart t.own.got_elsewhere) (w.ranked.each k x (sym (others k apart) ∙ now)))
         ];
         begins = λ k s from. elim (cases_eq k r) [
           | inl here ↦ ap (λ b. cond b kept_on.0 (h k) 0) (eq-eqb k r here) ∙ (kept_on.1 ∙ (ap (λ q. h q 0) (sym here) ∙ w.ranked.begins k s from))
@@ -106,8 +104,8 @@ module _ {S : Type 0} (R : Rules S) (dims : List ℕ) (cap slots : ℕ) (manner 
         (subst (λ c. KeepsCycle R (quota_of R (ranks dims) starts r) c n' (starting_at dims r sent') (ending_at dims r got')) (sym cycle_here) is))
     | inr apart ↦
         subst (λ c. KeepsCycle R (quota_of R (ranks dims) starts k) c x (starting_at dims k sent') (ending_at dims k got')) (sym (cycle_other k apart))
-        (subst (λ f. KeepsCycle R (quota_of R (ranks dims) starts k) (w.cycle k) x f (ending_at dims k got')) (sym (sent_elsewhere dims r k sent sent' apart t.sent_elsewhere))
-        (subst (λ f. KeepsCycle R (quota_of R (ranks dims) starts k) (w.cycle k) x (starting_at dims k sent) f) (sym (got_elsewhere dims r k got got' apart t.got_elsewhere)) (w.keeps k x (sym (others k apart) ∙ now))))
+        (subst (λ f. KeepsCycle R (quota_of R (ranks dims) starts k) (w.cycle k) x f (ending_at dims k got')) (sym (sent_elsewhere dims r k sent sent' apart t.own.sent_elsewhere))
+        (subst (λ f. KeepsCycle R (quota_of R (ranks dims) starts k) (w.cycle k) x (starting_at dims k sent) f) (sym (got_elsewhere dims r k got got' apart t.own.got_elsewhere)) (w.keeps k x (sym (others k apart) ∙ now))))
   ]
 
   pub world_on : Laws R → ClosesLaws → (rounds : ℕ) → DrivePlan R dims slots starts rounds → (g : ℕ → ℕ → S) × (v : RanksOnBank R dims cap slots manner starts g rs' sent' got') × (v.cycle ≡ cycle_on)

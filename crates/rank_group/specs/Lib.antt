@@ -1,4 +1,5 @@
 pub mod Closes
+pub mod BankLogs
 pub mod Ranks
 pub mod Defaults
 pub mod Seats

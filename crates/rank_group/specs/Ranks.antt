@@ -1,14 +1,13 @@
 -- The ranks of a run, each a node, and what a turn leaves of one.
 use Rattle.std.specs.Prelude.{◌≡◌, ◌⊎◌, ℕ, ◌+◌, ◌<◌, ◌≤◌, ◌==◌, Bool, true, false, List, ◌++◌, length, slice_get, Some}
 use Rattle.std.specs.Prelude.{if◌then◌else◌}
-use Rattle.std.specs.List.{All, flat_map}
+use Rattle.std.specs.List.{All}
 use Rattle.item_buffer.specs.Contents.{Shipped}
 use Rattle.route_tensor.specs.Grid.{ranks, IsGrid}
 use Rattle.route_tensor.specs.Link.{links}
 use Rattle.route_tensor.specs.Ends.{sender_at, reader_at}
-use Rattle.port_bank.specs.Logs.{Logs, starting_at, ending_at, starting_elsewhere, ending_elsewhere}
+use Rattle.port_bank.specs.Logs.{Logs, starting_at, ending_at}
 use Rattle.port_bank.specs.Link.{LinkLaw}
-use Rattle.port_bank.specs.Flow.{IsPrefix}
 use Rattle.hop_core.specs.State.{State}
 use Rattle.convey.specs.Buffers.{is_complete}
 use Rattle.exstack.specs.State.{Stack}
@@ -25,6 +24,7 @@ use Rattle.rank_node.specs.Moves.{Waits, WaitsFor}
 use Rattle.rank_node.specs.Sending.{to_send}
 use Rattle.rank_node.specs.Cycles.{IsInCycle, cycle_of_turn, TurnsOnward, AwaitsSome}
 use Rattle.rank_node.specs.Next.{HasStopped}
+use Rattle.rank_group.specs.BankLogs.{parcel_entries, OwnLogsGrow}
 
 -- A node, and whether its run is over.
 pub record RankState (S : Type 0) : Type 0 where
@@ -78,30 +78,19 @@ crowded_in dims slots r sent got l = length (starting_at dims r sent l) == lengt
 abbrev pub idle_in : List ℕ → ℕ → Logs → Logs → ℕ → Bool
 idle_in dims r sent got l = length (ending_at dims r got l) == length (sent l)
 
--- What the turn of the node of rank r leaves.
-pub record AfterTurn {S : Type 0} (R : Rules S) (dims : List ℕ) (cap slots r : ℕ) (turn : Turn) (n n' : NodeState S)
+-- What a turn within an epoch doesn't change of what carries a rank's items.
+pub record SameMover (old new : MoverState) : Type 0 where
+  pub dims : mover_dims new ≡ mover_dims old
+  pub rank : mover_rank new ≡ mover_rank old
+  pub manner : manner_in new ≡ manner_in old
+  pub epoch : epoch_in new ≡ epoch_in old
+
+-- How a turn of rank r's node goes on within its epoch.
+-- waits: what it leaves undone has a cause.
+-- cycle, onward, awaits: over an exstack it goes on in its cycles, leaves its stage for a later one,
+-- and waits for a parcel of its round.
+pub record TurnsWithin {S : Type 0} (R : Rules S) (dims : List ℕ) (slots r : ℕ) (n n' : NodeState S)
     (sent got sent' got' : Logs) : Type 0 where
-  pub sent_elsewhere : starting_elsewhere dims r sent' ≡ starting_elsewhere dims r sent
-  pub got_elsewhere : ending_elsewhere dims r got' ≡ ending_elsewhere dims r got
-  pub node_dims : mover_dims n'.mover ≡ mover_dims n.mover
-  pub node_rank : mover_rank n'.mover ≡ mover_rank n.mover
-  pub node_manner : manner_in n'.mover ≡ manner_in n.mover
-  pub node_cap : HasCap cap n'.mover
-  pub node_epoch : epoch_in n'.mover ≡ epoch_in n.mover
-  pub sent_grows : (l : ℕ) → IsPrefix (starting_at dims r sent l) (starting_at dims r sent' l)
-  pub got_grows : (l : ℕ) → IsPrefix (ending_at dims r got l) (ending_at dims r got' l)
-  pub one_sent : (l : ℕ) → l < links dims → sender_at dims l ≡ r
-      → length (starting_at dims r sent' l) ≤ length (starting_at dims r sent l) + 1
-  pub shape : (l : ℕ) → l < links dims → sender_at dims l ≡ r
-      → IsLogShape (manner_in n.mover) cap (starting_at dims r sent l)
-      → IsLogShape (manner_in n.mover) cap (starting_at dims r sent' l)
-  pub lies : (l : ℕ) (more : List Shipped) → l < links dims → reader_at dims l ≡ r
-      → ending_at dims r got' l ≡ ending_at dims r got l ++ more
-      → lying n'.mover l ≤ lying n.mover l + length (flat_map (λ p. p.entries) more)
-  pub kept : (h : ℕ → S) → IsNode R h n (starting_at dims r sent) (ending_at dims r got)
-      → IsNode R h n' (starting_at dims r sent') (ending_at dims r got')
-  pub ended : turn ≡ Ended → has_completed n'.mover ≡ true
-  pub going : turn ≡ Going → has_completed n'.mover ≡ false
   pub waits : Waits R n.run n.mover n'.mover (starting_at dims r sent) (ending_at dims r got) (starting_at dims r sent')
       (ending_at dims r got') (crowded_in dims slots r sent' got') (idle_in dims r sent' got')
   pub cycle : (quota : ℕ → ℕ) (k : ℕ)
@@ -109,6 +98,26 @@ pub record AfterTurn {S : Type 0} (R : Rules S) (dims : List ℕ) (cap slots r :
       → IsInCycle R quota (cycle_of_turn k n.mover) n'.run n'.mover (starting_at dims r sent') (ending_at dims r got')
   pub onward : TurnsOnward n.mover n'.mover
   pub awaits : AwaitsSome n'.mover
+
+-- What the turn of the node of rank r leaves.
+-- shape: its parcels are filled as its transport fills them. lies: an inbox holds at most what it
+-- held and what came. kept: it is still a node of the same run.
+pub record AfterTurn {S : Type 0} (R : Rules S) (dims : List ℕ) (cap slots r : ℕ) (turn : Turn) (n n' : NodeState S)
+    (sent got sent' got' : Logs) : Type 0 where
+  pub own : OwnLogsGrow dims r sent got sent' got'
+  pub same : SameMover n.mover n'.mover
+  pub same_cap : HasCap cap n'.mover
+  pub shape : (l : ℕ) → l < links dims → sender_at dims l ≡ r
+      → IsLogShape (manner_in n.mover) cap (starting_at dims r sent l)
+      → IsLogShape (manner_in n.mover) cap (starting_at dims r sent' l)
+  pub lies : (l : ℕ) (more : List Shipped) → l < links dims → reader_at dims l ≡ r
+      → ending_at dims r got' l ≡ ending_at dims r got l ++ more
+      → lying n'.mover l ≤ lying n.mover l + length (parcel_entries more)
+  pub kept : (h : ℕ → S) → IsNode R h n (starting_at dims r sent) (ending_at dims r got)
+      → IsNode R h n' (starting_at dims r sent') (ending_at dims r got')
+  pub ended : turn ≡ Ended → has_completed n'.mover ≡ true
+  pub going : turn ≡ Going → has_completed n'.mover ≡ false
+  pub within : TurnsWithin R dims slots r n n' sent got sent' got'
 
 -- A rank that a turn over a conveyor left in its epoch, having moved no parcel: its epoch isn't
 -- over.
@@ -140,36 +149,20 @@ pub record IsUnturned {S : Type 0} (dims : List ℕ) (r : ℕ) (n n' : RankState
   pub same_got : ending_at dims r got' ≡ ending_at dims r got
 
 -- A turn left rank r in its epoch, which isn't over.
--- cycle, onward, awaits, waits: over an exstack it went on in its cycles, and what keeps it where
--- it is within a round.
 pub record StaysIn {S : Type 0} (R : Rules S) (dims : List ℕ) (slots r : ℕ) (n n' : RankState S)
     (sent got sent' got' : Logs) : Type 0 where
   pub still : n'.over ≡ false
   pub epoch : epoch_in n'.node.mover ≡ epoch_in n.node.mover
   pub going : has_completed n'.node.mover ≡ false
-  pub cycle : (quota : ℕ → ℕ) (k : ℕ)
-      → IsInCycle R quota k n.node.run n.node.mover (starting_at dims r sent) (ending_at dims r got)
-      → IsInCycle R quota (cycle_of_turn k n.node.mover) n'.node.run n'.node.mover (starting_at dims r sent')
-      (ending_at dims r got')
-  pub onward : TurnsOnward n.node.mover n'.node.mover
-  pub awaits : AwaitsSome n'.node.mover
-  pub waits : Waits R n.node.run n.node.mover n'.node.mover (starting_at dims r sent) (ending_at dims r got)
-      (starting_at dims r sent') (ending_at dims r got') (crowded_in dims slots r sent' got')
-      (idle_in dims r sent' got')
+  pub within : TurnsWithin R dims slots r n.node n'.node sent got sent' got'
 
 -- A turn ended the epoch of rank r: its next one began, or its run is over.
 -- at_end: the node between the two.
-pub record EndsEpoch {S : Type 0} (R : Rules S) (dims : List ℕ) (r : ℕ) (n n' : RankState S)
+pub record EndsEpoch {S : Type 0} (R : Rules S) (dims : List ℕ) (slots r : ℕ) (n n' : RankState S)
     (sent got sent' got' : Logs) : Type 0 where
   pub at_end : NodeState S
-  pub same_dims : mover_dims at_end.mover ≡ mover_dims n.node.mover
-  pub same_rank : mover_rank at_end.mover ≡ mover_rank n.node.mover
-  pub same_manner : manner_in at_end.mover ≡ manner_in n.node.mover
-  pub epoch : epoch_in at_end.mover ≡ epoch_in n.node.mover
-  pub cycle : (quota : ℕ → ℕ) (k : ℕ)
-      → IsInCycle R quota k n.node.run n.node.mover (starting_at dims r sent) (ending_at dims r got)
-      → IsInCycle R quota (cycle_of_turn k n.node.mover) at_end.run at_end.mover (starting_at dims r sent')
-      (ending_at dims r got')
+  pub same : SameMover n.node.mover at_end.mover
+  pub within : TurnsWithin R dims slots r n.node at_end sent got sent' got'
   pub over : n'.over ≡ true → n'.node.mover ≡ at_end.mover
   pub next : n'.over ≡ false → epoch_in n'.node.mover ≡ epoch_in n.node.mover + 1
   pub anew : n'.over ≡ false → (quota : ℕ → ℕ) (k : ℕ)
@@ -177,24 +170,18 @@ pub record EndsEpoch {S : Type 0} (R : Rules S) (dims : List ℕ) (r : ℕ) (n n
       → length (to_send R n'.node.run.prog n'.node.run.sends) ≤ quota (epoch_in n'.node.mover)
       → IsInCycle R quota 0 n'.node.run n'.node.mover (starting_at dims r sent') (ending_at dims r got')
 
--- What the turn of rank r leaves, with the step to its next epoch where one has ended.
--- one_sent: it posts at most one parcel on a link.
+-- What the turn of rank r leaves, with the step to its next epoch if one has ended.
 -- lies: an inbox holds at most what it held and what came.
--- forward: its epochs only go on. left: where it is in the same epoch and no parcel was moved, it
--- was left there.
+-- forward: its epochs only go on. left: if it is in the same epoch and no parcel moved, it is
+-- blocked there.
 -- unturned, turned: a rank whose run is over isn't turned, and one that goes on stays in its epoch
 -- or ends it.
 pub record AfterRank {S : Type 0} (R : Rules S) (dims : List ℕ) (cap slots r : ℕ) (n n' : RankState S)
     (sent got sent' got' : Logs) : Type 0 where
-  pub sent_elsewhere : starting_elsewhere dims r sent' ≡ starting_elsewhere dims r sent
-  pub got_elsewhere : ending_elsewhere dims r got' ≡ ending_elsewhere dims r got
-  pub sent_grows : (l : ℕ) → IsPrefix (starting_at dims r sent l) (starting_at dims r sent' l)
-  pub got_grows : (l : ℕ) → IsPrefix (ending_at dims r got l) (ending_at dims r got' l)
-  pub one_sent : (l : ℕ) → l < links dims → sender_at dims l ≡ r
-      → length (starting_at dims r sent' l) ≤ length (starting_at dims r sent l) + 1
+  pub own : OwnLogsGrow dims r sent got sent' got'
   pub lies : (l : ℕ) (more : List Shipped) → l < links dims → reader_at dims l ≡ r
       → ending_at dims r got' l ≡ ending_at dims r got l ++ more
-      → lying n'.node.mover l ≤ lying n.node.mover l + length (flat_map (λ p. p.entries) more)
+      → lying n'.node.mover l ≤ lying n.node.mover l + length (parcel_entries more)
   pub forward : progress n ≤ progress n'
   pub kept : (manner : Manner) (h : ℕ → S) → HasRank R dims cap manner r h n sent got
       → (g : ℕ → S) × (g 0 ≡ h 0) × HasRank R dims cap manner r g n' sent' got'
@@ -206,4 +193,4 @@ pub record AfterRank {S : Type 0} (R : Rules S) (dims : List ℕ) (cap slots r :
       (ending_at dims r got') (crowded_in dims slots r sent' got') (idle_in dims r sent' got')
   pub unturned : n.over ≡ true → IsUnturned dims r n n' sent got sent' got'
   pub turned : n.over ≡ false
-      → StaysIn R dims slots r n n' sent got sent' got' ⊎ EndsEpoch R dims r n n' sent got sent' got'
+      → StaysIn R dims slots r n n' sent got sent' got' ⊎ EndsEpoch R dims slots r n n' sent got sent' got'

@@ -2,15 +2,11 @@
 use Rattle.std.specs.Prelude.{◌≡◌, ◌⊎◌, ⊤, true, ℕ, ◌+◌, ◌-◌, ◌^◌, ◌<◌, ◌≤◌, false, List, [], length, Option, Some}
 use Rattle.std.specs.Prelude.{if◌then◌else◌}
 use Rattle.std.specs.Prelude.{None, slice_get}
-use Rattle.std.specs.List.{flat_map}
-use Rattle.bale_items.specs.declared.item.Entry.{Entry}
-use Rattle.item_buffer.specs.Contents.{Shipped}
 use Rattle.list_laws.specs.Sums.{total}
 use Rattle.route_tensor.specs.Grid.{ranks}
 use Rattle.route_tensor.specs.Link.{links}
 use Rattle.route_tensor.specs.Ends.{reader_at}
 use Rattle.port_bank.specs.Logs.{Logs, starting_at, ending_at}
-use Rattle.port_bank.specs.Link.{LinkLaw}
 use Rattle.port_bank.specs.Machine.{Part}
 use Rattle.port_bank.specs.Plain.{Bank, IsBank}
 use Rattle.port_bank.specs.Relay.{RelayLaw}
@@ -23,12 +19,9 @@ use Rattle.round_program.specs.Canonical.{HasRounds, InRound}
 use Rattle.rank_node.specs.Movers.{MoverState, Manner, part_in, lying}
 use Rattle.rank_node.specs.Movers.MoverState.{Conveying, Stacking}
 use Rattle.rank_node.specs.Next.{with_next}
+use Rattle.rank_group.specs.BankLogs.{parcel_entries, moved}
 use Rattle.rank_group.specs.Ranks.{RankState, AllRanks, IsBlockedConveyor, progress, crowded_in, idle_in}
 use Rattle.rank_group.specs.RoundProgress.{quota_of, most_rounds, MoverMadeHalves, KeepsCycle}
-
--- the entries of some parcels
-abbrev pub parcel_entries : List Shipped → List Entry
-parcel_entries log = flat_map (λ p. p.entries) log
 
 -- a rank that has none: no state of a conveyor
 abbrev pub no_conveyor : State
@@ -83,18 +76,9 @@ pub record RanksOnBank {S : Type 0} (R : Rules S) (dims : List ℕ) (cap slots :
   pub keeps : (r : ℕ) (x : RankState S) → slice_get rs r ≡ Some x
       → KeepsCycle R (quota_of R (ranks dims) starts r) (cycle r) x (starting_at dims r sent) (ending_at dims r got)
 
--- what moved so far
-abbrev pub move_of : {S : Type 0} → List ℕ → List (RankState S) → Logs → Logs → ℕ → ℕ
-move_of dims rs sent got l = length (sent l) + length (got l) + (length (parcel_entries (got l)) - inbox dims rs l)
-
+-- How much has moved over all links.
 abbrev pub moves : {S : Type 0} → List ℕ → List (RankState S) → Logs → Logs → ℕ
-moves dims rs sent got = total (links dims) (move_of dims rs sent got)
-
--- what holds of the logs of all ranks over a bank
-pub record Lawful (dims : List ℕ) (cap slots : ℕ) (sent got : Logs) : Type 0 where
-  pub links_keep : (l : ℕ) → l < links dims → LinkLaw cap slots (sent l) (got l)
-  pub none_past : (l : ℕ) → links dims ≤ l → (sent l ≡ []) × (got l ≡ [])
-  pub relays : (r : ℕ) → r < ranks dims → RelayLaw dims r sent got
+moves dims rs sent got = moved dims sent got (inbox dims rs)
 
 -- a rank at rest over a conveyor, over lists that its turn didn't change
 pub record IsBlockedRank (dims : List ℕ) (slots r : ℕ) (c' : State) (sent got : Logs) : Type 0 where

@@ -24,11 +24,13 @@ returns-clause-turned g c =
       dims = c.turn.ensures.turns.same_port.dims;
       slots = c.turn.ensures.turns.same_port.slots;
       rest = c.turn.ensures.turns.same_port.others;
-      node_dims = c.turn.ensures.turns.moves.dims;
-      node_rank = c.turn.ensures.turns.moves.rank;
-      node_manner = c.turn.ensures.turns.moves.manner;
+      same = record {
+        dims = c.turn.ensures.turns.moves.dims;
+        rank = c.turn.ensures.turns.moves.rank;
+        manner = c.turn.ensures.turns.moves.manner;
+        epoch = c.turn.ensures.turns.moves.epoch;
+      };
       node_cap = c.turn.ensures.cap;
-      node_epoch = c.turn.ensures.turns.moves.epoch;
       sent_grows = c.turn.ensures.turns.moves.sent_grows;
       got_grows = c.turn.ensures.turns.moves.got_grows;
       one_sent = c.turn.ensures.turns.moves.one_sent;

@@ -47,7 +47,7 @@ next-requires g c =
     subst (λ (m : RankState g.row.Q.Denot). HasRank g.Q.Program.rules c.args.bank.dims g.row.CAP manner c.args.number h m (sent_of c.args.bank) (got_of c.args.bank)) (sym c.rank.view_is) c.requires.rank.2 in
     let t = c.in_ok-bank.ensures.turned in
     let few = subst (λ (m : RankState g.row.Q.Denot). epoch_in m.node.mover < 2 ^ 63) (sym c.rank.view_is) c.requires.few in
-    (search rules, (t.ended c.in-Ended.is, (subst (λ e. e < 2 ^ 63) (sym t.node_epoch) few, (h, starting_at c.args.bank.dims c.args.number (sent_of c.in_ok-bank.bank), ending_at c.args.bank.dims c.args.number (got_of c.in_ok-bank.bank), t.kept h (is.runs c.if-rank.false)))))
+    (search rules, (t.ended c.in-Ended.is, (subst (λ e. e < 2 ^ 63) (sym t.same.epoch) few, (h, starting_at c.args.bank.dims c.args.number (sent_of c.in_ok-bank.bank), ending_at c.args.bank.dims c.args.number (got_of c.in_ok-bank.bank), t.kept h (is.runs c.if-rank.false)))))
 
 pub returns-in-Going-clause-turned : goal.returns-in-Going-clause-turned
 returns-in-Going-clause-turned g c =

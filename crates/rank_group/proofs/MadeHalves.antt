@@ -105,7 +105,7 @@ module _ {S : Type 0} (R : Rules S) (laws : Laws R) (law : ClosesLaws) (dims : L
   mine on = subst (λ o. HasMadeHalves most j o (w.cycle r) x) on (to_stack most j n.over (w.cycle r) n.node.mover cap is (all r n at))
 
   -- a rank whose epoch ended
-  ended : n.over ≡ false → EndsEpoch R dims r n n' sent got sent' got' → HasMadeHalves most (j + 1) n'.over (v.cycle r) x'
+  ended : n.over ≡ false → EndsEpoch R dims slots r n n' sent got sent' got' → HasMadeHalves most (j + 1) n'.over (v.cycle r) x'
   ended on z =
       let s : finished_in (w.cycle r) (stack_in (slice_get rs r)).stage < most (stack_in (slice_get rs r)).epoch = short R laws law dims cap slots starts h rs sent got w rounds plan r low (ap over_in at ∙ on) in
       let s' : finished_in (w.cycle r) x.stage < most x.epoch = subst (λ o. finished_in (w.cycle r) (stack_in o).stage < most (stack_in o).epoch) at s in
@@ -114,7 +114,7 @@ module _ {S : Type 0} (R : Rules S) (laws : Laws R) (law : ClosesLaws) (dims : L
       let e' = epoch_is n'.node.mover cap is' in
       elim (cases_Bool n'.over) [
         | inl over ↦
-            let q : x'.epoch ≡ x.epoch = omega (arith, e, e', ap epoch_in (z.over over), z.epoch) in
+            let q : x'.epoch ≡ x.epoch = omega (arith, e, e', ap epoch_in (z.over over), z.same.epoch) in
             let sum = ap (λ i. total (i + 1) most) q in
             let next : total (x.epoch + 1) most ≡ total x.epoch most + most x.epoch = let i : x.epoch + 1 ≡ suc x.epoch = omega arith in ap (λ i. total i most) i in
             let top : rounds_made most n'.over (v.cycle r) x' ≡ total (x'.epoch + 1) most = ap (λ o. rounds_made most o (v.cycle r) x') over in
@@ -153,16 +153,16 @@ module _ {S : Type 0} (R : Rules S) (laws : Laws R) (law : ClosesLaws) (dims : L
     cycle = here ∙ (cycle_stays (w.cycle r) n n' on s.epoch ∙ cycle_is (w.cycle r) n.node.mover cap is)
 
     onward : IsOnward x.stage now.stage
-    onward = subst (λ o. IsOnward x.stage (stack_in o).stage) (sym at') (onward_of n.node.mover n'.node.mover cap is is' s.onward)
+    onward = subst (λ o. IsOnward x.stage (stack_in o).stage) (sym at') (onward_of n.node.mover n'.node.mover cap is is' s.within.onward)
 
     awaits : Awaits now
-    awaits = subst (λ o. Awaits (stack_in o)) (sym at') (awaits_of n'.node.mover cap is' s.awaits)
+    awaits = subst (λ o. Awaits (stack_in o)) (sym at') (awaits_of n'.node.mover cap is' s.within.awaits)
 
     waits : WaitsFor x now (ending_at (p ∷ []) r got) (ending_at (p ∷ []) r got') (crowded_in (p ∷ []) slots r sent' got') (idle_in (p ∷ []) r sent' got')
     waits =
         subst (λ o. WaitsFor x (stack_in o) (ending_at (p ∷ []) r got) (ending_at (p ∷ []) r got') (crowded_in (p ∷ []) slots r sent' got') (idle_in (p ∷ []) r sent' got')) (sym at')
         (subst (λ (ds : List ℕ). WaitsFor x x' (ending_at ds r got) (ending_at ds r got') (crowded_in ds slots r sent' got') (idle_in ds r sent' got')) (sym (one R laws law dims cap slots starts h rs sent got w rounds plan))
-        (waits_of R n.node.run n.node.mover n'.node.mover cap _ _ _ _ _ _ is is' s.waits))
+        (waits_of R n.node.run n.node.mover n'.node.mover cap _ _ _ _ _ _ is is' s.within.waits))
 
     still : finished_in (v.cycle r) now.stage ≡ finished_in (w.cycle r) x.stage → (b : ℕ) → b < p → (stack_out_at now b).due ≡ true → ending_at (p ∷ []) r got' (stack_link_to x b) ≡ ending_at (p ∷ []) r got (stack_link_to x b)
     still same b lb due =

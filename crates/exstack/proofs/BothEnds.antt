@@ -19,7 +19,8 @@ use Rattle.exstack.specs.declared.stage.Stage.TheVariants.{Start, Proceeding, Fi
 use Rattle.exstack.specs.Links.{no_stack_out, no_stack_in}
 use Rattle.exstack.specs.State.{Stack, stack_out_at, stack_in_at, number, stack_link_to, stack_link_from, may_read}
 use Rattle.exstack.specs.Cycles.{proceed_parcel, exchange_parcel, odd_ones, entries_sent, entries_exchanged, items}
-use Rattle.exstack.specs.Parts.{stack_pushed_to, popped_of, stack_part, is_all_done}
+use Rattle.exstack.specs.Parts.{stack_pushed_to, popped_of, stack_part}
+use Rattle.exstack.specs.State.{is_all_done}
 use Rattle.exstack.specs.Standing.{IsStackOut, IsStackIn}
 use Rattle.exstack.specs.Law.{StacksAgree}
 use Rattle.exstack.proofs.OneHop.{number_within, number_sender, number_reader}

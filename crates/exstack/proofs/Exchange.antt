@@ -12,7 +12,8 @@ use Rattle.port_bank.proofs.Owners.{sent_elsewhere, got_elsewhere}
 use Rattle.port_bank.proofs.Listing.{for_ranks-within, with-item_here, next_of, through_same, through_done, all_below}
 use Rattle.exstack.specs.State.{Stack}
 use Rattle.exstack.specs.Agreement.{StackAgrees}
-use Rattle.exstack.specs.Parts.{stack_part, stack_pushed_to, popped_of, is_all_done, AreOwnSteps, proceed_steps}
+use Rattle.exstack.specs.Parts.{stack_part, stack_pushed_to, popped_of, AreOwnSteps, proceed_steps}
+use Rattle.exstack.specs.State.{is_all_done}
 use Rattle.exstack.specs.Standing.{IsStack}
 use Rattle.exstack.specs.Law.{StacksAgree, IsStackCall, stacks_state, AreSteps}
 use Rattle.exstack.proofs.BothEnds as ends

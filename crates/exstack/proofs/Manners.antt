@@ -5,7 +5,7 @@ use Rattle.exstack.specs.declared.stage.Stage.{Stage}
 use Rattle.exstack.specs.declared.stage.Stage.TheVariants.{Start, Proceeding, Filling, Exchanging, Full, AllDone}
 use Rattle.exstack.specs.State.{is_proceeding, is_exchanging, may_read}
 use Rattle.exstack.specs.Standing.{may_wait}
-use Rattle.exstack.specs.Parts.{is_all_done}
+use Rattle.exstack.specs.State.{is_all_done}
 use Rattle.exstack.specs.Agreement.{rounds_in}
 
 pub record Kind (stage : Stage) (done last exchange : Bool) : Type 0 where

@@ -17,7 +17,8 @@ use Rattle.exstack.specs.State.{Stack, stack_out_at, stack_in_at, stack_link_to,
 use Rattle.exstack.specs.Steps.{MadeRound}
 use Rattle.exstack.specs.Cycles.{entries_sent, entries_exchanged, items}
 use Rattle.exstack.specs.Agreement.{AgreesIn, rounds_in}
-use Rattle.exstack.specs.Parts.{stack_pushed_to, popped_of, stack_part, is_all_done, AreOwnSteps, proceed_steps}
+use Rattle.exstack.specs.Parts.{stack_pushed_to, popped_of, stack_part, AreOwnSteps, proceed_steps}
+use Rattle.exstack.specs.State.{is_all_done}
 use Rattle.exstack.specs.Standing.{IsStack}
 use Rattle.exstack.proofs.Manners.{Kind}
 use Rattle.exstack.proofs.Beginning.{begun_outs, begun_ins, exchange_filling}

@@ -16,7 +16,8 @@ use Rattle.exstack.specs.State.{Stack, stack_out_at, stack_in_at, stack_link_to,
 use Rattle.exstack.specs.Cycles.{entries_sent, entries_exchanged, exchange_parcel, entries_if_any, items}
 use Rattle.list_laws.specs.Lists.{Ends}
 use Rattle.exstack.specs.Agreement.{LinkAgrees, AgreesIn, rounds_in}
-use Rattle.exstack.specs.Parts.{stack_pushed_to, popped_of, stack_part, is_all_done}
+use Rattle.exstack.specs.Parts.{stack_pushed_to, popped_of, stack_part}
+use Rattle.exstack.specs.State.{is_all_done}
 use Rattle.exstack.specs.Standing.{IsStack, IsStackOut, IsStackIn}
 use Rattle.exstack.proofs.OneLink.{ends_none}
 use Rattle.exstack.proofs.Pieces.{pulled_none}

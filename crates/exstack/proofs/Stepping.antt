@@ -13,7 +13,8 @@ use Rattle.exstack.specs.State.{Stack, stack_out_at, stack_in_at, stack_link_to,
 use Rattle.exstack.specs.Cycles.{entries_sent, entries_exchanged, exchange_parcel, entries_if_any, items}
 use Rattle.list_laws.specs.Lists.{Ends}
 use Rattle.exstack.specs.Agreement.{LinkAgrees, AgreesIn, back_first, rounds_in}
-use Rattle.exstack.specs.Parts.{stack_pushed_to, popped_of, stack_part, is_all_done}
+use Rattle.exstack.specs.Parts.{stack_pushed_to, popped_of, stack_part}
+use Rattle.exstack.specs.State.{is_all_done}
 use Rattle.exstack.specs.Standing.{IsStack}
 use Rattle.exstack.proofs.Beginning.{forget}
 use Rattle.exstack.proofs.Pieces.{take_front, pulled_of_all, pulled_front, pulled_then}

@@ -7,10 +7,8 @@ use Rattle.port_bank.specs.Frames.{SamePort}
 use Rattle.port_bank.specs.Logs.{Logs}
 use Rattle.port_bank.specs.Machine.{Part, Step, IsOwnStep, after, for_ranks}
 use Rattle.port_bank.specs.Machine.Step.{Pull, Unpull, Done, Complete, Idle}
-use Rattle.exstack.specs.declared.stage.Stage.{Stage}
-use Rattle.exstack.specs.declared.stage.Stage.TheVariants.{Start, Proceeding, Filling, Exchanging, Full, AllDone}
 use Rattle.exstack.specs.State.{Stack, stack_dims, stack_out_at, stack_in_at, stack_link_to, stack_link_from, stack_unread, lowest_unread_sender, pop_from}
-use Rattle.exstack.specs.State.{popped_from}
+use Rattle.exstack.specs.State.{popped_from, is_all_done}
 use Rattle.exstack.specs.Cycles.{entries_sent, entries_exchanged, items}
 use Rattle.exstack.specs.Agreement.{AgreesIn, StackAgrees}
 
@@ -27,14 +25,6 @@ abbrev pub popped_of : Stack → Logs → ℕ → ℕ → List Item
 popped_of st got e s =
     let all : List Item = items (entries_exchanged e (got (stack_link_from st s))) in
     take (length all - (if e == st.epoch then length (stack_in_at st s).unread else 0)) all
-
-abbrev pub is_all_done : Stage → Bool
-is_all_done Start = false
-is_all_done Proceeding = false
-is_all_done Filling = false
-is_all_done Exchanging = false
-is_all_done Full = false
-is_all_done AllDone = true
 
 -- The rank's part of the machine.
 abbrev pub stack_part : Stack → Logs → Logs → Part

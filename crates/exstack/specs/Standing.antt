@@ -5,8 +5,7 @@ use Rattle.list_laws.specs.Lists.{EachAt}
 use Rattle.exstack.specs.declared.stage.Stage.{Stage}
 use Rattle.exstack.specs.declared.stage.Stage.TheVariants.{Start, Proceeding, Filling, Exchanging, Full, AllDone}
 use Rattle.exstack.specs.Links.{StackOut, StackIn}
-use Rattle.exstack.specs.State.{Stack, stack_in_at, is_proceeding, is_exchanging, may_read}
-use Rattle.exstack.specs.Parts.{is_all_done}
+use Rattle.exstack.specs.State.{Stack, stack_in_at, is_proceeding, is_exchanging, may_read, is_all_done}
 
 -- Whether entries may wait on a link out: while buffers are filled, and in the exchange until they
 -- are posted.

@@ -112,50 +112,69 @@ after_reset st =
       popped = None;
     }
 
--- Whether a stage lies within a proceed round, within an exchange round, or within either.
+-- What holds at a stage of an epoch.
+-- is_proceeding, is_exchanging: it lies within a proceed round, or within an exchange round.
+-- may_proceed: a proceed round may begin or go on, which it may at the start of an epoch, after an
+-- exchange round, and within the round. may_exchange: an exchange round may, after a proceed round
+-- that goes on, and within the round.
+-- may_read: items may be unread, from an exchange round on until the next proceed round.
+-- is_over: every rank is done.
+-- has_proceeded, has_exchanged: a proceed poll, or an exchange poll, may leave an exstack in it.
+pub record StageRow : Type 0 where
+  pub is_proceeding : Bool
+  pub is_exchanging : Bool
+  pub may_proceed : Bool
+  pub may_exchange : Bool
+  pub may_read : Bool
+  pub is_over : Bool
+  pub has_proceeded : Bool
+  pub has_exchanged : Bool
+
+abbrev stage_row : Bool → Bool → Bool → Bool → Bool → Bool → Bool → Bool → StageRow
+stage_row a b c d e f g h =
+    record {
+      is_proceeding = a;
+      is_exchanging = b;
+      may_proceed = c;
+      may_exchange = d;
+      may_read = e;
+      is_over = f;
+      has_proceeded = g;
+      has_exchanged = h;
+    }
+
+-- The columns are those of StageRow, in order.
+abbrev pub row_of_stage : Stage → StageRow
+row_of_stage Start = stage_row false false true false false false false false
+row_of_stage Proceeding = stage_row true false true false false false true false
+row_of_stage Filling = stage_row false false false true false false true false
+row_of_stage Exchanging = stage_row false true false true true false false true
+row_of_stage Full = stage_row false false true false true false false true
+row_of_stage AllDone = stage_row false false false false false true true false
+
 abbrev pub is_proceeding : Stage → Bool
-is_proceeding Start = false
-is_proceeding Proceeding = true
-is_proceeding Filling = false
-is_proceeding Exchanging = false
-is_proceeding Full = false
-is_proceeding AllDone = false
+is_proceeding stage = (row_of_stage stage).is_proceeding
 
 abbrev pub is_exchanging : Stage → Bool
-is_exchanging Start = false
-is_exchanging Proceeding = false
-is_exchanging Filling = false
-is_exchanging Exchanging = true
-is_exchanging Full = false
-is_exchanging AllDone = false
+is_exchanging stage = (row_of_stage stage).is_exchanging
 
--- Whether a proceed round may begin or go on: at the start of an epoch, after an exchange, and
--- within the round.
--- Whether an exchange round may: after a proceed round that goes on, and within the round.
 abbrev pub may_proceed : Stage → Bool
-may_proceed Start = true
-may_proceed Proceeding = true
-may_proceed Filling = false
-may_proceed Exchanging = false
-may_proceed Full = true
-may_proceed AllDone = false
+may_proceed stage = (row_of_stage stage).may_proceed
 
 abbrev pub may_exchange : Stage → Bool
-may_exchange Start = false
-may_exchange Proceeding = false
-may_exchange Filling = true
-may_exchange Exchanging = true
-may_exchange Full = false
-may_exchange AllDone = false
+may_exchange stage = (row_of_stage stage).may_exchange
 
--- Whether items may be unread: from an exchange on, until the next proceed round.
 abbrev pub may_read : Stage → Bool
-may_read Start = false
-may_read Proceeding = false
-may_read Filling = false
-may_read Exchanging = true
-may_read Full = true
-may_read AllDone = false
+may_read stage = (row_of_stage stage).may_read
+
+abbrev pub is_all_done : Stage → Bool
+is_all_done stage = (row_of_stage stage).is_over
+
+abbrev pub has_proceeded : Stage → Bool
+has_proceeded stage = (row_of_stage stage).has_proceeded
+
+abbrev pub has_exchanged : Stage → Bool
+has_exchanged stage = (row_of_stage stage).has_exchanged
 
 -- A proceed round, or an exchange round, has begun: where it hadn't, a parcel is due on each open
 -- link.

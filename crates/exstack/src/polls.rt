@@ -8,7 +8,8 @@ ghost use Rattle.exstack.specs.State.{is_proceeding, is_exchanging, may_proceed,
 ghost use Rattle.exstack.specs.Steps.{MadeRound, AsksOnce, StopsShort};
 ghost use Rattle.exstack.specs.Agreement.{AgreesIn, StackAgrees, cycle_after};
 ghost use Rattle.exstack.specs.Cycles.{exchange_parcel, entries_if_any};
-ghost use Rattle.exstack.specs.Parts.{AreOwnSteps, proceed_steps, is_all_done, stack_part, IsStackAtPort};
+ghost use Rattle.exstack.specs.Parts.{AreOwnSteps, proceed_steps, stack_part, IsStackAtPort};
+ghost use Rattle.exstack.specs.State.{is_all_done};
 ghost use Rattle.exstack.specs.Standing.{IsStack};
 
 use crate::exstack::Exstack;

@@ -4,7 +4,7 @@ use Rattle.std.proofs.lemmas.Bool.{cases_Bool, true≢false, eq-eqb, ne_eqb}
 use Rattle.port_bank.specs.Logs.{Logs, lasts, starting_at, ending_at, lasts_in}
 use Rattle.exstack.specs.Links.{no_stack_in}
 use Rattle.exstack.specs.State.{Stack, number, stack_in_at}
-use Rattle.exstack.specs.Parts.{is_all_done}
+use Rattle.exstack.specs.State.{is_all_done}
 use Rattle.exstack.specs.Agreement.{AgreesIn}
 use Rattle.exstack.specs.Standing.{IsStack}
 use Rattle.round_program.specs.Rules.{Rules}

@@ -9,7 +9,7 @@ use Rattle.port_bank.proofs.Segments.{lasts_begins}
 use Rattle.exstack.specs.declared.stage.Stage.{Stage}
 use Rattle.exstack.specs.declared.stage.Stage.TheVariants.{Start, Proceeding, Filling, Exchanging, Full, AllDone}
 use Rattle.exstack.specs.State.{Stack, stack_out_at, stack_in_at, number, stack_link_to, stack_link_from, is_proceeding, is_exchanging}
-use Rattle.exstack.specs.Parts.{is_all_done}
+use Rattle.exstack.specs.State.{is_all_done}
 use Rattle.exstack.specs.Agreement.{cycle_after}
 use Rattle.exstack.specs.Lockstep.{finished_in, HasFinishedRounds, HasPostedRounds, InStep, RoomLaw, ArrivalLaw}
 use Rattle.exstack.proofs.Lockstep.{begins, sent_own, got_own, out_end, out_is, in_end, in_is}

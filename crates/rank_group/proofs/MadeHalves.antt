@@ -10,7 +10,7 @@ use Rattle.port_bank.specs.Flow.{IsPrefix}
 use Rattle.exstack.specs.State.{Stack, stack_out_at, number, stack_link_to}
 use Rattle.exstack.specs.Agreement.{cycle_after}
 use Rattle.exstack.specs.Lockstep.{finished_in, InStep}
-use Rattle.exstack.specs.Parts.{is_all_done}
+use Rattle.exstack.specs.State.{is_all_done}
 use Rattle.exstack.proofs.OneHop.{number_reader}
 use Rattle.round_program.specs.Rules.{Rules}
 use Rattle.round_program.specs.Laws.{Laws}

@@ -112,7 +112,7 @@ all_map : (P Q : Entry → Type 0) (xs : List Entry) → ((e : Entry) → P e �
 all_map P Q xs f a k d low = f _ (a k d low)
 
 module _ (r cap : ℕ) (x : Stack) (sent got : Logs) (same_rank : x.rank ≡ r)
-    (is : IsStacking cap x (starting_at (stack_dims x) r sent) (ending_at (stack_dims x) r got)) (over : exstack_parts.is_all_done x.stage ≡ true) where
+    (is : IsStacking cap x (starting_at (stack_dims x) r sent) (ending_at (stack_dims x) r got)) (over : is_all_done x.stage ≡ true) where
   abbrev dims : List ℕ
   dims = stack_dims x
 

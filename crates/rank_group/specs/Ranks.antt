@@ -11,7 +11,7 @@ use Rattle.port_bank.specs.Link.{LinkLaw}
 use Rattle.hop_core.specs.State.{State}
 use Rattle.convey.specs.Buffers.{is_complete}
 use Rattle.exstack.specs.State.{Stack}
-use Rattle.exstack.specs.Parts.{is_all_done}
+use Rattle.exstack.specs.State.{is_all_done}
 use Rattle.round_program.specs.Rules.{Rules}
 use Rattle.rank_node.specs.declared.turn.Turn.{Turn}
 use Rattle.rank_node.specs.declared.turn.Turn.TheVariants.{Going, Ended}

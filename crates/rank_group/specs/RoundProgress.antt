@@ -5,7 +5,7 @@ use Rattle.std.specs.Prelude.{length, Option, None, Some, slice_get}
 use Rattle.list_laws.specs.Sums.{total}
 use Rattle.port_bank.specs.Logs.{Logs}
 use Rattle.exstack.specs.State.{Stack, stack_out_at, is_proceeding, is_exchanging}
-use Rattle.exstack.specs.Parts.{is_all_done}
+use Rattle.exstack.specs.State.{is_all_done}
 use Rattle.exstack.specs.Lockstep.{finished_in}
 use Rattle.exstack.specs.Agreement.{AgreesIn}
 use Rattle.round_program.specs.Rules.{Rules}

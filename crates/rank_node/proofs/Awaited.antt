@@ -12,7 +12,8 @@ use Rattle.exstack.specs.declared.stage.Proceed.TheVariants as proceed
 use Rattle.exstack.specs.Links.{StackOut, StackIn, no_stack_out, no_stack_in, begun_out, begun_in}
 use Rattle.exstack.specs.State.{Stack, missing_link, missing_out, missing_in, all_ended, proceed_answer, exchange_answer, stage_of_proceed, stage_of_exchange, is_proceeding, is_exchanging, may_proceed, may_exchange, in_proceed}
 use Rattle.exstack.specs.Standing.{IsStack}
-use Rattle.rank_node.specs.Cycles.{Awaits, IsOnward, has_proceeded, has_exchanged}
+use Rattle.rank_node.specs.Cycles.{Awaits, IsOnward}
+use Rattle.exstack.specs.State.{has_proceeded, has_exchanged}
 
 -- a parcel is due where the round waits for a link
 module _ (cap : ℕ) (x : Stack) (s : IsStack cap x) where

@@ -144,7 +144,7 @@ prefix_empty xs ys b h i d w even =
 exchanged_got : (e : ℕ) (sent got : List Shipped) → IsPrefix got sent → IsExstackShape sent → entries_exchanged e got ≡ entries_sent e got
 exchanged_got e sent got b s = all_odd (segment e got) (prefix_empty (segment e got) (segment e sent) (segment_begins e got sent b) (λ i d w even. s.empty e i d w even))
 
-module _ (cap : ℕ) (x : Stack) (sent got : Logs) (is : IsStacking cap x sent got) (over : exstack_parts.is_all_done x.stage ≡ true) where
+module _ (cap : ℕ) (x : Stack) (sent got : Logs) (is : IsStacking cap x sent got) (over : is_all_done x.stage ≡ true) where
   abbrev l : ℕ
   l = stack_link_to x x.rank
 
@@ -171,7 +171,7 @@ module _ (cap : ℕ) (x : Stack) (sent got : Logs) (is : IsStacking cap x sent g
 
   stack_read : (stack_in_at x x.rank).unread ≡ []
   stack_read = (is.stack.each_in x.rank no_stack_in (subst (λ n. x.rank < n) (sym is.stack.all_ins) low)).read (by x.stage over) where
-    by : (s : Stage) → exstack_parts.is_all_done s ≡ true → may_read s ≡ false
+    by : (s : Stage) → is_all_done s ≡ true → may_read s ≡ false
     by Start e = absurd (cc)
     by Proceeding e = absurd (cc)
     by Filling e = absurd (cc)

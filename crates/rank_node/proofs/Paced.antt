@@ -18,7 +18,8 @@ use Rattle.exstack.proofs.Beginning.{begun_outs}
 use Rattle.round_program.specs.Rules.{Rules}
 use Rattle.rank_node.specs.Sending.{to_send}
 use Rattle.rank_node.specs.Runs.{Running}
-use Rattle.rank_node.specs.Cycles.{exchanges_in, cycles_gone_on, WentOn, MarksLast, InCycle, InExchange, has_proceeded, has_exchanged}
+use Rattle.rank_node.specs.Cycles.{exchanges_in, cycles_gone_on, WentOn, MarksLast, InCycle, InExchange}
+use Rattle.exstack.specs.State.{has_proceeded, has_exchanged}
 use Rattle.rank_node.specs.Movers.MoverState.{Stacking}
 use Rattle.rank_node.specs.Pulls.{Pops}
 use Rattle.rank_node.specs.Nodes.{IsNode}

@@ -18,7 +18,8 @@ use Rattle.exstack.specs.Links.{no_stack_out, no_stack_in}
 use Rattle.exstack.specs.State.{Stack, stack_dims, stack_out_at, stack_in_at, number, stack_link_to, stack_link_from, is_proceeding, is_exchanging, stage_of_exchange}
 use Rattle.exstack.specs.Steps.{MadeRound, was_moved}
 use Rattle.exstack.specs.Agreement.{StackAgrees}
-use Rattle.exstack.specs.Parts.{stack_part, AreOwnSteps, proceed_steps, is_all_done}
+use Rattle.exstack.specs.Parts.{stack_part, AreOwnSteps, proceed_steps}
+use Rattle.exstack.specs.State.{is_all_done}
 use Rattle.exstack.specs.Standing.{IsStack}
 use Rattle.exstack.proofs.OneHop.{ranks_one, grid_one, link_one}
 use Rattle.round_program.specs.Rules.{Rules}

@@ -8,7 +8,7 @@ use Rattle.exstack.specs.Links.{no_stack_out, no_stack_in}
 use Rattle.exstack.specs.State.{Stack, stack_out_at, stack_in_at, stack_link_to}
 use Rattle.exstack.specs.Standing.{IsStack}
 use Rattle.exstack.specs.Agreement.{AgreesIn}
-use Rattle.exstack.specs.Parts.{is_all_done}
+use Rattle.exstack.specs.State.{is_all_done}
 use Rattle.rank_node.specs.Movers.{IsStacking}
 
 pub not_proceeding : (s : Stage) → s ≡ Start → s ≡ Proceeding → ⊥

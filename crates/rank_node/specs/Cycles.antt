@@ -4,7 +4,7 @@ use Rattle.item_buffer.specs.Contents.{Shipped}
 use Rattle.port_bank.specs.Logs.{Logs}
 use Rattle.exstack.specs.declared.stage.Stage.{Stage}
 use Rattle.exstack.specs.declared.stage.Stage.TheVariants.{Start, Proceeding, Filling, Exchanging, Full, AllDone}
-use Rattle.exstack.specs.State.{Stack, stack_out_at, stack_in_at, stack_link_to, stack_link_from, is_proceeding, is_exchanging}
+use Rattle.exstack.specs.State.{Stack, stack_out_at, stack_in_at, stack_link_to, stack_link_from, is_proceeding, is_exchanging, has_proceeded, has_exchanged}
 use Rattle.exstack.specs.Cycles.{proceed_parcel}
 use Rattle.exstack.specs.Agreement.{AgreesIn, cycle_after}
 use Rattle.round_program.specs.Rules.{Rules}
@@ -79,23 +79,6 @@ pub record InExchange {S : Type 0} (R : Rules S) (quota : ℕ → ℕ) (n : ℕ)
   pub paced : x.done ≡ false → n < run.next
   pub went_on : (m : ℕ) → m < n + 1 → WentOn x.epoch m x got
   pub marks : MarksLast quota x sent
-
--- The stages in which a proceed poll leaves an exstack, and those in which an exchange poll does.
-abbrev pub has_proceeded : Stage → Bool
-has_proceeded Start = false
-has_proceeded Proceeding = true
-has_proceeded Filling = true
-has_proceeded Exchanging = false
-has_proceeded Full = false
-has_proceeded AllDone = true
-
-abbrev pub has_exchanged : Stage → Bool
-has_exchanged Start = false
-has_exchanged Proceeding = false
-has_exchanged Filling = false
-has_exchanged Exchanging = true
-has_exchanged Full = true
-has_exchanged AllDone = false
 
 -- A turn at the first stage may leave the second: it makes the poll that is next, and rests nowhere
 -- but at the end of the epoch.

@@ -14,7 +14,7 @@ use Rattle.convey.specs.Conveyors as conveyors
 use Rattle.convey.specs.Law.{IsSound}
 use Rattle.convey.specs.Parts as conveyor_parts
 use Rattle.exstack.specs.State.{stack_dims}
-use Rattle.exstack.specs.State.{Stack}
+use Rattle.exstack.specs.State.{Stack, is_all_done}
 use Rattle.exstack.specs.Standing.{IsStack}
 use Rattle.exstack.specs.Agreement as exstacks
 use Rattle.exstack.specs.Parts as exstack_parts
@@ -67,7 +67,7 @@ manner_in (Stacking cap x) = ByExstack
 -- Whether the rank has completed its epoch.
 abbrev pub has_completed : MoverState → Bool
 has_completed (Conveying c) = is_complete c.phase
-has_completed (Stacking cap x) = exstack_parts.is_all_done x.stage
+has_completed (Stacking cap x) = is_all_done x.stage
 
 -- An exstack is one for parcels of so many entries.
 abbrev pub HasCap : ℕ → MoverState → Type 0

@@ -5,7 +5,7 @@ use Rattle.exstack.specs.Standing.{IsStack}
 use Rattle.exstack.proofs.Beginning.{exchange_begun}
 use Rattle.rank_node.specs.Runs.{Running, running}
 use Rattle.rank_node.proofs.Polled.{Made, AfterExchange, after_poll, exchanged, exchanging_apart, ready_apart, waits_like}
-use Rattle.rank_node.specs.Cycles.{has_exchanged}
+use Rattle.exstack.specs.State.{has_exchanged}
 use Rattle.rank_node.proofs.Paced.{Exchanges, exchanges_keep}
 use Rattle.rank_node.proofs.Awaited.{exchanges_onward, exchange_awaits, exchanged_stage}
 use Rattle.rank_node.proofs.stacking.exchange.Goals as goal

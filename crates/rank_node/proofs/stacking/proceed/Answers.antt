@@ -5,7 +5,7 @@ use Rattle.exstack.proofs.Beginning.{proceed_begun}
 use Rattle.rank_node.specs.Sending.{to_send}
 use Rattle.rank_node.specs.Runs.{Running, running}
 use Rattle.rank_node.proofs.Polled.{Made, AfterProceed, after_poll, proceeded, same_done, done_keeps, waits_like}
-use Rattle.rank_node.specs.Cycles.{has_proceeded}
+use Rattle.exstack.specs.State.{has_proceeded}
 use Rattle.rank_node.proofs.Paced.{proceeds_of, proceeds_keep}
 use Rattle.rank_node.proofs.Awaited.{proceed_ranks, proceed_rank, proceeds_onward, proceed_awaits, proceeded_stage, filling_open, proceeding_apart}
 use Rattle.rank_node.proofs.stacking.proceed.Goals as goal

@@ -8,7 +8,8 @@ use Rattle.exstack.specs.Agreement.{AgreesIn, rounds_in}
 use Rattle.exstack.specs.Standing.{IsStack}
 use Rattle.port_bank.specs.Machine.{IsOwnStep}
 use Rattle.port_bank.specs.Machine.Step.{Idle}
-use Rattle.exstack.specs.Parts.{stack_part, is_all_done}
+use Rattle.exstack.specs.Parts.{stack_part}
+use Rattle.exstack.specs.State.{is_all_done}
 use Rattle.exstack.proofs.Manners.{Kind, kind_of, and_false}
 use Rattle.exstack.proofs.Polling.{SameLists, Polled, exchange_lists, made_lists, lists_after, idle_poll, exchange_not_all, exchange_stays, exchange_epoch}
 use Rattle.exstack.proofs.Beginning.{Begun, exchange_begun, exchange_agrees}

@@ -6,7 +6,8 @@ use Rattle.exstack.specs.State.{Stack, is_proceeding, is_exchanging, in_proceed,
 use Rattle.exstack.specs.Steps.{AsksOnce}
 use Rattle.exstack.specs.Agreement.{AgreesIn, rounds_in, cycle_after}
 use Rattle.exstack.specs.Standing.{IsStack}
-use Rattle.exstack.specs.Parts.{stack_part, is_all_done, AreOwnSteps, proceed_steps}
+use Rattle.exstack.specs.Parts.{stack_part, AreOwnSteps, proceed_steps}
+use Rattle.exstack.specs.State.{is_all_done}
 use Rattle.exstack.proofs.Manners.{Kind, kind_of, and_true}
 use Rattle.exstack.proofs.Polling.{SameLists, Polled, proceed_lists, made_lists, lists_after, proceed_poll, may_not_all, proceed_epoch}
 use Rattle.exstack.proofs.Beginning.{Begun, proceed_begun, proceed_agrees}

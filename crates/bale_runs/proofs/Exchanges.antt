@@ -1,11 +1,9 @@
 -- The words' numbers are a drive's.
 use Rattle.std.proofs.Common.{ℕ, ◌≡◌, ◌==◌, ◌&&◌, not, Bool, true, false, cond, length, Option, Some, None, refl, sym, arith, eqb-true}
-use Rattle.std.specs.List.{list_any}
 use Rattle.std.proofs.lemmas.Bool.{false≢true}
-use Rattle.std.proofs.lemmas.Bool.Decides.{nat_tests}
 use Rattle.port_bank.specs.Port.{IsSlots}
+use Rattle.port_bank.specs.Slots.{is_slot_count}
 use Rattle.bale_words.specs.declared.command.Command.{Command}
-use Rattle.bale_words.specs.Values.{slot_counts}
 use Rattle.rank_node.specs.declared.via.Via.TheVariants as via
 use Rattle.bale_words.specs.declared.command.Transport.{Transport}
 use Rattle.bale_words.specs.declared.command.Transport.TheVariants.{Convey, Exstack, Biconvey}
@@ -15,9 +13,9 @@ use Rattle.bale_subjects.specs.declared.unfit.Unfit.TheVariants as unfit
 use Rattle.bale_subjects.specs.Fitness.{is_exstack, first_failed, subject_tests, unfitness}
 use Rattle.bale_runs.specs.Jobs.{via_of}
 
-pub is_slots : (n : ℕ) → list_any (λ count. count == n) slot_counts ≡ true → IsSlots n
+pub is_slots : (n : ℕ) → is_slot_count n ≡ true → IsSlots n
 unfolding IsSlots
-is_slots n h = grind (arith, nat_tests)
+is_slots n h = h
 
 -- what is fit fits its application's tests, and an exstack's grid has one number
 fit_parts : (b : Bool) (u : Unfit) (rest : Option Unfit) → cond b (Some u) rest ≡ None → (b ≡ false) × (rest ≡ None)

@@ -19,7 +19,9 @@ use Rattle.bale_words.specs.declared.command.Driving.TheVariants.{Threads}
 use Rattle.bale_words.specs.declared.travel.Travel.{Travel}
 use Rattle.bale_words.specs.Numbers.{number_in, number_of, within}
 use Rattle.bale_words.specs.Options.{Given, given_of, is_among, are_accepted, value_in}
-use Rattle.bale_words.specs.Values.{slot_counts, most_entries, one_of, or_default, if_given, grid_of, slots_of, buffer_of, steady_of, driving_of, transport_of, generated_of, generated_by}
+use Rattle.port_bank.specs.declared.slots.TheConstants.{MOST_SLOTS}
+use Rattle.port_bank.specs.Slots.{slot_counts, is_slot_count}
+use Rattle.bale_words.specs.Values.{most_entries, one_of, or_default, if_given, grid_of, slots_of, buffer_of, steady_of, driving_of, transport_of, generated_of, generated_by}
 use Rattle.bale_words.specs.Words.{application_of, names_of, task_in, travel_in, travel_of, search_of, permutations_of, command_in, command_by, command_with, command_of}
 use Rattle.bale_words.specs.declared.fault.WordsFault.{WordsFault}
 use Rattle.bale_words.specs.Reading.{Reads}
@@ -57,10 +59,10 @@ one_is sizes n m e =
     let t : (list_any (λ size. size == n) sizes ≡ true) × (n ≡ m) = tested (list_any (λ size. size == n) sizes) n m e in
     subst (λ k. list_any (λ size. size == k) sizes ≡ true) t.1 t.0
 
-slots_are : (o : Option (List ℕ)) (m : ℕ) → or_default 2 slots_of o ≡ Some m → list_any (λ count. count == m) slot_counts ≡ true
+slots_are : (o : Option (List ℕ)) (m : ℕ) → or_default 2 slots_of o ≡ Some m → is_slot_count m ≡ true
 unfolding slots_of
-slots_are None m e = subst (λ k. list_any (λ count. count == k) slot_counts ≡ true) (same_Some 2 m e) refl
-slots_are (Some text) m e = option_and_then_some (one_of slot_counts) (number_in 1 8 text) m e (λ n f g. one_is slot_counts n m g)
+slots_are None m e = subst (λ k. is_slot_count k ≡ true) (same_Some 2 m e) refl
+slots_are (Some text) m e = option_and_then_some (one_of slot_counts) (number_in 1 MOST_SLOTS text) m e (λ n f g. one_is slot_counts n m g)
 
 buffer_is : (o : Option (List ℕ)) (m : ℕ) → or_default 64 buffer_of o ≡ Some m → IsCapacity m
 unfolding buffer_of IsCapacity

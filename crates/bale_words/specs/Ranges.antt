@@ -1,13 +1,13 @@
 -- What the numbers of a command may be.
-use Rattle.std.specs.Prelude.{◌≡◌, ◌≤◌, ◌==◌, true, Option, Some, None}
-use Rattle.std.specs.List.{list_any}
+use Rattle.std.specs.Prelude.{◌≡◌, ◌≤◌, true, Option, Some, None}
 use Rattle.item_buffer.specs.Capacity.{IsCapacity}
 use Rattle.bale_words.specs.declared.command.Command.{Command}
 use Rattle.bale_words.specs.declared.command.Generated.{Generated}
 use Rattle.bale_words.specs.declared.task.Task.{Task}
 use Rattle.bale_words.specs.declared.task.Task.TheVariants as task
 use Rattle.bale_words.specs.declared.travel.Travel.{Travel}
-use Rattle.bale_words.specs.Values.{slot_counts, most_entries}
+use Rattle.port_bank.specs.Slots.{is_slot_count}
+use Rattle.bale_words.specs.Values.{most_entries}
 
 -- A matrix that can be generated.
 pub record CanGenerate (g : Generated) : Type 0 where
@@ -23,7 +23,7 @@ MayGenerate (Some g) = CanGenerate g
 
 pub record TravelInRanges (t : Travel) : Type 0 where
   pub buffer : IsCapacity t.buffer
-  pub slots : list_any (λ count. count == t.slots) slot_counts ≡ true
+  pub slots : is_slot_count t.slots ≡ true
   pub generated : MayGenerate t.generated
 
 -- A bucket has a width.

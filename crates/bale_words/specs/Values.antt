@@ -8,6 +8,8 @@ use Rattle.std.specs.Str.{bytes_eq}
 use Rattle.item_buffer.specs.declared.capacity.TheConstants.{MOST_ENTRIES}
 use Rattle.item_buffer.specs.Capacity.{capacities}
 use Rattle.route_tensor.specs.Refusal.{refusal}
+use Rattle.port_bank.specs.declared.slots.TheConstants.{MOST_SLOTS}
+use Rattle.port_bank.specs.Slots.{slot_counts}
 use Rattle.bale_words.specs.declared.task.TaskName.{TaskName}
 use Rattle.bale_words.specs.declared.task.TaskName.TheVariants as application
 use Rattle.bale_words.specs.declared.command.Transport.{Transport}
@@ -49,13 +51,9 @@ as_grid dims = if is_some (refusal dims) then None else Some dims
 unfoldable pub grid_of : List ℕ → Option (List ℕ)
 grid_of text = numbers_in 120 1 64 text >>= as_grid
 
--- How many slots a link may have.
-abbrev pub slot_counts : List ℕ
-slot_counts = 1 ∷ 2 ∷ 4 ∷ 8 ∷ []
-
 -- Slots of a link, and the entries of a parcel.
 unfoldable pub slots_of : List ℕ → Option ℕ
-slots_of text = number_in 1 8 text >>= one_of slot_counts
+slots_of text = number_in 1 MOST_SLOTS text >>= one_of slot_counts
 
 unfoldable pub buffer_of : List ℕ → Option ℕ
 buffer_of text = number_in 1 MOST_ENTRIES text >>= one_of capacities

@@ -12,6 +12,7 @@ use crate::fault::WordsFault;
 use crate::numbers::{first_part, number_between, numbers_between};
 use crate::task::TaskName;
 use item_buffer::{MOST_ENTRIES, is_capacity};
+use port_bank::{MOST_SLOTS, is_slot_count};
 use route_tensor::Grid;
 use std::alloc::Global;
 
@@ -56,8 +57,8 @@ pub(crate) fn read_slots(text: Option<&str>) -> Option<u32>
 fn slots_from(text: &[u8]) -> Option<u32>
     ensures { result ≡ slots_of text.now }
 {
-    let n = number_between(1, 8, text)? as u32;
-    if [1, 2, 4, 8].contains(&n) {
+    let n = number_between(1, MOST_SLOTS as u64, text)? as u32;
+    if is_slot_count(n) {
         Some(n)
     } else {
         None

@@ -12,6 +12,7 @@ use Rattle.route_tensor.specs.Grid.{ranks, IsGrid}
 use Rattle.route_tensor.specs.Link.{links}
 use Rattle.list_laws.proofs.Lists.{all_head, all_tail}
 use Rattle.port_bank.specs.Port.{IsSlots}
+use Rattle.port_bank.specs.Slots.{is_slot_count}
 use Rattle.port_bank.proofs.Closing.{law_nothing}
 use Rattle.link_slots.specs.declared.seat.rank_ends.RankEnds.{RankEnds}
 use Rattle.link_slots.specs.declared.seat.rank_ends.EndedCounts.{EndedCounts}
@@ -28,9 +29,9 @@ use Rattle.link_slots.specs.Gathering.{IsGathering, AreNew, HasNew, is_gone}
 use Rattle.link_slots.proofs.Opening.{opens, no_sent, no_got, same_some, some_there}
 use Rattle.link_slots.proofs.Wires.{wired}
 
-not_slots : (n : ℕ) → 8 < n → ((eqb n 1) || (eqb n 2) || (eqb n 4) || (eqb n 8)) ≡ false
-not_slots n h = let a = ne_eqb n 1 (λ e. omega arith) in let b = ne_eqb n 2 (λ e. omega arith) in let c = ne_eqb n 4 (λ e. omega arith) in let d = ne_eqb n 8 (λ e. omega arith) in
-    λ k. ((a k) || (b k) || (c k) || (d k))
+not_slots : (n : ℕ) → 8 < n → is_slot_count n ≡ false
+not_slots n h = let a = ne_eqb 1 n (λ e. omega arith) in let b = ne_eqb 2 n (λ e. omega arith) in let c = ne_eqb 4 n (λ e. omega arith) in let d = ne_eqb 8 n (λ e. omega arith) in
+    λ k. ((a k) || (b k) || (c k) || (d k) || false)
 
 pub slots_range : (n : ℕ) → IsSlots n → (0 < n) × (n ≤ 8)
 unfolding IsSlots

@@ -5,6 +5,7 @@ pub mod Relay
 pub mod Link
 pub mod Shapes
 pub mod Round
+pub mod Slots
 pub mod Port
 pub mod Frames
 pub mod PassedParcels

@@ -1,11 +1,12 @@
 -- What a call on a port leaves as it was.
-use Rattle.std.specs.Prelude.{◌≡◌, ℕ, List, ◌==◌, ◌||◌, IsTrue, Result}
+use Rattle.std.specs.Prelude.{◌≡◌, ℕ, List, IsTrue, Result}
 pub use Rattle.list_laws.specs.Lists.{changed}
 use Rattle.bale_items.specs.declared.fault.NoMemory.{NoMemory}
 use Rattle.item_buffer.specs.Contents.{Contents}
 use Rattle.port_bank.specs.declared.port.Posted.{Posted}
 use Rattle.port_bank.specs.declared.port.Collected.{Collected}
 use Rattle.port_bank.specs.Logs.{Logs}
+use Rattle.port_bank.specs.Slots.{is_slot_count}
 
 -- What a call on a port did, by the port before, the link, the parcel at hand, the answer and the
 -- port after.
@@ -45,6 +46,6 @@ pub record InsStay {P : Type 0} (got_of : P → Logs) (looks_of listens_of noted
   pub listens : listens_of new ≡ listens_of old
   pub noted : noted_of new ≡ noted_of old
 
--- The numbers of slots that a link can have.
+-- A link may have so many slots.
 unfoldable pub IsSlots : ℕ → Type 0
-IsSlots n = IsTrue ((n == 1) || (n == 2) || (n == 4) || (n == 8))
+IsSlots n = IsTrue (is_slot_count n)

@@ -18,6 +18,7 @@
 //! | `PlainBank::live_law`, `PlainPort::live_law` | the laws of a closed round hold of a bank's lists at every moment |
 //! | `PlainBank::close` | a closed round, on which what each rank pulled is what the others pushed |
 //! | `PlainRound::ranks`, `PlainRound::epochs` | the number of ranks; how many epochs every link has ended |
+//! | `is_slot_count` | whether a link may have so many slots |
 //! | `few_parcels_law` | where only its last parcel may be less than full, an epoch has few parcels |
 #![tactic(auto)]
 
@@ -31,6 +32,7 @@ mod plain_port;
 mod plain_round;
 mod port;
 mod ring;
+mod slots;
 
 pub use calls::Calls;
 pub use few_parcels::few_parcels_law;
@@ -39,3 +41,4 @@ pub use plain_bank::PlainBank;
 pub use plain_port::PlainPort;
 pub use plain_round::PlainRound;
 pub use port::{Collected, Port, Posted};
+pub use slots::{MOST_SLOTS, is_slot_count};

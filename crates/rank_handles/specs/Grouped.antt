@@ -1,10 +1,11 @@
 -- What contracts see of a group, and of a rank that was just made.
-use Rattle.std.specs.Prelude.{◌≡◌, ℕ, ◌==◌, ◌||◌, not, is_some, Bool, true, false, List, [], sum, replicate}
+use Rattle.std.specs.Prelude.{◌≡◌, ℕ, not, is_some, Bool, true, false, List, [], sum, replicate}
 use Rattle.std.specs.Prelude.{if◌then◌else◌}
 use Rattle.std.specs.Prelude.{slice_set, None, nat_lt, slice_index_or, Result, Ok, Err}
 use Rattle.item_buffer.specs.Capacity.{is_capacity}
 use Rattle.route_tensor.specs.Grid.{ranks}
 use Rattle.route_tensor.specs.Refusal.{refusal}
+use Rattle.port_bank.specs.Slots.{is_slot_count}
 use Rattle.link_slots.specs.SeatView.{Identity, posted_on, collected_from}
 use Rattle.hop_core.specs.Lent.Lent.{Given}
 use Rattle.hop_core.specs.declared.phase.Phase.TheVariants.{Dormant}
@@ -22,17 +23,13 @@ pub record Grouped : Type 0 where
   pub steady : Bool
   pub given : List Bool
 
--- The numbers of slots that there are.
-abbrev pub is_slots : ℕ → Bool
-is_slots n = (n == 1) || (n == 2) || (n == 4) || (n == 8)
-
 -- What becomes of the wish to make a group, where there is memory.
 -- 2x2 with buffers of 64 and 2 slots is Good; 9x8 has too many ranks, 3 is no capacity, and 3 no
 -- number of slots.
 abbrev pub group_answer : List ℕ → ℕ → ℕ → Answer
 group_answer dims cap slots =
     if is_some (refusal dims) then BadNumbers
-    else if not (is_slots slots) then BadNumbers
+    else if not (is_slot_count slots) then BadNumbers
     else if not (is_capacity cap) then BadNumbers
     else Good
 

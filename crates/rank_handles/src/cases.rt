@@ -4,7 +4,7 @@ ghost use Rattle.std.specs.Prelude.{◌≡◌, ◌≢◌, Some, Ok, Err, IfOk, I
 ghost use Rattle.item_buffer.specs.Capacity.{is_capacity};
 ghost use Rattle.route_tensor.specs.Grid.{ranks};
 ghost use Rattle.port_bank.specs.Port.{IsSlots};
-ghost use Rattle.rank_handles.specs.Grouped.{IsNewGroup, IsNewRank, with_given, rank_answer, answer_with, is_slots, group_answer};
+ghost use Rattle.rank_handles.specs.Grouped.{IsNewGroup, IsNewRank, with_given, rank_answer, answer_with, group_answer};
 ghost use Rattle.rank_handles.specs.Cases.{seen_by_hops, seen_group};
 
 use crate::answer::Answer;
@@ -17,6 +17,7 @@ use crate::view::BaleView;
 use bale_items::{Item, NoMemory};
 use hop_core::Phase;
 use item_buffer::is_capacity;
+use port_bank::is_slot_count;
 use route_tensor::Grid;
 use std::alloc::Global;
 use std::marker::Model;
@@ -264,7 +265,7 @@ impl AnyGroup {
         let Ok(grid) = Grid::new(dims) else {
             return Err(Answer::BadNumbers);
         };
-        if !has_slots(slots) {
+        if !is_slot_count(slots) {
             return Err(Answer::BadNumbers);
         }
         if !is_capacity(buffer) {
@@ -312,15 +313,6 @@ impl AnyGroup {
         };
         Ok(AnyRank { case })
     }
-}
-
-/// Whether a link may have so many slots.
-#[tactic(auto, unfolding(port_bank::specs::Port::IsSlots))]
-fn has_slots(slots: u32) -> bool
-    ensures value { result ≡ is_slots slots }
-    ensures slots { result ≡ true → IsSlots slots }
-{
-    slots == 1 || slots == 2 || slots == 4 || slots == 8
 }
 
 /// The group of a capacity.

@@ -15,7 +15,7 @@ use bale_items::{NoMemory, Steps};
 use item_buffer::by_capacity;
 use rank_group::Finished;
 use round_program::{Asker, Progs};
-use route_tensor::Grid;
+use route_tensor::{Grid, by_hops};
 use std::alloc::Global;
 use std::sync::ledger::Ledger;
 
@@ -47,11 +47,11 @@ pub fn bi_serial<A: Asker, L: Ledger>(
     // The turns are bounded before the exchange, also where it ends in `NoMemory`.
     ensures steps { steps.new ≤ steps.old + bi_turns_of grid.now (sum_by (λ s. length (A.talk.queries s)) askers) }
 {
-    match grid.hops() {
-        1 => over_hops::<1, A, L>(alloc, grid, cap, slots, steady, order, askers, steps),
-        2 => over_hops::<2, A, L>(alloc, grid, cap, slots, steady, order, askers, steps),
-        _ => over_hops::<3, A, L>(alloc, grid, cap, slots, steady, order, askers, steps),
-    }
+    by_hops!(
+        grid.hops(),
+        over_hops::<A, L>,
+        (alloc, grid, cap, slots, steady, order, askers, steps)
+    )
 }
 
 /// Chooses among the eleven cases of `HOPS` hops by the capacity.

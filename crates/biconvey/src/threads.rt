@@ -12,7 +12,7 @@ use bale_items::NoMemory;
 use item_buffer::by_capacity;
 use rank_group::{Finished, Gate};
 use round_program::{Asker, Progs};
-use route_tensor::Grid;
+use route_tensor::{Grid, by_hops};
 use std::alloc::Global;
 use std::sync::Wait;
 use std::thread::Threads;
@@ -42,11 +42,11 @@ pub fn bi_threads<R: Threads + Wait + Sync, A: Asker + Send, G: Gate + Sync>(
     // This gate was notified of the turns of each rank, which made one at least.
     ensures notified { OnOk result ((r : ℕ) → r < ranks grid.now → G.notified gate.now r 0 ≡ true) }
 {
-    match grid.hops() {
-        1 => over_hops::<1, R, A, G>(rt, alloc, grid, cap, slots, steady, askers, gate),
-        2 => over_hops::<2, R, A, G>(rt, alloc, grid, cap, slots, steady, askers, gate),
-        _ => over_hops::<3, R, A, G>(rt, alloc, grid, cap, slots, steady, askers, gate),
-    }
+    by_hops!(
+        grid.hops(),
+        over_hops::<R, A, G>,
+        (rt, alloc, grid, cap, slots, steady, askers, gate)
+    )
 }
 
 /// Chooses among the eleven cases of `HOPS` hops by the capacity.

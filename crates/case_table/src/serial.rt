@@ -11,7 +11,7 @@ use bale_items::NoMemory;
 use item_buffer::by_capacity;
 use rank_group::{Finished, Steps, Via, drive_serial};
 use round_program::{Program, Progs};
-use route_tensor::Grid;
+use route_tensor::{Grid, by_hops};
 use std::alloc::Global;
 use std::sync::ledger::Ledger;
 
@@ -44,11 +44,11 @@ pub fn case_serial<Q: Program, L: Ledger>(
     // The turns are bounded before the run, also where it ends in `NoMemory`.
     ensures steps { WithinTurns Q.rules progs (manner_of via steady) grid.now steps.old steps.new }
 {
-    match grid.hops() {
-        1 => over_hops::<1, Q, L>(alloc, grid, cap, via, slots, steady, order, progs, steps),
-        2 => over_hops::<2, Q, L>(alloc, grid, cap, via, slots, steady, order, progs, steps),
-        _ => over_hops::<3, Q, L>(alloc, grid, cap, via, slots, steady, order, progs, steps),
-    }
+    by_hops!(
+        grid.hops(),
+        over_hops::<Q, L>,
+        (alloc, grid, cap, via, slots, steady, order, progs, steps)
+    )
 }
 
 /// Chooses among the eleven cases of `HOPS` hops by the capacity.

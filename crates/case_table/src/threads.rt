@@ -9,7 +9,7 @@ use bale_items::NoMemory;
 use item_buffer::by_capacity;
 use rank_group::{Finished, Gate, Via, drive_threads};
 use round_program::{Program, Progs};
-use route_tensor::Grid;
+use route_tensor::{Grid, by_hops};
 use std::alloc::Global;
 use std::sync::Wait;
 use std::thread::Threads;
@@ -39,11 +39,11 @@ pub fn case_threads<R: Threads + Wait + Sync, Q: Program + Send, G: Gate + Sync>
     // This gate was notified of the turns of each rank.
     ensures notified { OnOk result (NotifiedOfTurns Q.rules progs grid.now (G.notified gate.now)) }
 {
-    match grid.hops() {
-        1 => over_hops::<1, R, Q, G>(rt, alloc, grid, cap, via, slots, steady, progs, gate),
-        2 => over_hops::<2, R, Q, G>(rt, alloc, grid, cap, via, slots, steady, progs, gate),
-        _ => over_hops::<3, R, Q, G>(rt, alloc, grid, cap, via, slots, steady, progs, gate),
-    }
+    by_hops!(
+        grid.hops(),
+        over_hops::<R, Q, G>,
+        (rt, alloc, grid, cap, via, slots, steady, progs, gate)
+    )
 }
 
 /// Chooses among the eleven cases of `HOPS` hops by the capacity.

@@ -7,6 +7,7 @@ use crate::in_links::{hop_finished, resume_all};
 use crate::out_links::reopen_all;
 use crate::phase::Phase;
 use crate::state::RankState;
+use route_tensor::MOST_HOPS;
 
 impl<const CAP: usize, const HOPS: usize> RankState<CAP, HOPS> {
     ghost use Rattle.hop_core.specs.Standing.{IsState};
@@ -90,7 +91,7 @@ impl<const CAP: usize, const HOPS: usize> RankState<CAP, HOPS> {
         reopen_all(&mut self.outs);
         resume_all(&mut self.ins);
         self.done = false;
-        let ends = [false; 3];
+        let ends = [false; MOST_HOPS];
         self.ends = ends;
         self.still_open = self.routes.neighbours();
         self.still_coming = self.routes.neighbours() - self.routes.first_of(HOPS as u32);

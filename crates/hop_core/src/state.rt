@@ -16,7 +16,7 @@ use crate::out_links::{OutLink, links_out};
 use crate::phase::{Phase, Pushed};
 use bale_items::{Entry, Item, NoMemory, Tag};
 use item_buffer::Parcel;
-use route_tensor::{Grid, Onward, Routes};
+use route_tensor::{Grid, MOST_HOPS, Onward, Routes};
 use std::alloc::Global;
 use std::marker::Model;
 
@@ -31,7 +31,7 @@ pub struct RankState<const CAP: usize, const HOPS: usize> {
     pub(crate) ins: Vec<InLink<CAP>>,
     pub(crate) done: bool,
     /// For each hop but the first, whether it has reached its end.
-    pub(crate) ends: [bool; 3],
+    pub(crate) ends: [bool; MOST_HOPS],
     pub(crate) phase: Phase,
     pub(crate) epoch: u64,
     pub(crate) loan: Loan<CAP>,
@@ -108,7 +108,7 @@ impl<const CAP: usize, const HOPS: usize> RankState<CAP, HOPS> {
         let routes = Routes::new(alloc, grid, rank)?;
         let neighbours = routes.neighbours();
         let from = routes.first_of(HOPS as u32);
-        let ends = [false; 3];
+        let ends = [false; MOST_HOPS];
         Ok(RankState {
             routes,
             steady,

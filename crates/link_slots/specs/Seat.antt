@@ -2,6 +2,7 @@
 use Rattle.std.specs.Prelude.{◌≡◌, ℕ, ◌+◌, ◌<◌, List, length, map, slice_index_or}
 use Rattle.item_buffer.specs.Capacity.{IsCap}
 use Rattle.item_buffer.specs.Contents.{Contents, as_shipped}
+use Rattle.route_tensor.specs.declared.by_hops.TheConstants.{MOST_HOPS}
 use Rattle.route_tensor.specs.Grid.{ranks}
 use Rattle.route_tensor.specs.Link.{links}
 use Rattle.route_tensor.specs.Ends.{sender_at, reader_at}
@@ -31,7 +32,7 @@ pub record IsSeat (cap : ℕ) (shape : Shape) (m : Me Contents Knowing) (rank : 
   pub rank_small : rank < ranks shape.dims
   pub outs_many : length outs ≡ links shape.dims
   pub ins_many : length ins ≡ links shape.dims
-  pub ears_many : length ears ≡ 3
+  pub ears_many : length ears ≡ MOST_HOPS
   pub ended_many : length ended ≡ links shape.dims
   pub lists_out : length (own_logs m.0).outs ≡ links shape.dims
   pub lists_in : length (own_logs m.0).ins ≡ links shape.dims
@@ -40,7 +41,7 @@ pub record IsSeat (cap : ℕ) (shape : Shape) (m : Me Contents Knowing) (rank : 
   pub each_in : (l : ℕ) (d : InEnd) → l < links shape.dims → reader_at shape.dims l ≡ rank
       → let e = slice_index_or ins l d in IsInEnd shape.slots
       (in_of (own_logs m.0) l) e.taken e.waiting e.noted
-  pub each_ear : (h : ℕ) (d : Ear) → h < 3
+  pub each_ear : (h : ℕ) (d : Ear) → h < MOST_HOPS
       → let e = slice_index_or ears h d in IsHeard shape rank (h + 1) (own_logs m.0) e.marks e.hears
   pub each_good : (l : ℕ) → l < links shape.dims → reader_at shape.dims l ≡ rank
       → AreGood cap shape l (in_of (own_logs m.0) l)

@@ -29,6 +29,7 @@ use crate::slot_bank::SlotBank;
 use crate::table::rule::Place;
 use item_buffer::Parcel;
 use port_bank::{Collected, Posted};
+use route_tensor::MOST_HOPS;
 use std::marker::Model;
 
 /// One rank's seat at a bank. It may go to another thread; a port is made of it where the rank's
@@ -41,7 +42,7 @@ pub struct SlotSeat<const CAP: usize> {
     pub(crate) outs: Vec<OutEnd>,
     pub(crate) ins: Vec<InEnd>,
     /// By the hop, from 0.
-    pub(crate) ears: [Ear; 3],
+    pub(crate) ears: [Ear; MOST_HOPS],
     /// How many parcels marked last were collected of each link in; it stands still at the last
     /// number.
     pub(crate) ended: Vec<u64>,

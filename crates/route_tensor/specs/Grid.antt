@@ -1,5 +1,6 @@
 -- Grids, ranks and coordinates.
 use Rattle.std.specs.Prelude.{ℕ, zero, suc, ◌+◌, ◌-◌, ◌*◌, ◌/◌, ◌%◌, ◌<◌, ◌≤◌, List, [], ◌∷◌, length, slice_index, All}
+use Rattle.route_tensor.specs.declared.by_hops.TheConstants.{MOST_HOPS}
 
 -- The number of ranks of a grid: the product of its dimensions.
 -- ranks (n1 .. nk) = n1 * .. * nk
@@ -8,11 +9,11 @@ unfoldable pub ranks : List ℕ → ℕ
 ranks [] = 1
 ranks (n ∷ ns) = n * ranks ns
 
--- A grid: one to three positive numbers with a product of at most 64.
+-- A grid: one to MOST_HOPS positive numbers with a product of at most 64.
 -- 2x2x2 and 64 are grids; 9x8 isn't.
 pub record IsGrid (dims : List ℕ) : Type 0 where
   pub some : 1 ≤ length dims
-  pub few : length dims ≤ 3
+  pub few : length dims ≤ MOST_HOPS
   pub positive : All (λ n. 0 < n) dims
   pub small : ranks dims ≤ 64
 

@@ -11,6 +11,7 @@ ghost use Rattle.route_tensor.specs.GridNumbers.{dims_kept};
 ghost use Rattle.route_tensor.specs.Refusal.{refusal};
 ghost use Rattle.route_tensor.specs.Link.{links, IsLink};
 
+use crate::by_hops::MOST_HOPS;
 use std::marker::Model;
 
 /// Why numbers are no grid.
@@ -68,7 +69,7 @@ impl Grid {
         ensures made { IfOk result (λ g. g ≡ dims.now) }
         ensures grid { IfOk result (λ g. IsGrid g) }
     {
-        if dims.is_empty() || dims.len() > 3 {
+        if dims.is_empty() || dims.len() > MOST_HOPS {
             return Err(GridError::Order);
         }
         Grid::of_three(

@@ -14,6 +14,7 @@
 //! | `tag_first`, `tag_next` | the tag of an entry on its first and on its next link |
 //! | `pair_of` | the sender and the destination of an entry, by its tag and link |
 //! | `tags_law` | nothing: it tells that a pair's tag is fair and names the pair on each link of its route |
+//! | `by_hops!` | a function compiled for each number of hops, called for one of them |
 //! | `Routes` | what one rank looks up for each entry: its neighbours, first steps, next steps, senders |
 //!
 //! The definitions, in the order in which to read them: `Grid` (ranks and coordinates), `Link` and
@@ -21,12 +22,14 @@
 //! `Routes`, `Refusal`. `GridNumbers` is a grid as the code keeps it.
 #![tactic(auto)]
 
+mod by_hops;
 mod grid;
 mod law;
 mod link;
 mod routes;
 mod tag;
 
+pub use by_hops::MOST_HOPS;
 pub use grid::{Grid, GridError};
 pub use law::tags_law;
 pub use routes::{Neighbour, Onward, Routes};

@@ -6,6 +6,7 @@ ghost use Rattle.link_slots.specs.Gathering.{AreNew, HasNew};
 use crate::seat::ear::Ear;
 use crate::seat::ends::{InEnd, OutEnd};
 use bale_items::NoMemory;
+use route_tensor::MOST_HOPS;
 use std::alloc::Global;
 
 /// The counts of a rank, by the number of the link, and of its doorbells.
@@ -13,7 +14,7 @@ use std::alloc::Global;
 pub(crate) struct RankEnds {
     pub(crate) outs: Vec<OutEnd>,
     pub(crate) ins: Vec<InEnd>,
-    pub(crate) ears: [Ear; 3],
+    pub(crate) ears: [Ear; MOST_HOPS],
     pub(crate) ended: Vec<u64>,
 }
 
@@ -51,7 +52,7 @@ pub(crate) fn new_ends(alloc: Global, links: usize) -> Result<RankEnds, NoMemory
     Ok(RankEnds {
         outs: list_apart(alloc, out_end, links, 8)?,
         ins: list_apart(alloc, in_end, links, 4)?,
-        ears: [ear; 3],
+        ears: [ear; MOST_HOPS],
         ended: list_apart(alloc, 0, links, 16)?,
     })
 }

@@ -16,7 +16,7 @@ returns-then-is_empty-clause-refused c =
     ]))
 
 pub returns-clause-refused : goal.returns-clause-refused
-returns-clause-refused c = c.of_three.ensures.refused ∙ ap refusal (rw (c.dim_or_one.ensures, c.dim_or_one-2.ensures, c.dim_or_one-3.ensures) (dims_kept-all _ (some c.args.dims.now (sym c.is_empty.ensures ∙ c.if-is_empty.false)) c.if-dims-gt3.false))
+returns-clause-refused c = c.of_three.ensures.refused ∙ ap refusal (rw (c.dim_or_one.ensures, c.dim_or_one-2.ensures, c.dim_or_one-3.ensures) (dims_kept-all _ (some c.args.dims.now (sym c.is_empty.ensures ∙ c.if-is_empty.false)) c.if-dims-gt-MOST_HOPS.false))
 
 pub returns-clause-made : goal.returns-clause-made
-returns-clause-made c = subst (λ dims. IfOk c.of_three.result (λ g. g ≡ dims)) (rw (c.dim_or_one.ensures, c.dim_or_one-2.ensures, c.dim_or_one-3.ensures) (dims_kept-all _ (some c.args.dims.now (sym c.is_empty.ensures ∙ c.if-is_empty.false)) c.if-dims-gt3.false)) c.of_three.ensures.made
+returns-clause-made c = subst (λ dims. IfOk c.of_three.result (λ g. g ≡ dims)) (rw (c.dim_or_one.ensures, c.dim_or_one-2.ensures, c.dim_or_one-3.ensures) (dims_kept-all _ (some c.args.dims.now (sym c.is_empty.ensures ∙ c.if-is_empty.false)) c.if-dims-gt-MOST_HOPS.false)) c.of_three.ensures.made

@@ -18,7 +18,7 @@ use Rattle.elastic.specs.Mails.{MailState, mail_rules}
 use Rattle.app_tally.specs.Tallies.{TallyState, tally_rules}
 
 -- A rank of one of the applications. ig is there twice: whole, and its sums alone, as it begins
--- where ranks then ask each other.
+-- if ranks then ask each other.
 -- topo and tally, in its mailer, are those that put things in order.
 abbrev pub GatherState : Type 0
 GatherState = Either IgState SumsState

@@ -25,7 +25,7 @@ pub trait Case: Program {
     fn put(self) -> AnyProgram
         ensures { result ≡ case_of self };
 
-    /// The program out of any of them, where it is this one.
+    /// The program out of any of them, if it is this one.
     fn taken(any: AnyProgram) -> Self
         requires { (s : Self) × (any ≡ case_of s) }
         ensures { any ≡ case_of result };

@@ -13,7 +13,7 @@ use std::alloc::Global;
 /// The programs as any of the applications: a run of them is the application's own run.
 ///
 /// # Errors
-/// `NoMemory` where the list found none. The programs are dropped.
+/// `NoMemory` if the list found none. The programs are dropped.
 pub fn put_all<A: Case>(alloc: Global, mut progs: Progs<A>) -> Result<Progs<AnyProgram>, NoMemory>
     ensures any { IfOk result (λ any. any ≡ map A.case_of progs) }
     ensures begins { (ranks : ℕ) → 0 < length progs
@@ -31,7 +31,7 @@ pub fn put_all<A: Case>(alloc: Global, mut progs: Progs<A>) -> Result<Progs<AnyP
 /// The programs of an application after their last round, out of what its programs were put as.
 ///
 /// # Errors
-/// `NoMemory` where the list found none. The programs are dropped.
+/// `NoMemory` if the list found none. The programs are dropped.
 pub fn take_all<A: Case>(alloc: Global, mut any: Progs<AnyProgram>) -> Result<Progs<A>, NoMemory>
     requires ended { (starts : List A) × (0 < length starts) × HaveEnded any_rules (map A.case_of starts) any }
     ensures ended { (starts : List A) → 0 < length starts → HaveEnded any_rules (map A.case_of starts) any

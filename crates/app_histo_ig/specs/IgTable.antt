@@ -48,7 +48,7 @@ pub record HasIgRounds (ranks : ℕ) (m : Sparse) : Type 0 where
 abbrev pub IgRounds : Type 0
 IgRounds = (ranks : ℕ) (m : Sparse) → 1 ≤ ranks → IsSparse m → HasIgRounds ranks m
 
--- Where ranks ask one another at once, the round of sums comes before: it is the first of the three
+-- If ranks ask one another at once, the round of sums comes before: it is the first of the three
 -- alone.
 pub record HasIgSumsRounds (ranks : ℕ) (m : Sparse) : Type 0 where
   pub rounds : HasRounds sums_rules (sums_starts ranks m) 1

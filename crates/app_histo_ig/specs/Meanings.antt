@@ -13,7 +13,7 @@ use Rattle.app_histo_ig.specs.IgLines.{ig_line}
 abbrev pub entries_in_column : Sparse → ℕ → ℕ
 entries_in_column m j = total m.rows (λ i. if is_some (at m i j) then 1 else 0)
 
--- A value, and 0 where there is none.
+-- A value, and 0 if there is none.
 abbrev pub or_zero : Option ℤ → ℤ
 or_zero None = pos 0
 or_zero (Some v) = v

@@ -43,14 +43,14 @@ pub(crate) fn write_sums<Q: Answered, K: Sink>(
     Ok(())
 }
 
-/// Where the word of an entry stands, the entries being dealt out in turn.
+/// The place of an entry's word, the entries being dealt out in turn.
 #[derive(Clone, Copy)]
 struct Dealt {
     rank: usize,
     turn: usize,
 }
 
-/// Where that of the next entry stands.
+/// The place of the next entry's word.
 fn next(at: Dealt, ranks: usize) -> Dealt
     requires rank { at.rank < ranks }
     requires turn { at.turn + 1 < 2 ^ 64 }

@@ -22,7 +22,7 @@ use std::alloc::Global;
 ///
 /// # Errors
 ///
-/// `NoMemory` where there was none for the programs.
+/// `NoMemory` if there was none for the programs.
 pub fn histo_start(alloc: Global, m: &Matrix, ranks: u32) -> Result<Progs<Histo>, NoMemory>
     requires { AreRanks ranks }
     ensures starts { IfOk result (λ ps. ps ≡ histo_starts ranks m.now) }
@@ -81,7 +81,7 @@ fn columns_of(alloc: Global, parts: &Parts, rank: u32) -> Result<Vec<u32>, NoMem
 ///
 /// # Errors
 ///
-/// `Failed` where the sink's faults rose in this call.
+/// `Failed` if the sink's faults rose in this call.
 pub fn histo_write<K: Sink>(p: &Progs<Histo>, out: &mut Out<'_, K>) -> Result<(), Failed>
     requires ended { (m : Sparse) × HistoEnded m p.now }
     ensures written { (m : Sparse) → HistoEnded m p.now
@@ -124,7 +124,7 @@ fn count_of(p: &Progs<Histo>, j: u32) -> u64
 ///
 /// # Errors
 ///
-/// `Failed` where the sink's faults rose in this call.
+/// `Failed` if the sink's faults rose in this call.
 pub fn write_count<K: Sink>(out: &mut Out<'_, K>, j: u32, count: u64) -> Result<(), Failed>
     requires { j + 1 < 2 ^ 32 }
     ensures { Writes K.taken K.faults (histo_line j count) out.old out.new result }

@@ -49,7 +49,7 @@ impl Model for Ig {
     ghost invariant = { λ s. IsIgInside s };
 }
 
-/// What a rank of ig begins with, beside its numbers.
+/// What a rank of ig begins with, besides its numbers.
 #[derive(Drop)]
 pub(crate) struct Begins {
     pub(crate) own: Vec<Own>,

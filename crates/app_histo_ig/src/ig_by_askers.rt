@@ -28,7 +28,7 @@ use std::alloc::Global;
 ///
 /// # Errors
 ///
-/// `NoMemory` where there was none for the programs.
+/// `NoMemory` if there was none for the programs.
 pub fn ig_sums_start(alloc: Global, m: &Matrix, ranks: u32) -> Result<Progs<IgSums>, NoMemory>
     requires { AreRanks ranks }
     ensures starts { IfOk result (λ ps. ps ≡ sums_starts ranks m.now) }
@@ -65,7 +65,7 @@ fn summing(
 ///
 /// # Errors
 ///
-/// `NoMemory` where there was none for the askers.
+/// `NoMemory` if there was none for the askers.
 pub fn ig_askers(alloc: Global, m: &Matrix, p: Progs<IgSums>) -> Result<Progs<IgAsker>, NoMemory>
     requires ended { SumsEnded m.now p }
     ensures { IfOk result (λ qs. AreAskersOf m.now (length p) qs) }
@@ -80,7 +80,7 @@ pub fn ig_askers(alloc: Global, m: &Matrix, p: Progs<IgSums>) -> Result<Progs<Ig
 ///
 /// # Errors
 ///
-/// `Failed` where the sink's faults rose in this call.
+/// `Failed` if the sink's faults rose in this call.
 pub fn ig_heard_write<K: Sink>(
     p: &Progs<IgAsker>,
     m: &Matrix,
@@ -92,12 +92,12 @@ pub fn ig_heard_write<K: Sink>(
     write_sums(p, m, out)
 }
 
-/// The asker of each rank, whatever the programs have absorbed. `ig_askers` says what it has where
+/// The asker of each rank, whatever the programs have absorbed. `ig_askers` says what it has if
 /// they ended.
 ///
 /// # Errors
 ///
-/// `NoMemory` where there was none for the askers.
+/// `NoMemory` if there was none for the askers.
 pub fn all_askers(alloc: Global, p: Progs<IgSums>) -> Result<Progs<IgAsker>, NoMemory>
     ensures { IfOk result (λ qs. qs ≡ map asker_from p) }
 {

@@ -29,7 +29,7 @@ pub(crate) fn note(queries: &mut Vec<Vec<Item>>, from: usize, item: Item) -> Res
     queries[from].push(item).map_err(|_| NoMemory)
 }
 
-/// Takes the answer `b` of entry number `a` in, where there is a place for it and no greater one
+/// Takes the answer `b` of entry number `a` in, if there is a place for it and no greater one
 /// stands there.
 #[inline(always)]
 pub(crate) fn raise(answers: &mut [u64], ranks: u32, item: Item)
@@ -43,7 +43,7 @@ pub(crate) fn raise(answers: &mut [u64], ranks: u32, item: Item)
     }
 }
 
-/// Where the answer of an entry stands. The short division is the cheaper one.
+/// The place of an entry's answer. The short division is the cheaper one.
 #[inline(always)]
 fn place_of(number: u64, ranks: u32) -> u64
     requires { 0 < ranks }

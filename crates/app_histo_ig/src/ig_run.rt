@@ -24,7 +24,7 @@ use std::alloc::Global;
 ///
 /// # Errors
 ///
-/// `NoMemory` where there was none for the programs.
+/// `NoMemory` if there was none for the programs.
 pub fn ig_start(alloc: Global, m: &Matrix, ranks: u32) -> Result<Progs<Ig>, NoMemory>
     requires { AreRanks ranks }
     ensures starts { IfOk result (λ ps. ps ≡ ig_starts ranks m.now) }
@@ -110,7 +110,7 @@ fn no_queries(alloc: Global, ranks: u32, queries: usize) -> Result<Vec<Vec<Item>
 ///
 /// # Errors
 ///
-/// `Failed` where the sink's faults rose in this call.
+/// `Failed` if the sink's faults rose in this call.
 pub fn ig_write<K: Sink>(p: &Progs<Ig>, m: &Matrix, out: &mut Out<'_, K>) -> Result<(), Failed>
     requires ended { IgEnded m.now p.now }
     ensures { Writes K.taken K.faults (ig_lines m.now.entries) out.old out.new result }

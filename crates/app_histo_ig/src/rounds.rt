@@ -13,7 +13,7 @@ pub fn ig_rounds()
     ensures { IgRounds }
 {}
 
-/// Where ranks ask one another at once (`ig --via biconvey`), the values are sent in a round of
+/// If ranks ask one another at once (`ig --via biconvey`), the values are sent in a round of
 /// their own.
 pub fn ig_sums_rounds()
     ensures { IgSumsRounds }

@@ -5,7 +5,7 @@ use Rattle.mtx_text.specs.Permutations.{Permutes}
 use Rattle.mtx_text.specs.Written.{text_of}
 use Rattle.app_permute.specs.Reorderings.{IsPermuted, IsTransposed}
 
--- The bytes are the text of a matrix B with B(p(i), q(j)) = A(i,j) and nothing else, where p and q
+-- The bytes are the text of a matrix B with B(p(i), q(j)) = A(i,j) and nothing else, if p and q
 -- are permutations of the rows and the columns. Its entries, by row and then column, are a finite
 -- map: each place comes once (proofs/Meanings has both: nothing_else, permute_agrees).
 -- of 3 rows and columns with (0,1,9), p = 1, 2, 0 and q = 2, 0, 1: the text of the matrix with

@@ -17,7 +17,7 @@ over_diagonal t = record { i = t.j; j = t.i; v = t.v }
 abbrev pub transpose_of : Sparse → Sparse
 transpose_of m = sparse m.cols m.rows m.kind (gathered_cells (map over_diagonal m.entries))
 
--- What a transposed matrix is, place by place: it has A's value at (i,j) at (j,i), and where A has
+-- What a transposed matrix is, place by place: it has A's value at (i,j) at (j,i), and if A has
 -- none, none.
 pub record IsTransposed (m b : Sparse) : Type 0 where
   pub rows : b.rows ≡ m.cols

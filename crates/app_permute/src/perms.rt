@@ -28,7 +28,7 @@ impl Model for Perms {
 ///
 /// # Errors
 ///
-/// `NoMemory` where there was none.
+/// `NoMemory` if there was none.
 pub fn seed_perms(alloc: Global, rows: u32, cols: u32, seed: u64) -> Result<Perms, NoMemory>
     requires tall { rows ≤ 16_384 }
     requires wide { cols ≤ 16_384 }

@@ -49,7 +49,7 @@ impl Model for Permute {
     ghost invariant = { λ s. IsPermuting (permute_state s) };
 }
 
-/// What a rank of permute begins with, beside its numbers.
+/// What a rank of permute begins with, besides its numbers.
 #[derive(Drop)]
 pub(crate) struct Begins {
     pub(crate) new_rows: Vec<u32>,

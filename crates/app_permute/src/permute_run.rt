@@ -23,7 +23,7 @@ use std::alloc::Global;
 ///
 /// # Errors
 ///
-/// `NoMemory` where there was none for the programs.
+/// `NoMemory` if there was none for the programs.
 pub fn permute_start(
     alloc: Global,
     m: &Matrix,
@@ -89,7 +89,7 @@ fn cells_of(alloc: Global, parts: &Parts, rank: u32) -> Result<Vec<Triple>, NoMe
 ///
 /// # Errors
 ///
-/// `NoMemory` where there was none for the matrix.
+/// `NoMemory` if there was none for the matrix.
 pub fn permute_end(alloc: Global, m: &Matrix, p: &Progs<Permute>) -> Result<Matrix, NoMemory>
     requires ended { (rp : List ℕ) × (cp : List ℕ) × PermuteEnded rp cp m.now p.now }
     ensures matrix { (rp cp : List ℕ) → PermuteEnded rp cp m.now p.now

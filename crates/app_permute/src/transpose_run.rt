@@ -19,7 +19,7 @@ use std::alloc::Global;
 ///
 /// # Errors
 ///
-/// `NoMemory` where there was none for the programs.
+/// `NoMemory` if there was none for the programs.
 pub fn transpose_start(alloc: Global, m: &Matrix, ranks: u32) -> Result<Progs<Transpose>, NoMemory>
     requires { AreRanks ranks }
     ensures starts { IfOk result (λ ps. ps ≡ transpose_starts ranks m.now) }
@@ -80,7 +80,7 @@ fn turned(entry: Triple) -> Triple
 ///
 /// # Errors
 ///
-/// `NoMemory` where there was none for the matrix.
+/// `NoMemory` if there was none for the matrix.
 pub fn transpose_end(alloc: Global, m: &Matrix, p: &Progs<Transpose>) -> Result<Matrix, NoMemory>
     requires ended { TransposeEnded m.now p.now }
     ensures matrix { IfOk result (λ b. b ≡ transpose_of m.now) }

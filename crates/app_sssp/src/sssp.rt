@@ -111,7 +111,7 @@ impl Sssp {
         }
     }
 
-    /// Takes in an item of a rank, where it fits.
+    /// Takes in an item of a rank, if it fits.
     #[inline(always)]
     fn take_in(&mut self, seat: Seat, from: u32, item: Item) -> Result<(), NoMemory>
         requires { IsSsspSeat seat self.old }

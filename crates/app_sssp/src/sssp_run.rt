@@ -29,7 +29,7 @@ use std::alloc::Global;
 ///
 /// # Errors
 ///
-/// `NoMemory` where there was none for the programs.
+/// `NoMemory` if there was none for the programs.
 pub fn sssp_start(
     alloc: Global,
     m: &Matrix,
@@ -72,12 +72,12 @@ fn part_of(
     Ok(Sssp::new(alloc, rank, ranks, m.rows(), vertices, outgoing))
 }
 
-/// The vertices of a rank at the start, at so many places: the source is improved, where it is an
+/// The vertices of a rank at the start, at so many places: the source is improved, if it is an
 /// own one.
 ///
 /// # Errors
 ///
-/// `NoMemory` where there was none.
+/// `NoMemory` if there was none.
 pub fn vertices_of(
     alloc: Global,
     ranks: u32,
@@ -101,7 +101,7 @@ pub fn vertices_of(
 ///
 /// # Errors
 ///
-/// `NoMemory` where there was none.
+/// `NoMemory` if there was none.
 pub fn edges_of(
     alloc: Global,
     parts: &Parts,
@@ -141,7 +141,7 @@ fn edge_sent(entry: Triple) -> Item
 ///
 /// # Errors
 ///
-/// `Failed` where the sink's faults rose in this call.
+/// `Failed` if the sink's faults rose in this call.
 pub fn sssp_write<K: Sink>(p: &Progs<Sssp>, out: &mut Out<'_, K>) -> Result<(), Failed>
     requires ended { (m : Sparse) × (source : ℕ) × SsspEnded m source p.now }
     ensures least { (m : Sparse) (source : ℕ) → SsspEnded m source p.now → (weights : ℕ → Option ℕ)

@@ -6,7 +6,7 @@ use Rattle.mtx_text.specs.Lines.{pieces}
 use Rattle.app_tally.specs.declared.lines.LinesFault.{LinesFault}
 use Rattle.app_tally.specs.declared.lines.LinesFault.TheVariants.{Source, TooLong, LineTooLong, NoMemory}
 
--- The first line of more than 65,535 bytes, where the first of the lines given has the number n.
+-- The first line of more than 65,535 bytes, if the first of the lines given has the number n.
 abbrev pub first_long : ℕ → List (List ℕ) → Option ℕ
 first_long n [] = None
 first_long n (l ∷ ls) = if nat_lt 65_535 (length l) then Some n else first_long (n + 1) ls
@@ -33,7 +33,7 @@ LinesGive (Err (LineTooLong n)) read = read ≡ Err (LineTooLong n)
 LinesGive (Err Source) read = Unit {0}
 LinesGive (Err NoMemory) read = Unit {0}
 
--- A fact, where the text was read as far as it counts.
+-- A fact, if the text was read as far as it counts.
 abbrev pub OnRead : Result (List (List ℕ)) LinesFault → Type 0 → Type 0
 OnRead (Ok lines) P = P
 OnRead (Err (TooLong n)) P = P

@@ -123,7 +123,7 @@ fn ends_with(lines: &Strings, line: &[u8]) -> bool
     len > 0 && lines.at(len - 1) == line
 }
 
-/// Raises the last number, where it stays below 2^64.
+/// Raises the last number, if it stays below 2^64.
 fn raise_last(times: &mut Vec<u64>, more: u64) -> Result<(), NoMemory>
     requires { 0 < length times.old.items }
     ensures { OnOk result (times.new.items ≡ slice_set times.old.items (length times.old.items - 1)

@@ -1,4 +1,4 @@
-//! Where an equal line may be among those that are kept: a hash table with open addressing.
+//! The places at which an equal line may be kept: a hash table with open addressing.
 
 ghost use Rattle.std.specs.Prelude.{◌≡◌, true, IfSome, Some, slice_get};
 
@@ -21,7 +21,7 @@ const SKIPPED: usize = 8;
 const NO_LINE: u32 = 4_294_967_295;
 
 /// Numbers of lines by the hashes of the lines. It only says where to look: a line is compared
-/// before it counts as found, and may be missing here. Where hardly a line comes twice, most lines
+/// before it counts as found, and may be missing here. If hardly a line comes twice, most lines
 /// are neither looked for nor put here.
 #[derive(Drop)]
 pub(crate) struct LineIndex {
@@ -81,7 +81,7 @@ impl LineIndex {
         None
     }
 
-    /// Puts the number of the line that comes behind these at a place for its hash. Where the table
+    /// Puts the number of the line that comes behind these at a place for its hash. If the table
     /// is half full, it grows if a third of the lines were found, and else it is emptied.
     pub(crate) fn add(&mut self, lines: &Strings, hash: u32) -> Result<(), NoMemory> {
         if self.taken >= self.places.len() / 2 {

@@ -62,7 +62,7 @@ impl Lines {
         }
     }
 
-    /// Does nothing, and tells what all lines keep.
+    /// Does nothing, and states what all lines keep.
     #[inline]
     pub fn known(&self)
         ensures { IsLines self.now }

@@ -97,7 +97,7 @@ fn count_line(
     append_line(lines, times, line)
 }
 
-/// Raises a number by one, where it stays below 2^64.
+/// Raises a number by one, if it stays below 2^64.
 fn one_more(times: &mut Vec<u64>, i: usize) -> Result<(), NoMemory>
     requires { i < length times.old.items }
     ensures raised { OnOk result (times.new.items

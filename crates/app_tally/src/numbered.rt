@@ -3,7 +3,7 @@
 ghost use Rattle.std.specs.Prelude.{◌≡◌, ◌<◌, length};
 ghost use Rattle.app_tally.specs.Numbers.{front_number};
 
-/// A line behind the number that its first sixteen bytes are, and how many times it came. Where two
+/// A line behind the number that its first sixteen bytes are, and how many times it came. If two
 /// numbers differ they tell the order of the lines, so that hardly a line is looked at while lines
 /// are sorted.
 pub(crate) type Numbered<'a> = (u128, &'a [u8], u64);

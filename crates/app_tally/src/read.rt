@@ -16,9 +16,9 @@ use std::alloc::Global;
 ///
 /// # Errors
 ///
-/// `Source` where a read failed, and only there, as the source's faults tell; `TooLong` exactly
-/// where the text has more than 16,777,216 bytes, and else `LineTooLong` exactly where a line has
-/// more than 65,535; want of memory may come at any time.
+/// `Source` if a read failed, and only there, as the source's faults tell; `TooLong` if
+/// and only if the text has more than 16,777,216 bytes, and else `LineTooLong` if and only if a
+/// line has more than 65,535; want of memory may come at any time.
 pub fn read_lines<S: Source>(alloc: Global, source: &mut S) -> Result<Lines, LinesFault>
     ensures gives { (text : List ℕ) → S.left source.old ≡ Some text → LinesGive result (lines_of_text text) }
     ensures left { (text : List ℕ) → S.left source.old ≡ Some text

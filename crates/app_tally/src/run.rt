@@ -25,7 +25,7 @@ use std::alloc::Global;
 ///
 /// # Errors
 ///
-/// `NoMemory` where there was none for the programs.
+/// `NoMemory` if there was none for the programs.
 pub fn tally_start(
     alloc: Global,
     lines: &Lines,
@@ -81,7 +81,7 @@ fn how_many(len: usize, step: usize, first: usize) -> usize
 ///
 /// # Errors
 ///
-/// `NoMemory` where there was none for the answer.
+/// `NoMemory` if there was none for the answer.
 pub fn tally_end(alloc: Global, p: &Progs<Mailer<Tally>>) -> Result<Counts, NoMemory>
     ensures counts { (lines : List (List ℕ)) → TallyEnded lines p.now → IfOk result (λ c. c ≡ tally_of lines) }
     ensures each { (lines : List (List ℕ)) → TallyEnded lines p.now → IfOk result (λ c. IsTally lines c) }

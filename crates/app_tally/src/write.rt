@@ -12,7 +12,7 @@ use bale_types::{Failed, Line, Out, Sink};
 ///
 /// # Errors
 ///
-/// `Failed` where the sink's faults rose in this call.
+/// `Failed` if the sink's faults rose in this call.
 pub fn tally_write<K: Sink>(c: &Counts, out: &mut Out<'_, K>) -> Result<(), Failed>
     ensures { Writes K.taken K.faults (tally_text c.now) out.old out.new result }
 {

@@ -1,4 +1,4 @@
-//! What stands beside an application's rules: programs in order, and cells that are reduced.
+//! What stands besides an application's rules: programs in order, and cells that are reduced.
 
 use reductions::{Reduced, Reduction};
 use round_program::Progs;

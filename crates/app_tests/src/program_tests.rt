@@ -74,7 +74,7 @@ fn answers_of_a_small_table(rt: HostRuntime) -> Result<(), Fail> {
     Ok(())
 }
 
-/// Hears the reply to query number `i`, where there is one and `answerer` is asked.
+/// Hears the reply to query number `i`, if there is one and `answerer` is asked.
 fn hear_one<Q: Asker>(asker: &mut Q, answerer: &Q, i: u64) {
     if i < asker.count() {
         let (to, question) = asker.query(i);

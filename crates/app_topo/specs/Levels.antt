@@ -26,7 +26,7 @@ is_open claims i t = t.i == i && col_claims t.j claims == 0
 abbrev pub open_columns : List Triple → List Claim → ℕ → List ℕ
 open_columns entries claims i = map (λ t. t.j) (filter (is_open claims i) entries)
 
--- A row is ready where it has no level and exactly one open entry.
+-- A row is ready if it has no level and exactly one open entry.
 -- of the same entries with no claims: rows 1 and 2; once row 1 has claimed column 1, row 0 too
 abbrev pub is_ready : List Triple → List Claim → ℕ → Bool
 is_ready entries claims i = row_claims i claims == 0 && length (open_columns entries claims i) == 1
@@ -52,7 +52,7 @@ abbrev pub levels_complete : ℕ → List Claim → Bool
 levels_complete n claims = list_all (λ x. row_claims x claims == 1 && col_claims x claims == 1) (range_with_len 0 n)
 
 -- The order of a square matrix: all claims in reverse, so later levels first, and within a level
--- the greater row first; none where some row has no level or some column not exactly one claim. n
+-- the greater row first; none if some row has no level or some column not exactly one claim. n
 -- levels suffice, since each that isn't empty gives some row its level. In this order the matrix is
 -- upper triangular with a full diagonal.
 -- of the entries of open_columns: (0,0), (2,2), (1,1); of (0,0), (0,1), (1,0), (1,1): none

@@ -51,7 +51,7 @@ columns_fall ranks m t r =
     map (λ u. (u.j % ranks, item u.j u.i 3))
     (dealt (λ u. u.i % ranks) r (filter (λ u. nat_lt 0 (col_claims u.i (level_at m t))) (columns_first m)))
 
--- topo has 2l + 2 rounds, where l is the number of levels that aren't empty: in round 0 the entries
+-- topo has 2l + 2 rounds, if l is the number of levels that aren't empty: in round 0 the entries
 -- go to the owners of their rows and columns, and then rows claim and columns fall in turn, until
 -- no row claims.
 pub record HasTopoRounds (ranks : ℕ) (m : Sparse) : Type 0 where

@@ -77,7 +77,7 @@ claims_of ranks size numbers sums rows =
 abbrev pub falls_of : ℕ → List Triple → List Triple → List (ℕ × Item)
 falls_of ranks columns came = flat_map (λ c. map (to_fall ranks) (filter (λ u. u.i == c.i) columns)) came
 
--- what is sent after a round: the first claims after round 0, falls after an odd round (none where
+-- what is sent after a round: the first claims after round 0, falls after an odd round (none if
 -- its number stands still), claims after a later even one
 abbrev pub sent_after : ℕ → ℕ → ℕ → ℕ → List ℕ → List ℕ → List Triple → List Triple → List (ℕ × Item)
 sent_after round rank ranks size numbers sums columns came =

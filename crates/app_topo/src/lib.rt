@@ -4,7 +4,7 @@
 //! | Call | For | Answer |
 //! |---|---|---|
 //! | [`topo_start`] | the programs of topo on so many ranks | in round 0 of a run of at most `2n + 2` rounds |
-//! | [`topo_end`] | the programs, once they ended | the order, or `None` exactly where there is none |
+//! | [`topo_end`] | the programs, once they ended | the order, or `None` if and only if there is none |
 //! | [`topo_write`] | an order | a line for each position: position, row, column |
 //! | [`TopoOrder::len`], [`TopoOrder::get`] | the positions | `None` exactly past the end |
 //! | [`TopoOrder::of_places`] | rows and columns in an order found elsewhere | that order |

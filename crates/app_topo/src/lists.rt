@@ -14,7 +14,7 @@ use crate::spans::{Span, entries_of_column, note_spans};
 use bale_items::{NoMemory, Triple};
 use std::mem;
 
-/// Appends row `i`'s claim, where its number is 1 and its sum is a column.
+/// Appends row `i`'s claim, if its number is 1 and its sum is a column.
 fn push_claim(
     outgoing: &mut Vec<Triple>,
     ranks: u32,

@@ -47,7 +47,7 @@ pub(crate) fn mark(came: &mut Cells, a: u64, b: u64) -> Result<(), NoMemory>
     came.raise(a as u32, b as u32, 0)
 }
 
-/// Notes that `a` came, where so wished.
+/// Notes that `a` came, if so wished.
 #[inline(always)]
 pub(crate) fn mark_if(came: &mut Cells, wished: bool, a: u64) -> Result<(), NoMemory>
     requires { a < 2 ^ 32 }

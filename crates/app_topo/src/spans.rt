@@ -1,6 +1,6 @@
-//! Where the entries of a column stand among those of all own columns in order. Once they are in
+//! The places of a column's entries among those of all own columns in order. Once they are in
 //! order it is noted for each own column; what was noted is a guess, looked at before it is taken,
-//! and where it is wrong a search by halving answers.
+//! and if it is wrong a search by halving answers.
 
 ghost use Rattle.std.specs.Prelude.{◌≡◌, ◌<◌, ◌≤◌, ◌==◌, ℕ, length, slice_index_or};
 ghost use Rattle.std.specs.List.{filter};
@@ -17,7 +17,7 @@ pub(crate) struct Span {
     pub(crate) to: usize,
 }
 
-/// Notes where the entries of each own column stand.
+/// Notes if the entries of each own column stand.
 pub(crate) fn note_spans(spans: &mut Vec<Span>, ranks: u32, columns: &[Triple])
     requires { 0 < ranks }
 {
@@ -61,7 +61,7 @@ pub(crate) fn entries_of_column<'a>(
     &columns[from..to]
 }
 
-/// Where the entries of a column may stand.
+/// The places that the entries of a column may have.
 #[inline(always)]
 fn guessed(spans: &[Span], ranks: u32, c: u32) -> Span
     requires { 0 < ranks }

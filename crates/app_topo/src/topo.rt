@@ -73,7 +73,7 @@ impl Model for Topo {
     ghost invariant = { λ s. IsTopo (topo_state s) };
 }
 
-/// What a rank of topo begins with, beside its numbers.
+/// What a rank of topo begins with, besides its numbers.
 #[derive(Drop)]
 pub(crate) struct Begins {
     pub(crate) numbers: Vec<u64>,
@@ -160,7 +160,7 @@ impl Topo {
         }
     }
 
-    /// Takes in an item of a rank, where it fits.
+    /// Takes in an item of a rank, if it fits.
     #[inline(always)]
     fn take_in(&mut self, seat: Seat, from: u32, item: Item) -> Result<(), NoMemory>
         requires { IsTopoSeat seat self.old }
@@ -238,7 +238,7 @@ impl Topo {
         Ok(())
     }
 
-    /// Ends a later round in which the rank sent nothing and nothing came: where an order has many
+    /// Ends a later round in which the rank sent nothing and nothing came: if an order has many
     /// levels, most ends are these.
     #[inline(always)]
     fn end_idle_round(&mut self)

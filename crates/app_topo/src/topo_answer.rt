@@ -17,13 +17,13 @@ use mtx_text::{Cells, Matrix};
 use round_program::Progs;
 use std::alloc::Global;
 
-/// The order of the matrix's rows and columns by levels; `None` exactly where no pair of
+/// The order of the matrix's rows and columns by levels; `None` if and only if no pair of
 /// permutations makes the matrix upper triangular with a full diagonal. The programs are those of
 /// `topo_start` on `m` after their run.
 ///
 /// # Errors
 ///
-/// `NoMemory` where there was none for the order.
+/// `NoMemory` if there was none for the order.
 pub fn topo_end(alloc: Global, m: &Matrix, p: &Progs<Topo>) -> Result<Option<TopoOrder>, NoMemory>
     requires ended { TopoEnded m.now p.now }
     ensures order { IfOk result (λ o. o ≡ topo_order m.now.rows m.now.entries) }

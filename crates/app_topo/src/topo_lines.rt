@@ -12,7 +12,7 @@ use bale_types::{Failed, Line, Out, Sink};
 ///
 /// # Errors
 ///
-/// `Failed` where the sink's faults rose in this call.
+/// `Failed` if the sink's faults rose in this call.
 pub fn topo_write<K: Sink>(t: &TopoOrder, out: &mut Out<'_, K>) -> Result<(), Failed>
     ensures { Writes K.taken K.faults (topo_lines t.now) out.old out.new result }
 {

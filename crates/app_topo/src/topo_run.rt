@@ -20,7 +20,7 @@ use std::alloc::Global;
 ///
 /// # Errors
 ///
-/// `NoMemory` where there was none for the programs.
+/// `NoMemory` if there was none for the programs.
 pub fn topo_start(alloc: Global, m: &Matrix, ranks: u32) -> Result<Progs<Topo>, NoMemory>
     requires square { m.now.rows ≡ m.now.cols }
     requires ranks { AreRanks ranks }

@@ -36,7 +36,7 @@ fn main(rt: HostRuntime) -> ExitCode {
 
 /// Takes a large piece of memory and gives it back untouched. glibc then serves requests up to that
 /// size from its heap, and keeps there what is freed: a page that was used once is used again at
-/// once, where a new one costs a page fault of some two microseconds.
+/// once, if a new one costs a page fault of some two microseconds.
 fn keep_freed_memory<R: AllocGlobal>(rt: &R) {
     let piece: Result<Vec<u8>, _> = Vec::with_capacity(rt.alloc(), 33_000_000);
     drop(piece);

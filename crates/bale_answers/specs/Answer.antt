@@ -45,9 +45,9 @@ answer_to serial (Some c) text = answer_for (serial c) c (subject_asked c text)
 -- The serial answer: what the words ask for, of the matrix of the text or the generated one, or of
 -- the lines of the text. No rank, buffer or link occurs in it; `serial` says which commands are
 -- driven on one thread, for which large runs are unfit.
--- 2 and "bale: usage" where the words are no command; 5 and the first bad line where the text has
--- no matrix, or, for tally, the line where it is too long; 6 and the first test that fails where
--- the command doesn't fit; else 0, or 1 where topo finds no order, and, on out, the bytes that
+-- 2 and "bale: usage" if the words are no command; 5 and the first bad line if the text has
+-- no matrix, or, for tally, the line if it is too long; 6 and the first test that fails if
+-- the command doesn't fit; else 0, or 1 if topo finds no order, and, on out, the bytes that
 -- `Wrote` tells of.
 -- For "sssp --source 3" and "%%MatrixMarket matrix coordinate pattern general/2 2 0/" it is 6 with
 -- "bale: unfit: source out of range/" on err, with / for LF.
@@ -77,12 +77,12 @@ pub record IsUnfit (serial : Command → Bool) (job : Option Command) (text : Li
   pub read : subject_asked command text ≡ Ok subject
   pub why : unfitness command subject (serial command) ≡ Some u
 
--- What is written of an answer with this status: its bytes, or, at 0 and where the matrix was
+-- What is written of an answer with this status: its bytes, or, at 0 and if the matrix was
 -- generated, their summary.
 abbrev pub shown_text : Option Generated → ℕ → List ℕ → List ℕ
 shown_text generated status bytes = if is_some generated && status == 0 then summary_of bytes else bytes
 
--- What a sink has taken of an answer as it is shown: all of it, or a prefix where a write failed.
+-- What a sink has taken of an answer as it is shown: all of it, or a prefix if a write failed.
 -- `old` is what it held.
 pub record HasWritten {T E : Type 0} (IsAnswer : List ℕ → Type 0) (shows : List ℕ → List ℕ) (old new : Option (List ℕ))
     (written : Result T E) : Type 0 where

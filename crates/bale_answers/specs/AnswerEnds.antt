@@ -14,12 +14,12 @@ use Rattle.bale_answers.specs.Tasks.{IsAnswer, task_status}
 -- 0/", with / for LF.
 pub record IsAnswerEnd {K : Type 0} (t : Task) (s : Subject) (generated : Option Generated)
     (taken : K → Option (List ℕ)) (faults : K → ℕ) (out out' : K) (e : AnswerEnd) : Type 0 where
-  -- The status is the answer's: 0, or 1 where topo finds no order.
+  -- The status is the answer's: 0, or 1 if topo finds no order.
   pub status : e.status ≡ task_status t s
   pub low : e.status ≤ 1
-  -- All of the answer was taken, or a prefix of it where a write failed; what the sink held stays.
+  -- All of the answer was taken, or a prefix of it if a write failed; what the sink held stays.
   pub answer : HasWritten (IsAnswer t s) (shown_text generated (task_status t s)) (taken out) (taken out') e.written
   pub held : IsTakenPrefix (taken out) (taken out')
-  -- A failed write is the sink's own fault, and where all was taken there was none.
+  -- A failed write is the sink's own fault, and if all was taken there was none.
   pub cause : HasCause (faults out) (faults out') e.written
   pub no_fault : OnOk e.written (faults out' ≡ faults out)

@@ -3,7 +3,7 @@ use Rattle.std.specs.Prelude.{ℕ, List, Option, None, Some, codes}
 use Rattle.app_topo.specs.Levels.{Claim}
 use Rattle.app_topo.specs.TopoLines.{topo_lines}
 
--- 1 where no order exists.
+-- 1 if no order exists.
 abbrev pub order_status : Option (List Claim) → ℕ
 order_status None = 1
 order_status (Some order) = 0

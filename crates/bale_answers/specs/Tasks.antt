@@ -51,7 +51,7 @@ IsMatrixAnswer task.Topo m bytes = bytes ≡ order_text (topo_order m.rows m.ent
 IsMatrixAnswer (task.Sssp source delta) m bytes = IsSsspAnswer m (source - 1) bytes
 IsMatrixAnswer task.Tally m bytes = ⊥
 
--- The exit status of an answer: 1 where topo finds no order, else 0.
+-- The exit status of an answer: 1 if topo finds no order, else 0.
 abbrev pub matrix_status : Task → Sparse → ℕ
 matrix_status task.Topo m = order_status (topo_order m.rows m.entries)
 matrix_status _ m = 0

@@ -6,7 +6,7 @@ use Rattle.least_walks.specs.Walks.{no_negative}
 
 -- The matrix is square and has no negative value, the source, counted from 1, is one of its
 -- vertices, and the bytes are a line for each vertex, with the least weight of a walk from the
--- source, or - where there is no walk (`IsSsspAnswer`).
+-- source, or - if there is no walk (`IsSsspAnswer`).
 -- of (0,1,3), (1,2,2), (0,2,7) and the source 1: "1 0/2 3/3 5/", with / for LF
 pub record SsspMeans (m : Sparse) (source : ℕ) (bytes : List ℕ) : Type 0 where
   pub square : m.cols ≡ m.rows

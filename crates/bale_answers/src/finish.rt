@@ -29,9 +29,9 @@ use std::alloc::Global;
 /// The answer's status, and whether it was written.
 #[derive(Drop)]
 pub struct AnswerEnd {
-    /// 0, or 1 where topo finds no order
+    /// 0, or 1 if topo finds no order
     pub status: u8,
-    /// An error where a write failed
+    /// An error if a write failed
     pub written: Result<(), Failed>,
 }
 
@@ -72,7 +72,7 @@ pub(crate) fn finish_as<A: Application, K: Sink>(
     Ok(write_as::<A, K>(options, of, &answer, generated, out))
 }
 
-/// Writes an answer: its bytes, or, at status 0 and where the matrix was generated, their summary.
+/// Writes an answer: its bytes, or, at status 0 and if the matrix was generated, their summary.
 /// No memory is taken.
 fn write_as<A: Written, K: Sink>(
     options: &A::Options,

@@ -28,7 +28,7 @@ use std::alloc::Global;
 /// The programs of so many ranks, from 1 to 64, for a task and a subject that fit each other.
 ///
 /// # Errors
-/// `NoMemory` where the programs found none.
+/// `NoMemory` if the programs found none.
 pub fn start_task(
     alloc: Global,
     task: &Task,
@@ -48,10 +48,10 @@ pub fn start_task(
 }
 
 /// Writes the answer of a task for its subject, by the programs after their last round: its bytes,
-/// or, at status 0 and where the matrix was generated, their summary.
+/// or, at status 0 and if the matrix was generated, their summary.
 ///
 /// # Errors
-/// `NoMemory` where the answer found none: then nothing is written.
+/// `NoMemory` if the answer found none: then nothing is written.
 pub fn finish_task<K: Sink>(
     alloc: Global,
     task: &Task,

@@ -98,7 +98,7 @@ pub extern "C" fn bale_advance(rank: &mut BaleRank, done: bool) -> i32
     there.advance(done).code()
 }
 
-/// How many ranks there are; 0 where the handle has no rank.
+/// How many ranks there are; 0 if the handle has no rank.
 #[unsafe(no_mangle)]
 pub extern "C" fn bale_ranks(rank: &mut BaleRank) -> u32
     ensures value { result ≡ ranks_in (seated_rank rank.old) }

@@ -1,4 +1,4 @@
-//! What C calls, of a rank and the items that wait for it, where they are.
+//! What C calls, of a rank and the items that wait for it, if they are.
 ghost use Rattle.std.specs.Prelude.{◌≡◌, ◌≢◌};
 ghost use Rattle.rank_handles.specs.Answers.{pull_result};
 ghost use Rattle.rank_handles.specs.Calls.{OnRank};

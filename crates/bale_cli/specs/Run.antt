@@ -60,7 +60,7 @@ Says told faults err err' r =
 
 -- A run of the command that the words name, which ends with a status and tells its rounds. `serial`
 -- says of each command whether one thread turns all its ranks, and `turns` how they were turned
--- where the run came to its end; `left` is what a source tells of
+-- if the run came to its end; `left` is what a source tells of
 -- what it has left, `taken` and `told` what out and err tell of what they have taken, and each
 -- counts its own faults.
 -- Example: on the words `histo`, `--grid`, `4`, `--buffer`, `2` and a matrix whose columns have 1,
@@ -72,8 +72,8 @@ pub record IsRun {S K E : Type 0} (serial : Command → Bool)
     (taken : K → Option (List ℕ)) (write_faults : K → ℕ) (out out' : K) (told : E → Option (List ℕ))
     (err_faults : E → ℕ) (err err' : E)
     (status : ℕ) (rounds : List ClosedRound) : Type 0 where
-  -- The status is the serial answer's for the words and the text. 3 comes exactly where a read
-  -- failed and 4 where a write did; 7, want of memory, is free.
+  -- The status is the serial answer's for the words and the text. 3 comes if and only if a read
+  -- failed and 4 if a write did; 7, want of memory, is free.
   pub low : status ≤ 7
   pub usage : status ≡ 2 → command_of words ≡ None
   pub no_command : command_of words ≡ None → status ≢ 7 → status ≡ 2
@@ -83,7 +83,7 @@ pub record IsRun {S K E : Type 0} (serial : Command → Bool)
   pub no_read_fault : status ≢ 3 → read_faults source' ≡ read_faults source
   pub write_fault : status ≡ 4 → RoseOrFull (write_faults out) (write_faults out')
   pub no_write_fault : status ≢ 4 → write_faults out' ≡ write_faults out
-  -- The source is as it was where the matrix is generated, and at 2; else at 0, 1, 4, 5 and 6 the
+  -- The source is as it was if the matrix is generated, and at 2; else at 0, 1, 4, 5 and 6 the
   -- text was read whole, or to one byte past its limit.
   pub unread : reads (command_of words) ≡ false → source' ≡ source
   pub read_whole : (text : List ℕ) → left source ≡ Some text → reads (command_of words) ≡ true → status ≢ 3 → status ≢ 7
@@ -124,7 +124,7 @@ pub record AreTurns (left : Option (List ℕ)) (job : Option Command) (before af
   -- They are bounded by the words and the matrix or lines, at 7 too.
   pub bounded : (text : List ℕ) (c : Command) (s : Subject) → Asked on_one_thread left job text c s
       → TurnsOfCommand c s before after
-  -- Where the words and the text ask for no run, there are none.
+  -- If the words and the text ask for no run, there are none.
   pub idle : (text : List ℕ) → Told job left text
       → ((c : Command) (s : Subject) → ¬ Asked on_one_thread left job text c s) → after ≡ before
 

@@ -20,10 +20,10 @@ use std::thread::Threads;
 /// How a run ended.
 #[derive(Drop)]
 pub struct Outcome {
-    /// 0, or 1 where topo finds no order, or the status of the refusal: 2 usage, 3 read fault, 4
+    /// 0, or 1 if topo finds no order, or the status of the refusal: 2 usage, 3 read fault, 4
     /// write fault, 5 a text that isn't what was asked of, 6 unfit, 7 no memory
     pub status: u8,
-    /// What was exchanged, where an answer was written or its writing failed: one closed round, or
+    /// What was exchanged, if an answer was written or its writing failed: one closed round, or
     /// three for ig over biconvey; else none.
     pub rounds: Rounds,
 }
@@ -32,8 +32,8 @@ pub struct Outcome {
 /// threads or all on this one, as the words say, and writes the answer to `out` or why there is
 /// none to `err`. Before each turn of a rank's thread the gate is notified of it.
 ///
-/// Where the source tells its text, out and err take exactly what the serial answer says, unless a
-/// read or a write failed or an allocation was refused. It waits for its threads, and returns where
+/// If the source tells its text, out and err take exactly what the serial answer says, unless a
+/// read or a write failed or an allocation was refused. It waits for its threads, and returns when
 /// they do. `IsRun` of specs/Run says it field by field.
 pub fn run<R: Threads + Wait + Sync, S: Source, K: Sink, E: Sink, G: Gate + Sync>(
     rt: &R,
@@ -57,7 +57,7 @@ pub fn run<R: Threads + Wait + Sync, S: Source, K: Sink, E: Sink, G: Gate + Sync
 /// `err`. Each turn of a rank raises `steps` by one.
 /// It always returns.
 ///
-/// Where the source tells its text, out and err take exactly what the serial answer says, unless a
+/// when the source tells its text, out and err take exactly what the serial answer says, unless a
 /// read or a write failed or an allocation was refused (`IsRun`).
 pub fn run_serial<S: Source, K: Sink, E: Sink, L: Ledger>(
     alloc: Global,
@@ -71,7 +71,7 @@ pub fn run_serial<S: Source, K: Sink, E: Sink, L: Ledger>(
         S.left S.faults source.old source.new K.taken K.faults out.old out.new
         E.taken E.faults err.old err.new result.status result.rounds }
 
-    // The turns are bounded, and where the words and the text ask for no run, or they are refused,
+    // The turns are bounded, and if the words and the text ask for no run, or they are refused,
     // there are none.
     ensures turns { AreTurns (S.left source.old) (command_of (map string_bytes words.now)) steps.old steps.new }
     ensures no_turns { result.status ≢ 0 → result.status ≢ 1 → result.status ≢ 4 → result.status ≢ 7
@@ -81,7 +81,7 @@ pub fn run_serial<S: Source, K: Sink, E: Sink, L: Ledger>(
     outcome_of(alloc, answered, err)
 }
 
-/// How a run ended, which is said on `err` where there is no answer.
+/// How a run ended, which is said on `err` if there is no answer.
 fn outcome_of<E: Sink>(alloc: Global, answered: Result<RunEnd, Refusal>, err: &mut E) -> Outcome
     requires low { IfOk answered (λ f. f.ending.status ≤ 1) }
     ensures { IsOutcome answered E.taken E.faults err.old err.new result.status result.rounds }

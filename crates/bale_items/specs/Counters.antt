@@ -1,4 +1,4 @@
--- A count in 64 bits that never falls, and stands still at its type's last value: of faults, of
+-- A count in 64 bits that never falls, and saturates at its type's last value: of faults, of
 -- parcels, of hears.
 use Rattle.std.specs.Prelude.{◌≡◌, ◌<◌, ◌^◌, ◌-◌, ◌⊎◌, ◌+◌, ℕ, min}
 
@@ -8,7 +8,7 @@ use Rattle.std.specs.Prelude.{◌≡◌, ◌<◌, ◌^◌, ◌-◌, ◌⊎◌, �
 abbrev pub RoseOrFull : ℕ → ℕ → Type 0
 RoseOrFull old new = (old < new) ⊎ (new ≡ 2 ^ 64 - 1)
 
--- a counter's next value, which stands still at its type's end
+-- a counter's next value, which saturates at its type's end
 -- next_count n = min (n + 1) (2^64 - 1)
 -- 4 after 3; 2^64 - 1 after itself
 abbrev pub next_count : ℕ → ℕ

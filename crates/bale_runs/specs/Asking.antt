@@ -46,7 +46,7 @@ abbrev pub queries_for : Sparse → ℕ → ℕ → ℕ → List Item
 queries_for m ranks s d = map carrying (columns_asked m ranks s d)
 
 -- The replies of d to s: for each the sum of this column, as its two's complement.
--- Where columns 3 and 5 have the sums 7 and -1, rank 1 replies 7 and 2^64 - 1.
+-- If columns 3 and 5 have the sums 7 and -1, rank 1 replies 7 and 2^64 - 1.
 abbrev pub replies_for : Sparse → ℕ → ℕ → ℕ → List Item
 replies_for m ranks d s = map (λ j. carrying (twos_complement (column_sum j m.entries))) (columns_asked m ranks s d)
 

@@ -36,7 +36,7 @@ is_biconvey _ = false
 abbrev pub by_asking : Command → Bool
 by_asking c = is_biconvey c.travel.transport && is_ig c.task
 
--- How the rounds of a command are carried: over exstacks where its words say so, else over
+-- How the rounds of a command are carried: over exstacks if its words say so, else over
 -- conveyors.
 abbrev pub via_of : Transport → Via
 via_of Exstack = via.Exstack

@@ -44,7 +44,7 @@ IsTable t p (subject.Matrix m) table = IsMatrixTable t p m table
 IsTable t p (subject.Lines lines) table = table ≡ tally_table p lines
 
 -- What rank s sends to rank d in an epoch of a table: the items of round n in epoch 2n, and in
--- epoch 2n + 1 its vote on that round, also where it is 0.
+-- epoch 2n + 1 its vote on that round, also if it is 0.
 -- of histo's table on 2 ranks: in epoch 0 the ones for d's columns, in epoch 1 the item (0,0,0)
 abbrev pub in_epoch : Table → ℕ → ℕ → ℕ → List Item
 in_epoch t e s d = if e % 2 == 0 then items_of d (t.line (e / 2) s) else carrying (t.vote (e / 2) s) ∷ []
@@ -57,7 +57,7 @@ in_epoch t e s d = if e % 2 == 0 then items_of d (t.line (e / 2) s) else carryin
 -- parcels were.
 -- all_pushed: in epoch e rank s pushed exactly `sent e s d` toward rank d. all_came: each pulled
 -- what was pushed toward it.
--- shape: each parcel is filled as the transport fills it, conveyors steady or not. Where they
+-- shape: each parcel is filled as the transport fills it, conveyors steady or not. If they
 -- aren't steady, an epoch's entries travel in few parcels (port_bank's few_parcels_law).
 -- With two ranks and six rounds there are 12 epochs; in each odd one each of the four pairs has one
 -- item.

@@ -18,7 +18,7 @@ use Rattle.bale_subjects.specs.declared.subject.Subject.{Subject}
 use Rattle.bale_answers.specs.Tasks.{plan_of, starts_of}
 
 -- The bank of a command's run: its grid, the entries of a parcel, the slots of a link; a plain one
--- where it is driven on one thread, and one of slots where each rank has a thread.
+-- if it is driven on one thread, and one of slots if each rank has a thread.
 abbrev pub made_for : Bool → Command → BankShape
 made_for serial c = record { dims = c.grid; cap = c.travel.buffer; slots = c.travel.slots; by_slots = not serial }
 

@@ -36,10 +36,10 @@ pub struct RunEnd {
 /// Runs the command for its subject as its words ask, the ranks on threads or all on this one, and
 /// writes its answer.
 /// Before each turn of a rank's thread the gate is notified of it. It waits for its threads, and
-/// returns where they do.
+/// returns when they do.
 ///
 /// # Errors
-/// `NoMemory` where the programs, the drive or the answer found none: then nothing is written.
+/// `NoMemory` if the programs, the drive or the answer found none: then nothing is written.
 pub fn run_command<R: Threads + Wait + Sync, K: Sink, G: Gate + Sync>(
     rt: &R,
     alloc: Global,
@@ -92,7 +92,7 @@ fn run_uncounted<L: Ledger, K: Sink>(
 /// It always returns.
 ///
 /// # Errors
-/// `NoMemory` where the programs, the drive or the answer found none: then nothing is written.
+/// `NoMemory` if the programs, the drive or the answer found none: then nothing is written.
 pub fn run_serially<K: Sink, L: Ledger>(
     alloc: Global,
     command: &Command,
@@ -140,7 +140,7 @@ fn run_on_threads<R: Threads + Wait + Sync, K: Sink, G: Gate + Sync>(
     }
 }
 
-/// Does nothing, and tells that a matrix keeps what every matrix keeps.
+/// Does nothing, and states that a matrix keeps what every matrix keeps.
 fn known_subject(subject: &Subject)
     ensures { IsKnown subject.now }
 {

@@ -20,7 +20,7 @@ has_each n numbers = (length numbers == n) && (list_all (λ x. nat_lt x n) numbe
 abbrev pub from_zero : List ℕ → List ℕ
 from_zero numbers = map (λ x. x - 1) numbers
 
--- A list numbers n rows or columns, where one is given: it has each number from 1 to n once.
+-- A list numbers n rows or columns, if one is given: it has each number from 1 to n once.
 -- 2, 3, 1 numbers three; 1, 1, 2 and 0, 1, 2 don't.
 abbrev pub numbers_all : ℕ → Option (List ℕ) → Bool
 numbers_all n None = true

@@ -7,7 +7,7 @@ use Rattle.bale_subjects.specs.declared.refusal.Refusal.TheVariants as refusal
 use Rattle.bale_subjects.specs.declared.subject.Subject.{Subject}
 use Rattle.bale_subjects.specs.Subjects.{subject_asked, suits}
 
--- What the source told, where the command reads it: one whose matrix is generated doesn't.
+-- What the source told, if the command reads it: one whose matrix is generated doesn't.
 abbrev pub HasText : Option Generated → Option (List ℕ) → List ℕ → Type 0
 HasText None left text = left ≡ Some text
 HasText (Some g) left text = Unit {0}
@@ -49,7 +49,7 @@ IsRead asked (Err (refusal.Unfit u)) = Unit {0}
 IsRead asked (Err refusal.WriteFault) = Unit {0}
 IsRead asked (Err refusal.NoMemory) = Unit {0}
 
--- A fact, where the text was read as far as it counts.
+-- A fact, if the text was read as far as it counts.
 abbrev pub OnText : Result Subject Refusal → Type 0 → Type 0
 OnText (Ok s) P = P
 OnText (Err (refusal.BadText b)) P = P

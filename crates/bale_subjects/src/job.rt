@@ -25,7 +25,7 @@ use std::alloc::Global;
 /// The command that the words give, with its numbers in their ranges.
 ///
 /// # Errors
-/// `Usage` where the words give none, and `NoMemory`.
+/// `Usage` if the words give none, and `NoMemory`.
 pub fn read_words(alloc: Global, words: &[String]) -> Result<Command, Refusal>
     ensures command { IfOk result (λ c. command_of (map string_bytes words.now) ≡ Some c) }
     ensures ranges { IfOk result (λ c. InRanges c) }
@@ -44,7 +44,7 @@ pub fn read_words(alloc: Global, words: &[String]) -> Result<Command, Refusal>
 /// parsed as `on` says.
 ///
 /// # Errors
-/// `ReadFault` where the source failed, `BadText` where its text isn't what the command is asked
+/// `ReadFault` if the source failed, `BadText` if its text isn't what the command is asked
 /// of, `Unfit` with the first test of fitness that fails, and `NoMemory`.
 pub fn subject_for<X: Execution, S: Source>(
     on: &X,

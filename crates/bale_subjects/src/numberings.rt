@@ -9,10 +9,10 @@ use bale_words::Numbers;
 use sparse_rows::is_permutation;
 use std::alloc::Global;
 
-/// Whether a list, where one is given, has each number from 1 to `n` once.
+/// Whether a list, if one is given, has each number from 1 to `n` once.
 ///
 /// # Errors
-/// `NoMemory` where the marks of the numbers found none.
+/// `NoMemory` if the marks of the numbers found none.
 pub(crate) fn numbers_all(
     alloc: Global,
     n: u32,
@@ -42,10 +42,10 @@ fn are_from_1(numbers: &[u32]) -> bool
     numbers.iter().all(|x| *x > 0)
 }
 
-/// The new numbers counted from 0: those of the list, or the old ones where none is given.
+/// The new numbers counted from 0: those of the list, or the old ones if none is given.
 ///
 /// # Errors
-/// `NoMemory` where the list found none.
+/// `NoMemory` if the list found none.
 pub fn new_numbers(alloc: Global, n: u32, numbers: &Option<Numbers>) -> Result<Vec<u32>, NoMemory>
     ensures { IfOk result (λ p. p.items ≡ new_numbers n numbers.now) }
 {
@@ -58,7 +58,7 @@ pub fn new_numbers(alloc: Global, n: u32, numbers: &Option<Numbers>) -> Result<V
 /// The numbers from 0 to `n - 1`, in order.
 ///
 /// # Errors
-/// `NoMemory` where the list found none.
+/// `NoMemory` if the list found none.
 pub fn in_order(alloc: Global, n: u32) -> Result<Vec<u32>, NoMemory>
     ensures { IfOk result (λ p. p.items ≡ range_with_len 0 n) }
 {

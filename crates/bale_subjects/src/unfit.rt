@@ -40,7 +40,7 @@ pub enum Unfit {
 /// threads.
 ///
 /// # Errors
-/// `NoMemory` where the marks of a list's numbers found none.
+/// `NoMemory` if the marks of a list's numbers found none.
 pub(crate) fn unfitness(
     alloc: Global,
     command: &Command,
@@ -61,7 +61,7 @@ pub(crate) fn unfitness(
 /// The first test that fails, of those of the task.
 ///
 /// # Errors
-/// `NoMemory` where the marks of a list's numbers found none.
+/// `NoMemory` if the marks of a list's numbers found none.
 fn task_unfitness(
     alloc: Global,
     task: &Task,

@@ -10,8 +10,8 @@ use Rattle.bale_types.specs.declared.out.Out.{Out}
 abbrev pub appended_bytes : {K : Type 0} → (K → Option (List ℕ)) → Out K → Option (List ℕ)
 appended_bytes taken out = taken_with (taken out.sink.now) (take out.len out.buffer)
 
--- how many bytes wait in the buffer, where so many waited and more came: those that are over whole
--- buffers of 4,096 left_over waited more = (waited + more) % 4096; where none came, as many wait as
+-- how many bytes wait in the buffer, if so many waited and more came: those that are over whole
+-- buffers of 4,096 left_over waited more = (waited + more) % 4096; if none came, as many wait as
 -- before 4,095 and 1 more leave none, and 4,000 and 100 more leave 4
 abbrev pub left_over : ℕ → ℕ → ℕ
 left_over waited more = if more == 0 then waited else (waited + more) % 4096
@@ -27,8 +27,8 @@ pub record HandsOn {K T E : Type 0} (taken : K → Option (List ℕ)) (faults : 
   pub same_sink : new.sink.ghost_name ≡ old.sink.ghost_name
 
 -- a call writes these bytes behind all that was appended
--- ok: all of them, where it answers Ok
--- err: where it fails, the sink has a prefix of what should have come
+-- ok: all of them, if it answers Ok
+-- err: if it fails, the sink has a prefix of what should have come
 -- sink: what it does to the sink
 pub record Writes {K T E : Type 0} (taken : K → Option (List ℕ)) (faults : K → ℕ) (bytes : List ℕ) (old new : Out K)
     (result : Result T E) : Type 0 where
@@ -38,7 +38,7 @@ pub record Writes {K T E : Type 0} (taken : K → Option (List ℕ)) (faults : K
 
 -- the same of a call of the buffer itself, which also tells what still waits in it
 -- written: it writes them
--- kept: where it fails, what was appended before is a prefix of what is now
+-- kept: if it fails, what was appended before is a prefix of what is now
 -- part: and that is a prefix of what should have come
 -- gathers: while all of them have room in the buffer, the sink isn't touched
 -- no_failure: and nothing fails

@@ -1,5 +1,5 @@
 -- What a source has still to give, what a sink has taken, and what one call moves between them and
--- a buffer. Where an object doesn't tell its bytes, they are None before and after each call.
+-- a buffer. If an object doesn't tell its bytes, they are None before and after each call.
 use Rattle.std.specs.Prelude.{◌≡◌, ◌<◌, ◌≤◌, ◌-◌, ℕ, zero, suc, ◌+◌, List, [], ◌++◌, Option, None, Some}
 use Rattle.std.specs.Prelude.{Result, Ok, Err, OnErr, OnOk, IfOk, IsSome, length, take, drop}
 use Rattle.bale_items.specs.Counters.{RoseOrFull}
@@ -11,7 +11,7 @@ abbrev pub taken_with : Option (List ℕ) → List ℕ → Option (List ℕ)
 taken_with None bytes = None
 taken_with (Some taken) bytes = Some (taken ++ bytes)
 
--- what was to come, where these bytes came and that is still left
+-- what was to come, if these bytes came and that is still left
 -- before bytes (Some left) = Some (bytes ++ left)
 -- `1 1` came and `2` is left, so `1 1 2` was to come
 abbrev pub before : List ℕ → Option (List ℕ) → Option (List ℕ)
@@ -25,8 +25,8 @@ abbrev pub moved_bytes : {E : Type 0} → Result ℕ E → List ℕ → List ℕ
 moved_bytes (Ok count) buffer = take count buffer
 moved_bytes (Err e) buffer = []
 
--- what a write moved, where none that moved nothing is counted as one
--- some_moved (Some count) = Some count, where 0 < count
+-- what a write moved, if none that moved nothing is counted as one
+-- some_moved (Some count) = Some count, if 0 < count
 -- Some 2 of Some 2, and None of Some 0
 abbrev pub some_moved : Option ℕ → Option ℕ
 some_moved None = None
@@ -34,7 +34,7 @@ some_moved (Some zero) = None
 some_moved (Some (suc n)) = Some (suc n)
 
 -- a failure has its cause outside: the object counted it
--- HasCause old new result = RoseOrFull old new, where the result is an Err
+-- HasCause old new result = RoseOrFull old new, if the result is an Err
 -- Err from 3 to 4 has its cause, and Err from 3 to 3 has none
 abbrev pub HasCause : {T E : Type 0} → ℕ → ℕ → Result T E → Type 0
 HasCause old new result = OnErr result (RoseOrFull old new)
@@ -49,7 +49,7 @@ pub record CountsFaults {T E : Type 0} (old new : ℕ) (result : Result T E) : T
   pub no_fault : OnOk result (new ≡ old)
   pub never_falls : old ≤ new
 
--- where a call blames an object, and where it doesn't: the object's count of faults tells
+-- where a call blames an object, and if it doesn't: the object's count of faults tells
 -- cause: what is blamed on it, it counted
 -- no_fault: what isn't, it didn't
 -- never_falls: the count never falls
@@ -82,7 +82,7 @@ pub record IsBehind (limit : ℕ) (text rest : List ℕ) : Type 0 where
   pub end : rest ≡ drop (length text - length rest) text
   pub few : length text ≤ length rest + limit
 
--- a reader takes at most so many bytes of a source, where that tells them
+-- a reader takes at most so many bytes of a source, if that tells them
 -- behind: what is left stands behind what was taken
 -- told: and the source still tells it
 pub record TakesUpTo (limit : ℕ) (left left' : Option (List ℕ)) : Type 0 where

@@ -1,7 +1,7 @@
 //! The text of numbers, laid into a buffer behind the bytes that it holds: each call says where the
 //! next is laid.
 //!
-//! Numbers are printed by itoa, except where a line is written for each entry of a matrix: there
+//! Numbers are printed by itoa, except if a line is written for each entry of a matrix: there
 //! rows, columns and most values have at most five digits, and tables lay them down in half the
 //! instructions.
 ghost use Rattle.std.specs.Prelude.{◌≡◌, ◌+◌, ◌/◌, ◌%◌, ◌<◌, ◌≤◌, [], ◌∷◌, length};

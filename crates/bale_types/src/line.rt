@@ -112,7 +112,7 @@ pub trait LineText {
 impl LineText for Line {
     ghost text = { λ l. l };
 
-    /// Copies the room, or the front of it where the line is short, so that the copy has one of two
+    /// Copies the room, or the front of it if the line is short, so that the copy has one of two
     /// fixed sizes.
     #[inline(always)]
     fn lay(&self, buffer: &mut [u8], at: usize) -> usize

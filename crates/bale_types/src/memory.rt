@@ -21,9 +21,9 @@ pub struct MemSource {
     most: usize,
     /// The numbers of the calls that fail; the first call has number 1.
     fails: Vec<u64>,
-    /// How many calls were made; stands still at its end.
+    /// How many calls were made; saturates at its end.
     calls: u64,
-    /// How many of them failed; stands still at its end.
+    /// How many of them failed; saturates at its end.
     faults: u64,
 }
 
@@ -50,7 +50,7 @@ impl MemSource {
     ///
     /// # Errors
     ///
-    /// `NoMemory` where there was none for the copies.
+    /// `NoMemory` if there was none for the copies.
     pub fn new(
         alloc: Global,
         text: &[u8],
@@ -124,9 +124,9 @@ pub struct MemSink {
     most: usize,
     /// The numbers of the calls that fail; the first call has number 1.
     fails: Vec<u64>,
-    /// How many calls were made; stands still at its end.
+    /// How many calls were made; saturates at its end.
     calls: u64,
-    /// How many of them failed; stands still at its end.
+    /// How many of them failed; saturates at its end.
     faults: u64,
 }
 
@@ -155,7 +155,7 @@ impl MemSink {
     ///
     /// # Errors
     ///
-    /// `NoMemory` where there was none for the room.
+    /// `NoMemory` if there was none for the room.
     pub fn new(alloc: Global, room: usize, most: usize, fails: &[u64]) -> Result<MemSink, NoMemory>
         requires { 0 < most }
         ensures { IfOk result (λ s. s ≡ record {

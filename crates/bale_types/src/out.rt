@@ -26,7 +26,7 @@ pub struct Out<'a, K> {
     /// The bytes that the sink doesn't have yet: the first `len`.
     buffer: [u8; BUFFER],
     /// How many those are; a buffer that becomes full is handed over whole and at once, and is
-    /// still full only where that failed.
+    /// still full only if that failed.
     len: usize,
     ghost within: { len ≤ BUFFER },
 }
@@ -53,7 +53,7 @@ impl<'a, K: Sink> Out<'a, K> {
     ///
     /// # Errors
     ///
-    /// `Failed` where the sink's faults rose in this call.
+    /// `Failed` if the sink's faults rose in this call.
     pub fn byte(&mut self, b: u8) -> Result<(), Failed>
         ensures { Appends K.taken K.faults (b ∷ []) self.old self.new result }
     {
@@ -64,7 +64,7 @@ impl<'a, K: Sink> Out<'a, K> {
     ///
     /// # Errors
     ///
-    /// `Failed` where the sink's faults rose in this call.
+    /// `Failed` if the sink's faults rose in this call.
     pub fn text(&mut self, t: &[u8]) -> Result<(), Failed>
         ensures { Appends K.taken K.faults t.now self.old self.new result }
     {
@@ -75,11 +75,11 @@ impl<'a, K: Sink> Out<'a, K> {
         Ok(())
     }
 
-    /// Appends a line, which is laid straight into the buffer where that has room for the longest.
+    /// Appends a line, which is laid straight into the buffer if that has room for the longest.
     ///
     /// # Errors
     ///
-    /// `Failed` where the sink's faults rose in this call.
+    /// `Failed` if the sink's faults rose in this call.
     #[inline(always)]
     pub fn line<L: LineText>(&mut self, line: &L) -> Result<(), Failed>
         ensures { Appends K.taken K.faults (L.text line.now) self.old self.new result }
@@ -97,7 +97,7 @@ impl<'a, K: Sink> Out<'a, K> {
     ///
     /// # Errors
     ///
-    /// `Failed` where the sink's faults rose in this call.
+    /// `Failed` if the sink's faults rose in this call.
     pub fn number(&mut self, n: i64) -> Result<(), Failed>
         ensures { Appends K.taken K.faults (signed_decimal n) self.old self.new result }
     {
@@ -110,7 +110,7 @@ impl<'a, K: Sink> Out<'a, K> {
     ///
     /// # Errors
     ///
-    /// `Failed` where the sink's faults rose in this call.
+    /// `Failed` if the sink's faults rose in this call.
     pub fn flush(&mut self) -> Result<(), Failed>
         ensures ok { OnOk result (K.taken self.new.sink.now ≡ appended_bytes K.taken self.old) }
         ensures emptied { OnOk result (self.new.len ≡ 0) }
@@ -143,7 +143,7 @@ impl<'a, K: Sink> Out<'a, K> {
         ensures full { OnErr result (BUFFER ≤ self.old.len + length t.now) }
         ensures sink { HandsOn K.taken K.faults self.old self.new result }
     {
-        // Full here only where an earlier call failed.
+        // Full here only if an earlier call failed.
         self.flush_if_full()?;
         let count = self.copy_in(t);
         self.flush_if_full()?;

@@ -19,7 +19,7 @@ use std::str;
 #[derive(Drop)]
 pub struct StdinSource<'a, R: Input> {
     reader: R::Reader,
-    /// How many reads failed; stands still at its end.
+    /// How many reads failed; saturates at its end.
     faults: u64,
     runtime: PhantomData<&'a R>,
 }
@@ -59,7 +59,7 @@ impl<R: Input> Source for StdinSource<'_, R> {
 #[derive(Drop)]
 pub struct StdoutSink<'a, R> {
     rt: &'a R,
-    /// How many writes failed; stands still at its end.
+    /// How many writes failed; saturates at its end.
     faults: u64,
 }
 
@@ -96,7 +96,7 @@ impl<R: Print> Sink for StdoutSink<'_, R> {
 #[derive(Drop)]
 pub struct StderrSink<'a, R> {
     rt: &'a R,
-    /// How many writes failed; stands still at its end.
+    /// How many writes failed; saturates at its end.
     faults: u64,
 }
 

@@ -11,10 +11,10 @@ use super::fault::Failed;
 
 /// Gives bytes, from the first to the last.
 pub trait Source {
-    /// The bytes still to come, or None where they aren't told.
+    /// The bytes still to come, or None if they aren't told.
     ghost left: { Self → Option (List ℕ) };
 
-    /// How many calls failed so far; the count stands still at 2^64 - 1.
+    /// How many calls failed so far; the count saturates at 2^64 - 1.
     ghost faults: { Self → ℕ };
 
     /// Puts the next bytes at the front of `buf` and returns how many, at least one unless nothing
@@ -22,7 +22,7 @@ pub trait Source {
     ///
     /// # Errors
     ///
-    /// `Failed` where the read failed: nothing was taken.
+    /// `Failed` if the read failed: nothing was taken.
     fn read(&mut self, buf: &mut [u8]) -> Result<usize, Failed>
         requires { 0 < length buf.old }
         ensures bound { IfOk result (λ count. count ≤ length buf.new) }
@@ -34,17 +34,17 @@ pub trait Source {
 
 /// Takes bytes, and keeps their order.
 pub trait Sink {
-    /// The bytes taken so far, or None where they aren't told.
+    /// The bytes taken so far, or None if they aren't told.
     ghost taken: { Self → Option (List ℕ) };
 
-    /// How many calls failed so far; the count stands still at 2^64 - 1.
+    /// How many calls failed so far; the count saturates at 2^64 - 1.
     ghost faults: { Self → ℕ };
 
     /// Takes bytes from the front of `piece` and returns how many, at least one.
     ///
     /// # Errors
     ///
-    /// `Failed` where the write failed: nothing was taken.
+    /// `Failed` if the write failed: nothing was taken.
     fn write(&mut self, piece: &[u8]) -> Result<usize, Failed>
         requires { 0 < length piece.now }
         ensures some { MovesSome (length piece.now) result }

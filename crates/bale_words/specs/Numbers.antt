@@ -11,16 +11,16 @@ use Rattle.std.specs.Str.Parse.{digits_value}
 abbrev pub number_of : List ℕ → Option ℕ
 number_of text = if nat_lt 0 (length text) && list_all is_ascii_digit text then Some (digits_value 10 text) else None
 
--- A number where it lies in a range, both ends included.
+-- A number if it lies in a range, both ends included.
 -- within 1 64 65 = None
 abbrev pub within : ℕ → ℕ → ℕ → Option ℕ
 within low high n = if nat_le low n && nat_le n high then Some n else None
 
--- The number of a text, where it lies in a range.
+-- The number of a text, if it lies in a range.
 unfoldable pub number_in : ℕ → ℕ → List ℕ → Option ℕ
 number_in low high text = option_and_then (within low high) (number_of text)
 
--- All of some numbers, where each is there.
+-- All of some numbers, if each is there.
 abbrev pub all_some : List (Option ℕ) → Option (List ℕ)
 all_some [] = Some []
 all_some (o ∷ os) = option_and_then (λ n. option_map (λ ns. n ∷ ns) (all_some os)) o

@@ -26,7 +26,7 @@ abbrev pub are_accepted : List (List ℕ) → List Given → Bool
 are_accepted names [] = true
 are_accepted names (g ∷ gs) = is_among g.name names && not (was_given g.name gs) && are_accepted names gs
 
--- The value of an option, where it was given.
+-- The value of an option, if it was given.
 abbrev pub value_in : List ℕ → List Given → Option (List ℕ)
 value_in name [] = None
 value_in name (g ∷ gs) = if bytes_eq g.name name then Some g.value else value_in name gs
@@ -56,7 +56,7 @@ given_by None rest next = None
 given_by (Some (name, None)) rest next = next name
 given_by (Some (name, Some value)) rest next = with_first name value rest
 
--- The options that some words give, where a name may wait for its value; None where they aren't all
+-- The options that some words give, if a name may wait for its value; None if they aren't all
 -- options.
 -- A value in a word of its own doesn't begin with a hyphen.
 abbrev pub given_from : Option (List ℕ) → List (List ℕ) → Option (List Given)

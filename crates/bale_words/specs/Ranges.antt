@@ -16,7 +16,7 @@ pub record CanGenerate (g : Generated) : Type 0 where
   pub full : g.rows ≤ g.entries
   pub few : g.entries ≤ most_entries g.rows
 
--- What is generated, where anything is, can be.
+-- What is generated, if anything is, can be.
 abbrev pub MayGenerate : Option Generated → Type 0
 MayGenerate None = Unit {0}
 MayGenerate (Some g) = CanGenerate g

@@ -1,4 +1,4 @@
--- The values of the options: what a text gives, where it gives anything.
+-- The values of the options: what a text gives, if it gives anything.
 use Rattle.std.specs.Prelude.{ℕ, Bool, true, false, ◌+◌, ◌*◌, ◌-◌, ◌/◌, ◌^◌, ◌==◌, min, List, [], ◌∷◌, Option, Some}
 use Rattle.std.specs.Prelude.{if◌then◌else◌}
 use Rattle.std.specs.Prelude.{None, is_some, codes}
@@ -19,7 +19,7 @@ use Rattle.bale_words.specs.declared.command.Driving.TheVariants.{Threads, Seria
 use Rattle.bale_words.specs.declared.command.Generated.{Generated}
 use Rattle.bale_words.specs.Numbers.{number_in, numbers_in}
 
--- The second step, where the first gave a value: the `?` of the definitions.
+-- The second step, if the first gave a value: the `?` of the definitions.
 infixl 10 ◌>>=◌
 abbrev pub ◌>>=◌ : {A B : Type 0} → Option A → (A → Option B) → Option B
 o >>= next = option_and_then next o

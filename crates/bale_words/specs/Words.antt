@@ -1,5 +1,5 @@
 -- The command line: which lists of words are accepted, and what they ask for.
--- A `do` gives nothing where one of its steps gives nothing.
+-- A `do` gives nothing if one of its steps gives nothing.
 use Rattle.std.specs.Prelude.{ℕ, false, ◌-◌, ◌^◌, List, [], ◌∷◌, ◌++◌, Option, Some, None, codes, if◌then◌else◌}
 use Rattle.bale_words.specs.declared.task.TaskName.{TaskName}
 use Rattle.bale_words.specs.declared.task.TaskName.TheVariants as application
@@ -49,7 +49,7 @@ permutations_of None rows cols = do
   cols ← if_given (numbers_in 44 0 (2 ^ 32 - 1)) cols
   Some (Lists rows cols)
 
--- What an application is told: of sssp the source, 1 where it isn't given, and the width of a
+-- What an application is told: of sssp the source, 1 if it isn't given, and the width of a
 -- bucket.
 abbrev pub search_of : Option (List ℕ) → Option (List ℕ) → Option Task
 search_of source delta = do

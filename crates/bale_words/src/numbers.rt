@@ -43,7 +43,7 @@ impl Numbers {
 /// Numbers from here on lie past every range of an option, so a longer one counts as this one.
 const MOST: u128 = 100_000_000_000_000_000_000;
 
-/// The number of a text, where it is one or more digits and lies in the range.
+/// The number of a text, if it is one or more digits and lies in the range.
 #[tactic(auto, using(crate::proofs::Ranges::within_capped), unfolding(crate::specs::Numbers::number_in))]
 pub(crate) fn number_between(low: u64, high: u64, text: &[u8]) -> Option<u64>
     ensures number { result ≡ number_in low high text.now }
@@ -58,7 +58,7 @@ pub(crate) fn number_between(low: u64, high: u64, text: &[u8]) -> Option<u64>
     }
 }
 
-/// The number that a text of digits stands for, or MOST where it is greater.
+/// The number that a text of digits stands for, or MOST if it is greater.
 fn read_number(text: &[u8]) -> Option<u128>
     ensures { result ≡ option_map (λ n. min n MOST) (number_of text.now) }
 {

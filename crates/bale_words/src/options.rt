@@ -85,7 +85,7 @@ fn begins_with_hyphen(word: &str) -> bool
     }
 }
 
-/// The name of an option's word, and the value behind `=` where there is one; None where the word
+/// The name of an option's word, and the value behind `=` if there is one; None if the word
 /// is no option.
 fn cut(word: &str) -> Option<(&str, Option<&str>)>
     ensures { option_map (λ p. (p.0.now, option_map (λ s. s.now) p.1)) result ≡ long_of word.now }

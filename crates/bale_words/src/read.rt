@@ -26,7 +26,7 @@ use std::alloc::Global;
 /// in any order, each at most once, as `--name value` or `--name=value`.
 ///
 /// # Errors
-/// `Usage` exactly where the words are no command; `NoMemory` where there was none to read them.
+/// `Usage` if and only if the words are no command; `NoMemory` if there was none to read them.
 pub fn read_command(alloc: Global, words: &[String]) -> Result<Command, WordsFault>
     ensures command { IfOk result (λ c. command_of (map string_bytes words.now) ≡ Some c) }
     ensures ranges { IfOk result (λ c. InRanges c) }

@@ -44,7 +44,7 @@ pub enum Task {
     Permute(Permutations),
     Transpose,
     Topo,
-    /// The source, counted from 1, and the width of a bucket where delta-stepping is asked for.
+    /// The source, counted from 1, and the width of a bucket if delta-stepping is asked for.
     Sssp(u32, Option<u64>),
     Tally,
 }
@@ -164,7 +164,7 @@ fn read_lists(
     Ok(Permutations::Lists(rows, cols))
 }
 
-/// The list of `--rperm` or `--cperm`, where it is given.
+/// The list of `--rperm` or `--cperm`, if it is given.
 fn read_list(alloc: Global, text: Option<&str>) -> Result<Option<Numbers>, WordsFault>
     ensures { Reads (if_given (numbers_in 44 0 (2 ^ 32 - 1)) (option_map (λ s. s.now) text.entry)) result }
 {

@@ -16,7 +16,7 @@ use port_bank::{MOST_SLOTS, is_slot_count};
 use route_tensor::Grid;
 use std::alloc::Global;
 
-/// The grid of `--grid`; 4 where it isn't given.
+/// The grid of `--grid`; 4 if it isn't given.
 pub(crate) fn read_grid(alloc: Global, text: Option<&str>) -> Result<Grid, WordsFault>
     ensures { Reads (or_default (4 ∷ []) grid_of (option_map (λ s. s.now) text.entry)) result }
 {
@@ -43,7 +43,7 @@ fn make_grid(dims: &[u32]) -> Result<Grid, WordsFault>
     }
 }
 
-/// The number of `--slots`; 2 where it isn't given.
+/// The number of `--slots`; 2 if it isn't given.
 pub(crate) fn read_slots(text: Option<&str>) -> Option<u32>
     ensures { result ≡ or_default 2 slots_of (option_map (λ s. s.now) text.entry) }
 {
@@ -65,7 +65,7 @@ fn slots_from(text: &[u8]) -> Option<u32>
     }
 }
 
-/// The number of `--buffer`; 64 where it isn't given.
+/// The number of `--buffer`; 64 if it isn't given.
 pub(crate) fn read_buffer(text: Option<&str>) -> Option<u32>
     ensures { result ≡ or_default 64 buffer_of (option_map (λ s. s.now) text.entry) }
 {
@@ -90,7 +90,7 @@ pub(crate) fn is_word(word: &str, text: &str) -> bool
     text == word
 }
 
-/// The answer of `--steady`; no where it isn't given.
+/// The answer of `--steady`; no if it isn't given.
 #[tactic(auto, unfolding(crate::specs::Values::steady_of))]
 pub(crate) fn read_steady(text: Option<&str>) -> Option<bool>
     ensures { result ≡ or_default false steady_of (option_map (λ s. s.now) text.entry) }
@@ -103,7 +103,7 @@ pub(crate) fn read_steady(text: Option<&str>) -> Option<bool>
     }
 }
 
-/// The drive of `--drive`; threads where it isn't given.
+/// The drive of `--drive`; threads if it isn't given.
 #[tactic(auto, unfolding(crate::specs::Values::driving_of))]
 pub(crate) fn read_driving(text: Option<&str>) -> Option<Driving>
     ensures { result ≡ or_default Threads driving_of (option_map (λ s. s.now) text.entry) }
@@ -116,7 +116,7 @@ pub(crate) fn read_driving(text: Option<&str>) -> Option<Driving>
     }
 }
 
-/// The transport of `--via`; conveyors where it isn't given.
+/// The transport of `--via`; conveyors if it isn't given.
 #[tactic(auto, unfolding(crate::specs::Values::transport_of))]
 pub(crate) fn read_transport(application: TaskName, text: Option<&str>) -> Option<Transport>
     ensures { result ≡ or_default Convey (transport_of application) (option_map (λ s. s.now) text.entry) }
@@ -140,7 +140,7 @@ fn biconvey_for(application: TaskName) -> Option<Transport>
     }
 }
 
-/// The matrix of `--gen`, where it is given.
+/// The matrix of `--gen`, if it is given.
 pub(crate) fn read_generated(text: Option<&str>) -> Option<Option<Generated>>
     ensures { result ≡ if_given generated_of (option_map (λ s. s.now) text.entry) }
 {

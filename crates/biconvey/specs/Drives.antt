@@ -18,7 +18,7 @@ pub record AreAskers {S : Type 0} (T : Talk S) (p : ℕ) (askers : List S) : Typ
   pub size : length askers ≡ p
   pub each : (r : ℕ) (s : S) → slice_get askers r ≡ Some s → (T.rank s ≡ r) × (T.ranks s ≡ p)
 
--- The queries of the pair (s,d), and the replies of (d,s), of some askers; none where there is no
+-- The queries of the pair (s,d), and the replies of (d,s), of some askers; none if there is no
 -- such rank.
 abbrev pub queries_of : {S : Type 0} → Talk S → Option S → ℕ → List Item
 queries_of T None d = []

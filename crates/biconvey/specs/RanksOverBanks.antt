@@ -80,7 +80,7 @@ all_moves dims ns s =
     bi_moves dims (map (λ n. n.queries) ns) s.asking s.asked + bi_moves dims (map (λ n. n.replies) ns) s.replying s.replied
 
 -- What the turns of the first i ranks of an order leave of all ranks.
--- rests: where nothing moved, each rank that was turned is at rest.
+-- rests: if nothing moved, each rank that was turned is at rest.
 pub record AfterSomeBiTurns {S : Type 0} (T : Talk S) (dims : List ℕ) (cap slots : ℕ) (steady : Bool) (starts : ℕ → S)
     (order : List ℕ) (i : ℕ) (ns0 : List (BiState S)) (s0 : Sides) (ns : List (BiState S)) (s : Sides) : Type 0 where
   pub world : BiRanksOnBanks T dims cap slots steady starts ns s

@@ -26,7 +26,7 @@ pub record IsSeatOf (rank : ℕ) (dims : List ℕ) (seat : Manning) : Type 0 whe
 
 -- By its seats' lists it is a rank of an exchange, which began in the state `start`; its parcels
 -- are filled as conveyors fill them.
--- some: where both its ways are complete it was turned.
+-- some: if both its ways are complete it was turned.
 pub record IsBiRankAtSeats {S : Type 0} (T : Talk S) (cap : ℕ) (steady : Bool) (start : S) (x : BiSeatedState S) : Type 0 where
   pub queries : IsSeatOf x.node.queries.rank x.node.queries.dims x.queries
   pub replies : IsSeatOf x.node.replies.rank x.node.replies.dims x.replies

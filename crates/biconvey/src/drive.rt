@@ -34,7 +34,7 @@ use std::sync::ledger::Ledger;
 /// Each turn raises `steps` by one.
 ///
 /// # Errors
-/// `NoMemory` where a rank, a bank or the result found none. The askers are dropped.
+/// `NoMemory` if a rank, a bank or the result found none. The askers are dropped.
 pub fn drive_both<const CAP: usize, const HOPS: usize, A: Asker, L: Ledger>(
     alloc: Global,
     grid: &Grid,
@@ -54,7 +54,7 @@ pub fn drive_both<const CAP: usize, const HOPS: usize, A: Asker, L: Ledger>(
         (record { dims = grid.now; cap = CAP; slots = slots; by_slots = false }) steady
         order.now steps.old steps.new) }
 
-    // The turns are bounded before the exchange, also where it ends in `NoMemory`.
+    // The turns are bounded before the exchange, also if it ends in `NoMemory`.
     ensures steps { steps.new ≤ steps.old + bi_turns_of grid.now (sum_by (λ s. length (A.talk.queries s)) askers) }
 {
     closes_law();

@@ -26,10 +26,10 @@ use std::thread::Threads;
 /// and `slots` (1, 2, 4 or 8) parcels on a link at a time. The gate is notified of each turn of a
 /// rank before it is made.
 ///
-/// It waits for its threads, and returns where they do.
+/// It waits for its threads, and returns when they do.
 ///
 /// # Errors
-/// `NoMemory` where a rank, a bank or the result found none. The askers are dropped.
+/// `NoMemory` if a rank, a bank or the result found none. The askers are dropped.
 pub fn thread_both<
     const CAP: usize,
     const HOPS: usize,

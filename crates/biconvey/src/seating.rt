@@ -69,7 +69,7 @@ pub(crate) fn seat_all<'a, const CAP: usize, const HOPS: usize, A: Asker>(
 /// Gathers the seats of ranks whose ways are complete.
 ///
 /// # Errors
-/// `NoMemory` where there was none for a list.
+/// `NoMemory` if there was none for a list.
 pub(crate) fn gather_all<'a, const CAP: usize, const HOPS: usize, A: Asker>(
     alloc: Global,
     queries: &SlotBank<CAP>,

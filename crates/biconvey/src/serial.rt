@@ -23,7 +23,7 @@ use std::sync::ledger::Ledger;
 /// entries (a power of two from 1 to 1,024) and routes of as many hops as the grid has numbers.
 ///
 /// # Errors
-/// `NoMemory` where a rank, a bank or the result found none. The askers are dropped.
+/// `NoMemory` if a rank, a bank or the result found none. The askers are dropped.
 pub fn bi_serial<A: Asker, L: Ledger>(
     alloc: Global,
     grid: &Grid,
@@ -44,7 +44,7 @@ pub fn bi_serial<A: Asker, L: Ledger>(
         (record { dims = grid.now; cap = cap; slots = slots; by_slots = false }) steady
         order.now steps.old steps.new) }
 
-    // The turns are bounded before the exchange, also where it ends in `NoMemory`.
+    // The turns are bounded before the exchange, also if it ends in `NoMemory`.
     ensures steps { steps.new ≤ steps.old + bi_turns_of grid.now (sum_by (λ s. length (A.talk.queries s)) askers) }
 {
     by_hops!(

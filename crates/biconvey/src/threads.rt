@@ -19,10 +19,10 @@ use std::thread::Threads;
 
 /// Drives the askers of all ranks, on threads, as `thread_both` does, over parcels of `cap` entries
 /// (a power of two from 1 to 1,024) and routes of as many hops as the grid has numbers. It waits
-/// for its threads, and returns where they do.
+/// for its threads, and returns when they do.
 ///
 /// # Errors
-/// `NoMemory` where a rank, a bank or the result found none. The askers are dropped.
+/// `NoMemory` if a rank, a bank or the result found none. The askers are dropped.
 pub fn bi_threads<R: Threads + Wait + Sync, A: Asker + Send, G: Gate + Sync>(
     rt: &R,
     alloc: Global,

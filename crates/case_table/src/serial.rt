@@ -19,7 +19,7 @@ use std::sync::ledger::Ledger;
 /// entries (a power of two from 1 to 1,024) and routes of as many hops as the grid has numbers.
 ///
 /// # Errors
-/// `NoMemory` where a program, a node, the bank or the result found none. The programs are dropped.
+/// `NoMemory` if a program, a node, the bank or the result found none. The programs are dropped.
 pub fn case_serial<Q: Program, L: Ledger>(
     alloc: Global,
     grid: &Grid,
@@ -41,7 +41,7 @@ pub fn case_serial<Q: Program, L: Ledger>(
         (record { dims = grid.now; cap = cap; slots = slots; by_slots = false }) (manner_of via steady)
         order.now steps.old steps.new) }
 
-    // The turns are bounded before the run, also where it ends in `NoMemory`.
+    // The turns are bounded before the run, also if it ends in `NoMemory`.
     ensures steps { WithinTurns Q.rules progs (manner_of via steady) grid.now steps.old steps.new }
 {
     by_hops!(

@@ -18,7 +18,7 @@ use std::thread::Threads;
 /// entries (a power of two from 1 to 1,024) and routes of as many hops as the grid has numbers.
 ///
 /// # Errors
-/// `NoMemory` where a program, a node, the bank or the result found none. The programs are dropped.
+/// `NoMemory` if a program, a node, the bank or the result found none. The programs are dropped.
 pub fn case_threads<R: Threads + Wait + Sync, Q: Program + Send, G: Gate + Sync>(
     rt: &R,
     alloc: Global,

@@ -12,7 +12,7 @@ abbrev pub links_of_entries : List Triple → List Link
 links_of_entries entries = flat_map (λ t. record { from = t.i; to = t.j } ∷ record { from = t.j; to = t.i } ∷ []) entries
 
 -- A way from vertex u to vertex v: a list of links that join up.
--- IsPath entries u v (l1, .., lk): l1 begins at u, each begins where the one before it ends, and lk
+-- IsPath entries u v (l1, .., lk): l1 begins at u, each begins if the one before it ends, and lk
 -- ends at v Over the entry (2,5,v) the list (5,2) is a way from 5 to 2, and the empty list is one
 -- from 7 to 7.
 abbrev pub IsPath : List Triple → ℕ → ℕ → List Link → Type 0

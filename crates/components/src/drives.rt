@@ -22,7 +22,7 @@ use std::thread::Threads;
 /// The label of each vertex, found by the ranks of a grid of one number, which one thread turns.
 ///
 /// # Errors
-/// `NoMemory` where there was none.
+/// `NoMemory` if there was none.
 #[tactic(auto, using(crate::proofs::Ranks::some_ranks))]
 pub fn components_serial(alloc: Global, m: &Matrix, grid: &Grid) -> Result<Vec<u64>, NoMemory>
     requires square { m.now.cols ≡ m.now.rows }
@@ -38,7 +38,7 @@ pub fn components_serial(alloc: Global, m: &Matrix, grid: &Grid) -> Result<Vec<u
 /// The label of each vertex, found by the ranks of a grid of one number, which are on threads.
 ///
 /// # Errors
-/// `NoMemory` where there was none.
+/// `NoMemory` if there was none.
 #[tactic(auto, using(crate::proofs::Ranks::some_ranks))]
 pub fn components_threads<R: Threads + Wait + Sync>(
     rt: &R,
@@ -56,7 +56,7 @@ pub fn components_threads<R: Threads + Wait + Sync>(
     labels_of(alloc, m, ranks, &finished.progs)
 }
 
-/// The label of each vertex, where the programs have run to their end.
+/// The label of each vertex, if the programs have run to their end.
 fn labels_of(
     alloc: Global,
     m: &Matrix,

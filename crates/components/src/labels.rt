@@ -55,7 +55,7 @@ impl Labels {
     /// number, and all links are active.
     ///
     /// # Errors
-    /// `NoMemory` where there was none.
+    /// `NoMemory` if there was none.
     pub fn new(alloc: Global, m: &Matrix, ranks: u32, rank: u32) -> Result<Labels, NoMemory>
         requires rank { IsRankOf ranks rank }
         requires square { m.now.cols ≡ m.now.rows }

@@ -17,7 +17,7 @@ use std::alloc::Global;
 /// The programs of `ranks` ranks, from 1 to 64, for the components of a square matrix.
 ///
 /// # Errors
-/// `NoMemory` where there was none for them.
+/// `NoMemory` if there was none for them.
 pub fn start(alloc: Global, m: &Matrix, ranks: u32) -> Result<Progs<Labels>, NoMemory>
     requires ranks { AreRanks ranks }
     requires square { m.now.cols ≡ m.now.rows }

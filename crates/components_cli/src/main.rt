@@ -4,7 +4,7 @@
 //!
 //! That the labels are those is proved (`components_threads`); the streams no contract sees. The
 //! statuses are those of `bale`:
-//! 0, 3 and 4 where a read or a write failed, 5 and 6 where there is no matrix or no square one, 7
+//! 0, 3 and 4 if a read or a write failed, 5 and 6 if there is no matrix or no square one, 7
 //! without memory.
 #![tactic(auto)]
 

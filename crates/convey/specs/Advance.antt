@@ -55,7 +55,7 @@ pub record StaysAtPort {P : Type 0} {cap : ℕ} {M : Type 0} (G : Ghosts P cap M
       (part_of (buffers_of old) (G.sent port) (G.got port)) (part_of (buffers_of new) (G.sent port') (G.got port'))
   pub same_port : SamePort G port port'
 
--- What an answer tells of the phase after it: Complete, exactly where the epoch is over.
+-- What an answer tells of the phase after it: Complete, if and only if the epoch is over.
 pub record HasSettled (told : Bool) (new : State) (answer : Progress) : Type 0 where
   pub is : answer ≡ progress_of new.phase
   pub phase : new.phase ≡ phase_of new
@@ -64,7 +64,7 @@ pub record HasSettled (told : Bool) (new : State) (answer : Progress) : Type 0 w
   pub completes : IsOver new → answer ≡ progress.Complete
 
 -- The lists only grow, each by one parcel at most, and the parcels posted are of the conveyor's
--- shape: where it isn't steady, an epoch's entries travel in few parcels
+-- shape: if it isn't steady, an epoch's entries travel in few parcels
 -- (`port_bank::few_parcels_law`).
 pub record ListsGrow {P : Type 0} {cap : ℕ} {M : Type 0} (G : Ghosts P cap M) (old : State)
     (port port' : P) : Type 0 where
@@ -97,9 +97,9 @@ pub record WereAsked {P : Type 0} {cap : ℕ} {M : Type 0} (G : Ghosts P cap M) 
       → G.got port' l ≡ G.got port l ++ more
       → Ends ((in_of old l).parcel.untaken ++ flat_map (λ p. p.entries) more) (in_of new l).parcel.untaken
 
--- What the links out show of the posts, where all of them had memory.
+-- What the links out show of the posts, if all of them had memory.
 -- each: one that is due still was looked at in vain.
--- full, ending, closing: where nothing was sent on a link it is crowded if its parcel was full, or
+-- full, ending, closing: if nothing was sent on a link it is crowded if its parcel was full, or
 -- if its hop has reached its end and it isn't closed.
 -- stopped: where entries are left in an inbox below the last hop, the first one is held up at its
 -- next link.

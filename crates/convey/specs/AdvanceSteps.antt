@@ -44,7 +44,7 @@ pub record GoesOn (old new : State) (sent sent' got got' : Logs) : Type 0 where
   pub fills : (l : ℕ) (more : List Shipped) → sent' l ≡ sent l ++ more → IsConveyorShape old.steady old.cap more
 
 -- What posts on links out leave of the rank's state and of its port.
--- idle: what the port knows of a link in changes only where a parcel was posted on it, from the
+-- idle: what the port knows of a link in changes only if a parcel was posted on it, from the
 -- rank to itself.
 pub record LeftByPosts {P : Type 0} {cap : ℕ} {M : Type 0} (G : Ghosts P cap M) (old new : State)
     (port port' : P) : Type 0 where
@@ -64,9 +64,9 @@ pub record LeftByCollects {P : Type 0} {cap : ℕ} {M : Type 0} (G : Ghosts P ca
   pub same_outs : SameOuts G port port'
   pub same_port : SamePort G port port'
 
--- What became of a link in that was asked where it wanted a parcel.
--- left: where it didn't want one, nothing was got, and it wasn't asked.
--- rose, idle: where it did, and nothing was got, the port has listened since it was asked before,
+-- What became of a link in that was asked if it wanted a parcel.
+-- left: if it didn't want one, nothing was got, and it wasn't asked.
+-- rose, idle: if it did, and nothing was got, the port has listened since it was asked before,
 -- and knows of nothing more.
 -- once: no more than one parcel was got.
 pub record WasAsked (st : State) (l : ℕ) (log log' : List Shipped) (noted noted' : ℕ) (is_idle : Bool) : Type 0 where
@@ -82,7 +82,7 @@ pub record OneMore (entries : List Entry) (log log' : List Shipped) : Type 0 whe
   pub is : log' ≡ log ++ parcel ∷ []
   pub holds : parcel.entries ≡ entries
 
--- What posting leaves of a link's log, where these entries waited: it is as before, or has one
+-- What posting leaves of a link's log, if these entries waited: it is as before, or has one
 -- parcel more, of them.
 abbrev pub WasPosted : List Entry → List Shipped → List Shipped → Type 0
 WasPosted entries log log' = (log' ≡ log) ⊎ OneMore entries log log'
@@ -102,7 +102,7 @@ pub record PassedOn (dims : List ℕ) (rank : ℕ) (old new : State) (sent got :
 -- asked, idle: of one that wanted a parcel and got none, the port has listened since it was asked
 -- before, and knows of nothing more, but for what was posted there.
 -- lies: the inbox holds the end of what it held and of what came.
--- waits: where nothing was sent, the open parcel begins with what it held.
+-- waits: if nothing was sent, the open parcel begins with what it held.
 -- one_sent, one_got: each log has at most one parcel more.
 -- not_at_once: the call that says that the rank is done doesn't complete it.
 pub record MovesOn (old new : State) (done : Bool) (sent sent' got got' : Logs) (noted noted' : ℕ → ℕ)
@@ -123,7 +123,7 @@ pub record MovesOn (old new : State) (done : Bool) (sent sent' got got' : Logs) 
   pub one_got : (l : ℕ) → l < links old.dims → reader_at old.dims l ≡ old.rank → length (got' l) ≤ length (got l) + 1
   pub not_at_once : old.done ≡ false → IsOver new → ⊥
 
--- What they leave where all posts had memory.
+-- What they leave if all posts had memory.
 -- served: a link out that is still due was looked at in vain.
 -- full: so was one on which nothing was sent though its parcel was full.
 -- stopped: where entries are left in an inbox of an earlier hop, the first one is held up at its

@@ -16,8 +16,9 @@ use Rattle.port_bank.specs.Relay.{RelayLaw}
 use Rattle.convey.specs.Buffers.{Buffers}
 
 -- A link out, with its open parcel, against what was sent on it.
--- lasts: it has ended as many epochs as there were, and the current one exactly where it is closed.
--- by_last: where it is closed, the latest parcel is marked last.
+-- lasts: it has ended as many epochs as there were, and the current one if and only if it is
+-- closed.
+-- by_last: if it is closed, the latest parcel is marked last.
 -- fair: what waits has tags that are fair on its hop.
 pub record OutAgrees (dims : List ℕ) (epoch l : ℕ) (waiting : List Entry) (closed : Bool)
     (log : List Shipped) : Type 0 where

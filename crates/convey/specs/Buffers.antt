@@ -12,7 +12,7 @@ use Rattle.hop_core.specs.State.{State, out_at, in_at}
 -- was sent.
 -- unread, ended: for each link in, the untaken entries of its inbox, and whether its last parcel
 -- was got.
--- latest: the link and the entry of the latest call, where that was a pull that gave one.
+-- latest: the link and the entry of the latest call, if that was a pull that gave one.
 pub record Buffers : Type 0 where
   pub dims : List ℕ
   pub rank : ℕ

@@ -16,18 +16,18 @@ use Rattle.hop_core.specs.Link.{is_due, is_wanted}
 use Rattle.hop_core.specs.State.{State, at_end}
 use Rattle.convey.specs.Buffers.{out_of, in_of}
 
--- A link out is due where its open parcel is full, or isn't empty on a steady conveyor, or where
+-- A link out is due if its open parcel is full, or isn't empty on a steady conveyor, or if
 -- its hop has reached its end and it isn't closed.
 abbrev pub IsDue : State → ℕ → Type 0
 IsDue st l = is_due st.cap st.steady (at_end st.dims st.ins st.done (hop_at st.dims l)) (out_of st l) ≡ true
 
--- What became of a link out that was served where it was due: if it still is, the port looked in
+-- What became of a link out that was served if it was due: if it still is, the port looked in
 -- vain for room.
 pub record WasServed (st : State) (l : ℕ) (looks looks' : ℕ) (is_crowded : Bool) : Type 0 where
   pub looked : IsDue st l → RoseOrFull looks looks'
   pub crowded : IsDue st l → is_crowded ≡ true
 
--- A link in wants a parcel where its inbox is empty and it hasn't ended.
+-- A link in wants a parcel if its inbox is empty and it hasn't ended.
 abbrev pub Wants : State → ℕ → Type 0
 Wants st l = is_wanted (in_of st l) ≡ true
 
@@ -49,7 +49,7 @@ abbrev pub posts_below : State → Logs → Logs → ℕ → List Call
 posts_below st sent sent' m =
     sweep_calls (λ l. (sender_at st.dims l == st.rank) && was_served st l (sent l) (sent' l)) Post m
 
--- Where an advance without memory stopped: at a link out that is due, after the posts on the links
+-- If an advance without memory stopped: at a link out that is due, after the posts on the links
 -- below it.
 pub record StopsAt (st : State) (sent sent' : Logs) (before calls : List Call) : Type 0 where
   pub link : ℕ
@@ -100,7 +100,7 @@ WasFull cap st sent sent' m = (length (out_of st m).parcel.untaken ≡ cap) ⊎ 
 
 -- Why an advance that had memory left an entry in an inbox: the open parcel of its next link m was
 -- full.
--- crowded: where nothing was sent there, the link is crowded.
+-- crowded: if nothing was sent there, the link is crowded.
 -- At capacity 2 and with [x, y] waiting for link m, z is left; with [x] waiting, z is passed on
 -- after it.
 pub record HeldUp (cap : ℕ) (st : State) (sent sent' : Logs) (is_crowded : ℕ → Bool) (m : ℕ) : Type 0 where

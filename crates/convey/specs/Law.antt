@@ -19,8 +19,8 @@ pub record IsLastIn (b : Buffers) (l : ℕ) : Type 0 where
 
 -- What a rank's buffers keep by themselves.
 -- closed_empty: nothing waits on a link that is closed.
--- closed_done: a link of hop 1 is closed only where the rank is done.
--- all_closed, all_ended, all_read: a rank is complete only where each link is closed or has ended,
+-- closed_done: a link of hop 1 is closed only if the rank is done.
+-- all_closed, all_ended, all_read: a rank is complete only if each link is closed or has ended,
 -- and nothing is unread.
 -- latest: a pull takes from a link of the last hop.
 pub record IsSound (b : Buffers) : Type 0 where
@@ -65,7 +65,7 @@ StaysTogether = (dims : List ℕ) (cap slots r : ℕ) (old new : ℕ → Buffers
     → AgreeTogether dims cap slots old sent got → IsCall dims cap slots r old new sent sent' got got'
     → AgreeTogether dims cap slots new sent' got'
 
--- The exchange law: where they agree, and a call is a step of its rank's own part, it is a step of
+-- The exchange law: if they agree, and a call is a step of its rank's own part, it is a step of
 -- the machine.
 abbrev pub ExchangeLaw : Type 0
 ExchangeLaw = (dims : List ℕ) (cap slots r : ℕ) (step : Step) (old new : ℕ → Buffers) (sent sent' got got' : Logs)
@@ -74,7 +74,7 @@ ExchangeLaw = (dims : List ℕ) (cap slots r : ℕ) (step : Step) (old new : ℕ
     → IsOwnStep step (state_of dims old sent got r) (state_of dims new sent' got' r)
     → IsStep (ranks dims) r step (state_of dims old sent got) (state_of dims new sent' got')
 
--- The closes law: where they agree, the parts that they stand for close their epochs together.
+-- The closes law: if they agree, the parts that they stand for close their epochs together.
 abbrev pub ClosesLaw : Type 0
 ClosesLaw = (dims : List ℕ) (cap slots : ℕ) (all : ℕ → Buffers) (sent got : Logs)
     → AgreeTogether dims cap slots all sent got → EpochsClose (ranks dims) (state_of dims all sent got)

@@ -16,7 +16,7 @@ progress_of Endgame = progress.More
 progress_of Cleanup = progress.Near
 progress_of Complete = progress.Complete
 
--- The step that an advance is: Done where it notes done for the first time in the epoch, else
--- Complete where the phase after it is Complete, else Idle.
+-- The step that an advance is: Done if it notes done for the first time in the epoch, else
+-- Complete if the phase after it is Complete, else Idle.
 abbrev pub advance_step : Bool → Bool → Bool → Step
 advance_step was now complete = if (now && not was) then Done else if complete then Completed else Idle

@@ -1,4 +1,4 @@
--- The rest law: where a sweep over the conveyors of all ranks moved nothing, the least epoch is
+-- The rest law: if a sweep over the conveyors of all ranks moved nothing, the least epoch is
 -- over.
 use Rattle.std.specs.Prelude.{◌≡◌, ◌⊎◌, ℕ, ◌<◌, ◌≤◌, true, false, List, [], length, slice_get, Some}
 use Rattle.bale_items.specs.declared.item.Entry.{Entry}
@@ -25,13 +25,13 @@ pub record HasBusy (dims : List ℕ) (r : ℕ) (sent got : Logs) : Type 0 where
   pub sender : sender_at dims link ≡ r
   pub busy : IsBusy sent got link
 
--- What rank r tells after an advance that moved no parcel, where the lists of the bank are sent and
+-- What rank r tells after an advance that moved no parcel, if the lists of the bank are sent and
 -- got: old is its conveyor just before that advance, and new just after it.
 -- pushed: it is done; else a push was refused, and one of its links out is busy.
 -- read: all that came for it was pulled.
 -- lies, kept: of its inboxes, none lost an entry but by passing it on, and none below the last hop
 -- passed one on.
--- idle: where an inbox wanted a parcel, all that was posted there was collected.
+-- idle: if an inbox wanted a parcel, all that was posted there was collected.
 -- stopped: where entries are left in an inbox below the last hop, the next link of the first one is
 -- busy.
 -- closing: a link out that may be closed, and isn't, is busy.

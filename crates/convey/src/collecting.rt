@@ -43,7 +43,7 @@ pub(crate) fn collect_all<const CAP: usize, const HOPS: usize, P: Port<CAP>>(
     }
 }
 
-/// Collects once on the link in from this neighbour, where it wants a parcel: into the spare
+/// Collects once on the link in from this neighbour, if it wants a parcel: into the spare
 /// parcel, which the inbox is then exchanged for.
 pub(crate) fn collect_one<const CAP: usize, const HOPS: usize, P: Port<CAP>>(
     state: &mut RankState<CAP, HOPS>,

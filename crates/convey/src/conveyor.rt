@@ -90,7 +90,7 @@ impl<const CAP: usize, const HOPS: usize> Conveyor<CAP, HOPS> {
         self.state.phase()
     }
 
-    /// Does nothing, and tells what holds of a conveyor at every moment.
+    /// Does nothing, and states what holds of a conveyor at every moment.
     #[inline]
     pub fn known(&self)
         ensures { Stands CAP self.now }
@@ -117,7 +117,7 @@ impl<const CAP: usize, const HOPS: usize> Conveyor<CAP, HOPS> {
         self.state.begin();
     }
 
-    /// Puts `item` into the open parcel toward `to`. Where that is full, the caller advances and
+    /// Puts `item` into the open parcel toward `to`. If that is full, the caller advances and
     /// tries again.
     #[inline]
     pub fn push(&mut self, item: Item, to: u32) -> Pushed
@@ -155,8 +155,8 @@ impl<const CAP: usize, const HOPS: usize> Conveyor<CAP, HOPS> {
         self.state.pull()
     }
 
-    /// The link in from which the next pull takes, by the number of its neighbour. None exactly
-    /// where a pull would give none.
+    /// The link in from which the next pull takes, by the number of its neighbour. None if
+    /// and only if a pull would give none.
     #[inline]
     pub fn unread(&mut self) -> Option<u32>
         requires begun { self.old.phase ≢ Phase.Dormant }
@@ -275,8 +275,8 @@ impl<const CAP: usize, const HOPS: usize> Conveyor<CAP, HOPS> {
         ensures asked { WereAsked P.Port self.old self.new port.old port.new }
         ensures served { OnOk result (WereServed P.Port self.old self.new port.old port.new) }
 
-        // Where nothing was sent on a link out, its open parcel begins with what it held. An entry
-        // is left in an inbox below the last hop only where the open parcel that it goes to was
+        // If nothing was sent on a link out, its open parcel begins with what it held. An entry
+        // is left in an inbox below the last hop only if the open parcel that it goes to was
         // full.
         ensures waits { (l : ℕ) → l < links self.old.dims → sender_at self.old.dims l ≡ self.old.rank
             → P.sent port.new l ≡ P.sent port.old l

@@ -12,7 +12,7 @@
 //! | Working, not done | `push` | the item stands in an open parcel, or that is `Full` and nothing changed |
 //! | all but Dormant | `pull` | the next item with its sender, or none is unread |
 //! | all but Dormant | `unread`, `batch`, `sender_of`, `pull_all` | all items of one inbox at once, as so many pulls would give them |
-//! | any | `unpull` | the item of the latest call is unread again, where that was a pull that gave one |
+//! | any | `unpull` | the item of the latest call is unread again, if that was a pull that gave one |
 //! | all but Dormant | `advance` | what can be sent and collected now is; `More`, `Near` or `Complete` |
 //! | Complete | `reset` | Dormant, the epoch one higher |
 //!

@@ -73,7 +73,7 @@ pub(crate) fn move_on<const CAP: usize, const HOPS: usize, P: Port<CAP>>(
     post_all(state, parcel, port)
 }
 
-/// Notes that nothing more is pushed in this epoch, where that is so.
+/// Notes that nothing more is pushed in this epoch, if that is so.
 fn note_done<const CAP: usize, const HOPS: usize>(state: &mut RankState<CAP, HOPS>, done: bool)
     requires begun { state.old.phase ≢ Phase.Dormant }
     requires stays { state.old.done ≡ true → done ≡ true }

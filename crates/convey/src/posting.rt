@@ -52,8 +52,8 @@ pub(crate) fn post_all<const CAP: usize, const HOPS: usize, P: Port<CAP>>(
     Ok(())
 }
 
-/// Posts once on the link out to this neighbour, where it is due: the open parcel is exchanged for
-/// the spare one, and back where it could not be sent.
+/// Posts once on the link out to this neighbour, if it is due: the open parcel is exchanged for
+/// the spare one, and back if it could not be sent.
 pub(crate) fn post_one<const CAP: usize, const HOPS: usize, P: Port<CAP>>(
     state: &mut RankState<CAP, HOPS>,
     spare: &mut Parcel<CAP>,

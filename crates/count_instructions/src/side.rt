@@ -76,7 +76,7 @@ impl<const CAP: usize, const HOPS: usize> Side<CAP, HOPS> {
         over
     }
 
-    /// Where told so, ends the epoch that is complete, if one is, and begins the next.
+    /// If told so, ends the epoch that is complete, if one is, and begins the next.
     fn begin(&mut self, begins: bool)
         ensures { StaysWithRank self.old.conveyor self.new.conveyor }
     {
@@ -130,7 +130,7 @@ impl<const CAP: usize, const HOPS: usize> Side<CAP, HOPS> {
         self.sum = sum_all(&mut self.conveyor, self.sum);
     }
 
-    /// Pushes items, where the epoch still takes them.
+    /// Pushes items, if the epoch still takes them.
     fn push(&mut self, items: u64)
         ensures { StaysWithRank self.old.conveyor self.new.conveyor }
     {

@@ -24,7 +24,7 @@ pub record DeltaState : Type 0 where
   pub round : ℕ
   -- the number of vertices
   pub rows : ℕ
-  -- how many weights a bucket has: weight x stands in bucket x div width; an edge is light where it
+  -- how many weights a bucket has: weight x stands in bucket x div width; an edge is light if it
   -- weighs at most as much
   pub width : ℕ
   pub phase : Phase
@@ -53,7 +53,7 @@ may_delta shape ranks round to from x = false
 abbrev pub no_bucket : ℕ
 no_bucket = 2 ^ 64 - 1
 
--- The bucket of a least weight, or `no_bucket` where nothing is pending.
+-- The bucket of a least weight, or `no_bucket` if nothing is pending.
 abbrev pub bucket_of : ℕ → Option ℕ → ℕ
 bucket_of width None = no_bucket
 bucket_of width (Some w) = min (w / width) no_bucket

@@ -238,7 +238,7 @@ impl Delta {
         }
     }
 
-    /// Takes in an item of a rank, where it fits.
+    /// Takes in an item of a rank, if it fits.
     #[inline(always)]
     fn take_in(&mut self, seat: Seat, from: u32, item: Item) -> Result<(), NoMemory>
         requires { IsDeltaSeat seat self.old }
@@ -289,7 +289,7 @@ impl Delta {
         self.bucket = self.bucket.min(bucket);
     }
 
-    /// Takes the offer of a weight in, where its vertex is an own one.
+    /// Takes the offer of a weight in, if its vertex is an own one.
     #[inline(always)]
     fn take_offer(&mut self, seat: Seat, item: Item) -> Result<(), NoMemory>
         requires seat { IsDeltaSeat seat self.old }

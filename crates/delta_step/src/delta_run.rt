@@ -27,7 +27,7 @@ use std::alloc::Global;
 ///
 /// # Errors
 ///
-/// `NoMemory` where there was none for the programs.
+/// `NoMemory` if there was none for the programs.
 pub fn delta_start(
     alloc: Global,
     m: &Matrix,
@@ -81,7 +81,7 @@ fn part_of(
 ///
 /// # Errors
 ///
-/// `Failed` where the sink's faults rose in this call.
+/// `Failed` if the sink's faults rose in this call.
 pub fn delta_write<K: Sink>(p: &Progs<Delta>, out: &mut Out<'_, K>) -> Result<(), Failed>
     requires ended { (m : Sparse) × (source : ℕ) × DeltaEnded m source p.now }
     ensures least { (m : Sparse) (source : ℕ) → DeltaEnded m source p.now → (weights : ℕ → Option ℕ)

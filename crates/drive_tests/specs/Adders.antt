@@ -3,7 +3,7 @@ use Rattle.std.specs.Prelude.{◌≡◌, ℕ, ◌+◌, ◌%◌, ◌^◌, ◌<◌
 use Rattle.std.specs.List.{All}
 use Rattle.round_program.specs.Talks.{Talk}
 
--- A rank's queries, and what it heard as the reply to each; 0 where it heard nothing yet.
+-- A rank's queries, and what it heard as the reply to each; 0 if it heard nothing yet.
 pub record AdderState : Type 0 where
   pub rank : ℕ
   pub ranks : ℕ

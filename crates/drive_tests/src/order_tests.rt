@@ -13,7 +13,7 @@ use std::marker::Brand;
 use std::sync::ledger::{Blank, Ledger};
 use std::test::Fail;
 
-/// Which of three ranks were turned in the first two sweeps, where the sweeps go from rank 0 up, or
+/// Which of three ranks were turned in the first two sweeps, if the sweeps go from rank 0 up, or
 /// from rank 2 down.
 fn turned_by<L: Ledger>(alloc: Global, reversed: bool, blank: Blank) -> Result<u64, NoMemory>
     requires blank { IsBlankOf L.name L.parts blank.name blank.parts }

@@ -1,4 +1,4 @@
-//! A rank that refuses each absorb: both drives answer that memory was wanting, and every rank goes
+//! A rank that refuses each absorb: both drives answer that memory ran out, and every rank goes
 //! on turning.
 ghost use Rattle.std.specs.Prelude.{◌<◌};
 ghost use Rattle.bale_items.specs.Ledgers.{IsBlankOf};
@@ -44,7 +44,7 @@ fn refused_absorbs(rt: HostRuntime) -> Result<(), Fail> {
     Ok(())
 }
 
-/// Whether `drive_serial` answers that memory was wanting, where rank 2 of four refuses each
+/// Whether `drive_serial` answers that memory ran out, if rank 2 of four refuses each
 /// absorb.
 fn is_refused_serially<L: Ledger>(alloc: Global, via: Via, blank: Blank) -> Result<bool, NoMemory>
     requires blank { IsBlankOf L.name L.parts blank.name blank.parts }

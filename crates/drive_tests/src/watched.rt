@@ -54,7 +54,7 @@ impl Watch {
         }
     }
 
-    /// Logs that a rank is turned, where another was before it, for the first few turns.
+    /// Logs that a rank is turned, if another was before it, for the first few turns.
     fn log(&self, rank: u32) {
         let turns = self.turns.load(Ordering::SeqCst);
         let digit = u64::from(rank).saturating_add(1);
@@ -68,7 +68,7 @@ impl Watch {
         self.turns.load(Ordering::SeqCst)
     }
 
-    /// Waits for a flag; notes where it gives up.
+    /// Waits for a flag; notes if it gives up.
     pub(crate) fn hold(&self, flag: &AtomicBool) {
         for _ in 0..TRIES {
             if flag.load(Ordering::SeqCst) {
@@ -100,13 +100,13 @@ impl Watch {
     }
 }
 
-/// What a program does beside its counting.
+/// What a program does besides its counting.
 #[derive(Clone, Copy, PartialEq, Eq, Debug)]
 pub(crate) enum Deed {
     Counts,
     /// Notes an absorb that comes too early.
     Absorbs,
-    /// Looks for the other rank where it is first asked for an emission.
+    /// Looks for the other rank if it is first asked for an emission.
     Looks,
     /// Rank 2 refuses each absorb.
     Refuses,

@@ -21,7 +21,7 @@ pub record StillSends {S : Type 0} (R : LetterRules S) (s t : S) : Type 0 where
   pub ranks : R.ranks t ≡ R.ranks s
   pub letters : R.letters t ≡ R.letters s
 
--- A state of the same rank in the next round of the same run. The round's number stands still at
+-- A state of the same rank in the next round of the same run. The round's number saturates at
 -- 2^64 - 1.
 pub record NextLetters {S : Type 0} (R : LetterRules S) (s t : S) : Type 0 where
   pub valid : R.valid t

@@ -8,12 +8,12 @@ use Rattle.elastic.specs.LetterRules.{LetterRules}
 abbrev pub letters_to : {S : Type 0} → LetterRules S → S → ℕ → List (List ℕ)
 letters_to R s d = map (λ e. e.1) (filter (λ e. e.0 == d) (R.letters s))
 
--- What a program sends to rank d, where there is a program.
+-- What a program sends to rank d, if there is a program.
 abbrev pub letters_to_of : {S : Type 0} → LetterRules S → Option S → ℕ → List (List ℕ)
 letters_to_of R None d = []
 letters_to_of R (Some s) d = letters_to R s d
 
--- What the rank numbered f of a list of programs sends to rank d; nothing where there is no rank f.
+-- What the rank numbered f of a list of programs sends to rank d; nothing if there is no rank f.
 abbrev pub letters_by : {S : Type 0} → LetterRules S → List S → ℕ → ℕ → List (List ℕ)
 letters_by R ss d f = letters_to_of R (slice_get ss f) d
 

@@ -27,7 +27,7 @@ spelling_of letters = flat_map (λ e. map (λ x. (e.0, x)) (spelling e.1)) lette
 abbrev pub mailing : {S : Type 0} → LetterRules S → S → MailState S
 mailing R s = record { inner = s; outgoing = spelling_of (R.letters s); begun = replicate (R.ranks s) [] }
 
--- Whether items are a whole letter, where they are no more than one.
+-- Whether items are a whole letter, if they are no more than one.
 abbrev pub is_whole : List Item → Bool
 is_whole [] = false
 is_whole (x ∷ xs) = length xs == further (length_in x)
@@ -46,7 +46,7 @@ abbrev pub begun_after : List (List Item) → ℕ → Item → List (List Item)
 begun_after begun from x =
     slice_set begun from (if is_whole (with_next_item begun from x) then [] else with_next_item begun from x)
 
--- One more item was absorbed. Where it makes a letter whole, the letter program absorbs the letter.
+-- One more item was absorbed. If it makes a letter whole, the letter program absorbs the letter.
 abbrev pub item_absorbed : {S : Type 0} → LetterRules S → MailState S → ℕ → Item → MailState S
 item_absorbed R s from x =
     record s {

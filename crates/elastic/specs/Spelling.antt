@@ -11,7 +11,7 @@ pub record IsLetter (l : List ℕ) : Type 0 where
   pub short : length l ≤ 65_535
   pub bytes : All (λ b. b < 256) l
 
--- The first k bytes of a list, and 0 where there is none.
+-- The first k bytes of a list, and 0 if there is none.
 -- pad 4 (7, 8) = 7, 8, 0, 0; pad 2 (7, 8, 9) = 7, 8
 abbrev pub pad : ℕ → List ℕ → List ℕ
 pad zero bytes = []

@@ -29,7 +29,7 @@ pub trait LetterProgram: Drop {
         ensures value { result ≡ rules.rank self.now }
         ensures valid { rules.valid self.now };
 
-    /// Does nothing, and tells that the state is one of those that the laws speak of.
+    /// Does nothing, and states that the state is one of those that the laws speak of.
     fn known(&self)
         ensures { rules.valid self.now }
     {
@@ -40,7 +40,7 @@ pub trait LetterProgram: Drop {
     fn ranks(&self) -> u32
         ensures { result ≡ rules.ranks self.now };
 
-    /// The number of this round; it stands still at 2^64 - 1.
+    /// The number of this round; it saturates at 2^64 - 1.
     fn round(&self) -> u64
         ensures { result ≡ rules.round self.now };
 

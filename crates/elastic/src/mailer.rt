@@ -43,7 +43,7 @@ impl<Q: LetterProgram> Mailer<Q> {
     ///
     /// # Errors
     ///
-    /// `NoMemory` where there was none for what is sent.
+    /// `NoMemory` if there was none for what is sent.
     pub fn new(alloc: Global, q: Q) -> Result<Mailer<Q>, NoMemory>
         ensures { IfOk result (λ m. m ≡ mailing Q.rules q) }
     {

@@ -61,14 +61,14 @@ fn next_item(bytes: &[u8]) -> Item
     }
 }
 
-/// What stands behind the first `len` bytes, and nothing where there are no more.
+/// What stands behind the first `len` bytes, and nothing if there are no more.
 fn behind(bytes: &[u8], len: usize) -> &[u8]
     ensures { result.now ≡ drop len bytes.now }
 {
     &bytes[len.min(bytes.len())..]
 }
 
-/// The first eight bytes as a word, from the lowest bits up; 0 where there is no byte.
+/// The first eight bytes as a word, from the lowest bits up; 0 if there is no byte.
 fn word_of(bytes: &[u8]) -> u64
     ensures { result ≡ packed_word bytes.now }
 {

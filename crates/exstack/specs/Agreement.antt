@@ -34,11 +34,11 @@ cycle_after n Full = n + 1
 cycle_after n AllDone = n
 
 -- A link whose parcel of this round may be due, against its log.
--- ended: it has ended as many epochs as there were, and the current one exactly where it is through
--- with it.
--- by_last: where it is through, nothing stands after the parcel marked last.
+-- ended: it has ended as many epochs as there were, and the current one if and only if it is
+-- through with it.
+-- by_last: if it is through, nothing stands after the parcel marked last.
 -- each_round: else the current segment has one parcel for each round, but for that which is due.
--- until: where it is through, that segment has one for each round up to that in which it ended,
+-- until: if it is through, that segment has one for each round up to that in which it ended,
 -- which is this one or an earlier one.
 -- Example: a link that was closed in cycle 0 has one parcel, the proceed parcel of that cycle,
 -- while the exstack goes on to cycle 3.

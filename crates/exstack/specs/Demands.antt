@@ -12,7 +12,7 @@ pub record MayPushTo (st : Stack) (to : ℕ) : Type 0 where
   pub within : to < st.ranks
 
 -- Of these links in none below `from` has an unread item.
--- Where of three links only the last one has, from may be 0, 1 or 2.
+-- If of three links only the last one has, from may be 0, 1 or 2.
 pub record NoneBelow (ins : List StackIn) (from : ℕ) : Type 0 where
   pub few : length ins ≤ 64
   pub high : from ≤ length ins

@@ -46,7 +46,7 @@ StacksStayTogether = (ranks cap slots r : ℕ) (old new : ℕ → Stack) (sent s
     → StacksAgree ranks cap slots old sent got → IsStackCall ranks cap slots r old new sent sent' got got'
     → StacksAgree ranks cap slots new sent' got'
 
--- The exchange law: where they agree, and a call is a step of its rank's own part, it is a step of
+-- The exchange law: if they agree, and a call is a step of its rank's own part, it is a step of
 -- the machine.
 abbrev pub StackExchangeLaw : Type 0
 StackExchangeLaw = (ranks cap slots r : ℕ) (step : Step) (old new : ℕ → Stack) (sent sent' got got' : Logs)
@@ -68,7 +68,7 @@ ProceedLaw = (ranks cap slots r : ℕ) (was now complete : Bool) (old new : ℕ 
     → AreOwnSteps (proceed_steps was now complete) (stacks_state ranks old sent got r) (stacks_state ranks new sent' got' r)
     → AreSteps ranks r (proceed_steps was now complete) (stacks_state ranks old sent got) (stacks_state ranks new sent' got')
 
--- The closes law: where they agree, the parts that they stand for close their epochs together.
+-- The closes law: if they agree, the parts that they stand for close their epochs together.
 abbrev pub StackClosesLaw : Type 0
 StackClosesLaw = (ranks cap slots : ℕ) (all : ℕ → Stack) (sent got : Logs)
     → StacksAgree ranks cap slots all sent got → EpochsClose ranks (stacks_state ranks all sent got)

@@ -38,7 +38,7 @@ abbrev pub plain_entry : Item → Entry
 plain_entry item = record { tag = no_tag; item = item }
 
 -- How many entries may still be pushed on a link out.
--- At capacity 2 it is 1 where [x] waits.
+-- At capacity 2 it is 1 if [x] waits.
 abbrev pub headroom_of : ℕ → StackOut → ℕ
 headroom_of cap o = cap - length o.waiting
 
@@ -70,7 +70,7 @@ begun_out o = record o { due = not o.closed }
 abbrev pub begun_in : StackIn → StackIn
 begun_in i = record { unread = []; back = None; ended = i.ended; due = not i.ended }
 
--- The parcel of a link out in a round, and the link after it was posted: it is closed where that
+-- The parcel of a link out in a round, and the link after it was posted: it is closed if that
 -- was the last one.
 abbrev pub parcel_of : Bool → ℕ → StackOut → Shipped
 parcel_of last epoch o = record { entries = o.waiting; last = last; epoch = epoch }

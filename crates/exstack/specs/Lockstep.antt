@@ -43,7 +43,7 @@ pub record InStep (ranks cap slots : ℕ) (n : ℕ → ℕ) (all : ℕ → Stack
   pub agree : (r : ℕ) → r < ranks
       → AgreesIn (n r) (all r) (starting_at (ranks ∷ []) r sent) (ending_at (ranks ∷ []) r got)
 
--- Where every rank has finished as many rounds as rank r, all that was posted on the links on which
+-- If every rank has finished as many rounds as rank r, all that was posted on the links on which
 -- r has a parcel to post was collected: one slot is room enough.
 abbrev pub RoomLaw : Type 0
 RoomLaw = (ranks cap slots : ℕ) (n : ℕ → ℕ) (all : ℕ → Stack) (sent got : Logs) → InStep ranks cap slots n all sent got
@@ -51,7 +51,7 @@ RoomLaw = (ranks cap slots : ℕ) (n : ℕ → ℕ) (all : ℕ → Stack) (sent 
     → HasFinishedRounds (all r).epoch (finished_in (n r) (all r).stage) (n b) (all b) → (stack_out_at (all r) b).due ≡ true
     → length (got (number ranks r b)) ≡ length (sent (number ranks r b))
 
--- And where every rank has posted its parcels of the round that r is in, something waits on each
+-- And if every rank has posted its parcels of the round that r is in, something waits on each
 -- link on which r has a parcel to collect. So two turns of every rank finish a round.
 abbrev pub ArrivalLaw : Type 0
 ArrivalLaw = (ranks cap slots : ℕ) (n : ℕ → ℕ) (all : ℕ → Stack) (sent got : Logs)

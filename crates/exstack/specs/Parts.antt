@@ -88,8 +88,8 @@ abbrev pub AreOwnSteps : List Step → Part → Part → Type 0
 AreOwnSteps [] old new = new ≡ old
 AreOwnSteps (s ∷ ss) old new = IsOwnStep s old (after s old) × AreOwnSteps ss (after s old) new
 
--- The steps that a proceed poll is: Done where it notes done for the first time in the epoch, and
--- Complete where it answers AllDone; Idle where neither. The call that says that the rank is done
+-- The steps that a proceed poll is: Done if it notes done for the first time in the epoch, and
+-- Complete if it answers AllDone; Idle if neither. The call that says that the rank is done
 -- may be the one that completes it.
 abbrev pub proceed_steps : Bool → Bool → Bool → List Step
 proceed_steps was now complete =

@@ -17,7 +17,7 @@ may_wait Exchanging due = due
 may_wait Full due = false
 may_wait AllDone due = false
 
--- A link out holds at most its capacity. It is closed only where the rank is done, and where the
+-- A link out holds at most its capacity. It is closed only if the rank is done, and if the
 -- rank is done it is closed unless its parcel is due; a closed one is empty, and nothing is due on
 -- it. Parcels are due within rounds alone, and exchange parcels from ranks alone that aren't done.
 pub record IsStackOut (cap : ℕ) (stage : Stage) (done : Bool) (o : StackOut) : Type 0 where

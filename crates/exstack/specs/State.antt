@@ -15,7 +15,7 @@ use Rattle.exstack.specs.Links.{has_unread, begun_out, begun_in, stack_out_in_ne
 
 -- An exstack: how many ranks there are, whose it is, its stage, whether the rank said that it is
 -- done in this epoch, the epoch, its links out and in by the rank at their other end, and the
--- sender of the item that the latest call popped, where it popped one.
+-- sender of the item that the latest call popped, if it popped one.
 pub record Stack : Type 0 where
   pub ranks : ℕ
   pub rank : ℕ
@@ -79,7 +79,7 @@ lowest_unread_sender st = position has_unread st.ins
 abbrev pub pushed_on : Stack → Item → ℕ → Stack
 pushed_on st item to = record st { outs = slice_set st.outs to (with_waiting_entry (stack_out_at st to) (plain_entry item)); popped = None }
 
--- What a pop gives where the lowest sender of an unread item is this one, and what it leaves.
+-- What a pop gives if the lowest sender of an unread item is this one, and what it leaves.
 abbrev pub pop_from : Stack → Option ℕ → Option (ℕ × Item)
 pop_from st None = None
 pop_from st (Some a) = option_map (λ e. (a, e.item)) (slice_get (stack_in_at st a).unread 0)
@@ -176,7 +176,7 @@ has_proceeded stage = (row_of_stage stage).has_proceeded
 abbrev pub has_exchanged : Stage → Bool
 has_exchanged stage = (row_of_stage stage).has_exchanged
 
--- A proceed round, or an exchange round, has begun: where it hadn't, a parcel is due on each open
+-- A proceed round, or an exchange round, has begun: if it hadn't, a parcel is due on each open
 -- link.
 abbrev pub in_proceed : Bool → Stack → Stack
 in_proceed done st = if is_proceeding st.stage then record st { popped = None }

@@ -21,13 +21,13 @@ was_moved old new = old && not new
 abbrev pub latest : List Shipped → Shipped
 latest log = slice_index_or log (length log - 1) (record { entries = []; last = false; epoch = 0 })
 
--- A link out in a round: where its parcel was posted it stands at the end of the log, and nothing
+-- A link out in a round: if its parcel was posted it stands at the end of the log, and nothing
 -- else changes.
 pub record WasPostedInRound (last : Bool) (epoch : ℕ) (old new : StackOut) (log log' : List Shipped) : Type 0 where
   pub link : new ≡ (if was_moved old.due new.due then gone last else old)
   pub sent : log' ≡ (if was_moved old.due new.due then log ++ parcel_of last epoch old ∷ [] else log)
 
--- A link in in a round: where a parcel was collected it stands at the end of the log, and nothing
+-- A link in in a round: if a parcel was collected it stands at the end of the log, and nothing
 -- else changes.
 pub record WasCollected (exchange : Bool) (old new : StackIn) (log log' : List Shipped) : Type 0 where
   pub link : new ≡ (if was_moved old.due new.due then came exchange (latest log') else old)
@@ -49,7 +49,7 @@ posts_to ranks rank outs n = sweep_calls (λ b. (slice_index_or outs b no_stack_
 abbrev pub collects_from : ℕ → ℕ → List StackIn → ℕ → List Call
 collects_from ranks rank ins n = sweep_calls (λ a. (slice_index_or ins a no_stack_in).due) (λ a. Collect (number ranks a rank)) n
 
--- Where a round without memory stopped: at a link out whose parcel is due still, after the posts on
+-- If a round without memory stopped: at a link out whose parcel is due still, after the posts on
 -- the links below it.
 pub record StackStopsAt (ranks rank : ℕ) (begun outs : List StackOut) (before calls : List Call) : Type 0 where
   pub to : ℕ
@@ -88,7 +88,7 @@ pub record MadeRound (last exchange : Bool) (old new : Stack) (sent sent' got go
   pub sent_grows : (l : ℕ) → IsPrefix (sent l) (sent' l)
   pub got_grows : (l : ℕ) → IsPrefix (got l) (got' l)
 
--- What a round asks of its port where it has memory: its posts, and then its collects.
+-- What a round asks of its port if it has memory: its posts, and then its collects.
 -- looked, crowded: for a link out whose parcel is due still the port looked for room in this call,
 -- and the link is crowded, unless something was got on it meanwhile.
 -- asked: on a link in whose parcel is due still it listened in vain.

@@ -37,7 +37,7 @@ pub struct Exstack<const CAP: usize> {
     pub(crate) ins: Vec<InLink<CAP>>,
     /// A rank below which no link in has an unread item.
     pub(crate) from: u32,
-    /// The sender of the item that the latest call popped, where it popped one.
+    /// The sender of the item that the latest call popped, if it popped one.
     pub(crate) popped: Option<u32>,
 }
 
@@ -104,7 +104,7 @@ impl<const CAP: usize> Exstack<CAP> {
         self.stage
     }
 
-    /// Does nothing, and tells what holds of an exstack at every moment.
+    /// Does nothing, and states what holds of an exstack at every moment.
     #[inline]
     pub fn known(&self)
         ensures standing { IsStack CAP self.now }
@@ -135,7 +135,7 @@ impl<const CAP: usize> Exstack<CAP> {
         least_room(&self.outs)
     }
 
-    /// Puts `item` into the buffer toward `to`, where there is room. Answers the headroom that was
+    /// Puts `item` into the buffer toward `to`, if there is room. Answers the headroom that was
     /// there before: 0 is the refusal.
     #[inline]
     pub fn push(&mut self, item: Item, to: u32) -> u64

@@ -137,7 +137,7 @@ impl<const CAP: usize> InLink<CAP> {
         self.ended = false;
     }
 
-    /// Collects the parcel of this round where it is due. The entries of a proceed parcel are
+    /// Collects the parcel of this round if it is due. The entries of a proceed parcel are
     /// dropped: only a peer that is no exstack sends any.
     pub fn collect<P: Port<CAP>>(&mut self, port: &mut P, link: u32, epoch: u64, exchange: bool)
         requires link { link < links (P.dims port.old) }

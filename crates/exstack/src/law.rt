@@ -2,7 +2,7 @@
 ghost use Rattle.exstack.specs.Law.{StacksStayTogether, StackExchangeLaw, ProceedLaw, StackClosesLaw, CyclesLaw};
 ghost use Rattle.exstack.specs.Lockstep.{RoomLaw, ArrivalLaw};
 
-/// Where the exstacks of all ranks agree with the ports of one bank, every call on any of them, in
+/// If the exstacks of all ranks agree with the ports of one bank, every call on any of them, in
 /// any order, is a step of the exchange machine, and a proceed poll one or two, after which they
 /// agree again.
 pub fn exchange_law()
@@ -11,7 +11,7 @@ pub fn exchange_law()
     ensures proceed { ProceedLaw }
 {}
 
-/// Where they agree so, what a rank pulled is a prefix of what its sender pushed; and in each
+/// If they agree so, what a rank pulled is a prefix of what its sender pushed; and in each
 /// epoch that some rank has completed every rank was done, and what was pulled is what was pushed.
 pub fn closes_law()
     ensures { StackClosesLaw }

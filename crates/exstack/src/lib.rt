@@ -15,7 +15,7 @@
 //! | any | `pop` | the next item with its sender, or none is unread |
 //! | any | `next_sender`, `batch` | the lowest sender with unread items; those items, as a slice |
 //! | any | `pop_all` | the items of that sender are read, as by so many pops |
-//! | any | `unpop` | the item of the latest call is unread again, where that was a pop that gave one |
+//! | any | `unpop` | the item of the latest call is unread again, if that was a pop that gave one |
 //! | any | `headroom`, `min_headroom`, `unread`, `stage` | the same |
 //! | AllDone | `reset` | Start, the epoch one higher |
 //!

@@ -54,7 +54,7 @@ impl<const CAP: usize> OutLink<CAP> {
         })
     }
 
-    /// Appends `entry` where there is room. Answers how many entries could be appended before it.
+    /// Appends `entry` if there is room. Answers how many entries could be appended before it.
     #[inline]
     pub fn push(&mut self, entry: Entry) -> u64
         requires { entry.tag ≡ no_tag }
@@ -98,7 +98,7 @@ impl<const CAP: usize> OutLink<CAP> {
         self.closed = false;
     }
 
-    /// Posts the parcel of this round where it is due.
+    /// Posts the parcel of this round if it is due.
     ///
     /// # Errors
     /// `NoMemory` changes nothing.

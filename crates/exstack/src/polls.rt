@@ -19,7 +19,7 @@ use bale_items::NoMemory;
 use port_bank::Port;
 
 impl<const CAP: usize> Exstack<CAP> {
-    /// Makes the posts that are missing in a proceed round, and then the missing collects. Where
+    /// Makes the posts that are missing in a proceed round, and then the missing collects. If
     /// none is in progress one begins; `done` says whether the rank pushes nothing more in this
     /// epoch.
     ///
@@ -74,7 +74,7 @@ impl<const CAP: usize> Exstack<CAP> {
         Ok(self.settle_proceed(missing))
     }
 
-    /// Makes the posts that are missing in an exchange round, and then the missing collects. Where
+    /// Makes the posts that are missing in an exchange round, and then the missing collects. If
     /// none is in progress one begins.
     ///
     /// # Errors

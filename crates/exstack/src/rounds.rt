@@ -231,7 +231,7 @@ pub fn least_room<const CAP: usize>(outs: &[OutLink<CAP>]) -> u64
     least
 }
 
-/// The lowest link in that has an unread item, where none below `from` has one. Most often it is
+/// The lowest link in that has an unread item, if none below `from` has one. Most often it is
 /// `from` itself, which is looked at before the search.
 #[inline]
 pub fn next_unread<const CAP: usize>(ins: &[InLink<CAP>], from: u32) -> Option<u32>

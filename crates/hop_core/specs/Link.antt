@@ -41,7 +41,7 @@ abbrev pub is_finished : In → Bool
 is_finished i = i.ended && is_empty i.parcel
 
 -- A search from link `from` on finds the lowest link whose inbox has an entry, and nothing only
--- where none has.
+-- if none has.
 pub record FindsUnread (from : ℕ) (ins : List In) (found : Option ℕ) : Type 0 where
   pub from_here : (r : ℕ) → found ≡ Some r → from ≤ r
   pub within : (r : ℕ) → found ≡ Some r → r < length ins

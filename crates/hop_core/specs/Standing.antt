@@ -35,7 +35,7 @@ pub record CanUnpull (st : State) (i : ℕ) : Type 0 where
   pub last_hop : hop_to st.dims i ≡ length st.dims
   pub back : IsSome (in_at st i).parcel.back
 
--- The state of a rank of a grid. A link is closed only where its hop has reached its end.
+-- The state of a rank of a grid. A link is closed only if its hop has reached its end.
 pub record IsState (st : State) : Type 0 where
   pub grid : IsGrid st.dims
   pub rank : st.rank < ranks st.dims

@@ -137,7 +137,7 @@ impl<const CAP: usize, const HOPS: usize> RankState<CAP, HOPS> {
     }
 
     /// Takes a parcel that came from this neighbour into the inbox, which is wanted, for the empty
-    /// one there. The link has ended from now on where the parcel is marked last.
+    /// one there. The link has ended from now on if the parcel is marked last.
     #[inline]
     pub fn take_in(&mut self, number: u32, parcel: &mut Parcel<CAP>)
         requires number { number < sum self.old.dims }

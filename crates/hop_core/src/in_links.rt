@@ -116,7 +116,7 @@ impl<const CAP: usize> InLink<CAP> {
         self.parcel.len() == 0
     }
 
-    /// Exchanges the parcel at hand for the inbox. The link has ended from now on where that parcel
+    /// Exchanges the parcel at hand for the inbox. The link has ended from now on if that parcel
     /// is marked last.
     /// Answers whether the link is finished.
     #[inline]

@@ -14,7 +14,7 @@
 //! From then on each link out of that hop is due until its last parcel, which may be empty, was
 //! sent.
 //!
-//! | Phase | After `settle` it is this one exactly where |
+//! | Phase | After `settle` it is this one if and only if |
 //! |---|---|
 //! | `Dormant` | the epoch has not begun; `begin` leads to `Working` |
 //! | `Working` | done is not set |

@@ -40,7 +40,7 @@ impl<const CAP: usize> OutLink<CAP> {
         })
     }
 
-    /// Appends `entry`, or answers `false` where the parcel is full.
+    /// Appends `entry`, or answers `false` if the parcel is full.
     #[inline]
     pub fn push(&mut self, entry: Entry) -> bool
         requires { self.old.parcel.taken ≡ 0 }

@@ -126,7 +126,7 @@ impl<const CAP: usize, const HOPS: usize> RankState<CAP, HOPS> {
         })
     }
 
-    /// Does nothing, and tells what holds of a state at every moment.
+    /// Does nothing, and states what holds of a state at every moment.
     #[inline]
     pub fn known(&self)
         ensures standing { IsState self.now }
@@ -192,7 +192,7 @@ impl<const CAP: usize, const HOPS: usize> RankState<CAP, HOPS> {
     }
 }
 
-/// Where an entry for `to` goes first: on one hop to that rank itself, by no table and with a tag
+/// The first link of an entry for `to`: on one hop to that rank itself, by no table and with a tag
 /// of zeros.
 #[inline]
 fn first_of<const HOPS: usize>(routes: &Routes, to: u32) -> Onward

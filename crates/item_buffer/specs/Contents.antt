@@ -14,7 +14,7 @@ pub record Contents : Type 0 where
   pub back : Option Entry
   pub taken : ℕ
 
--- A parcel is fresh where no entry of it is taken, so that there is none to put back either.
+-- A parcel is fresh if no entry of it is taken, so that there is none to put back either.
 pub record IsFresh (c : Contents) : Type 0 where
   pub none_taken : c.taken ≡ 0
   pub none_back : c.back ≡ None

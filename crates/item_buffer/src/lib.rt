@@ -8,7 +8,7 @@
 //! | Call | Needs | Answer |
 //! |---|---|---|
 //! | `new(alloc)` | `IsCap CAP`: from 1 to `MOST_ENTRIES` | empty, nothing taken, not last, epoch 0 |
-//! | `try_push(e)` | nothing taken | `false` exactly where the parcel holds `CAP` entries |
+//! | `try_push(e)` | nothing taken | `false` if and only if the parcel holds `CAP` entries |
 //! | `head()` | | the first untaken entry, if any |
 //! | `take()` | | the same, which is then taken |
 //! | `untaken()` | | all untaken entries |

@@ -14,7 +14,7 @@ use std::marker::Model;
 #[derive(Drop)]
 pub struct Parcel<const CAP: usize> {
     held: Box<Held<CAP>>,
-    /// Counts from 0. It is beside the counts so that a reader of the entries writes none of their
+    /// Counts from 0. It is besides the counts so that a reader of the entries writes none of their
     /// memory.
     epoch: u64,
     /// How many of the places, from the first one on, hold an entry pushed since the last clear.
@@ -27,7 +27,7 @@ pub struct Parcel<const CAP: usize> {
     last: bool,
 }
 
-/// What a move of the parcel leaves where it is.
+/// What a move of the parcel leaves if it is.
 #[derive(Drop)]
 struct Held<const CAP: usize> {
     /// With the bytes of `after`, these keep other values off the cache lines of the entries.
@@ -79,7 +79,7 @@ impl<const CAP: usize> Parcel<CAP> {
         })
     }
 
-    /// Appends `entry`, or answers `false` where the parcel is full. None of its entries may be
+    /// Appends `entry`, or answers `false` if the parcel is full. None of its entries may be
     /// taken.
     #[inline]
     pub fn try_push(&mut self, entry: Entry) -> bool
@@ -188,7 +188,7 @@ impl<const CAP: usize> Parcel<CAP> {
         (self.pushed - self.taken) as usize == CAP
     }
 
-    /// Does nothing, and tells what holds of a parcel at every moment.
+    /// Does nothing, and states what holds of a parcel at every moment.
     #[inline]
     pub fn known(&self)
         ensures cap { IsCap CAP }

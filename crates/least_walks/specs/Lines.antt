@@ -3,7 +3,7 @@ use Rattle.std.specs.Prelude.{ℕ, zero, suc, List, [], ◌∷◌, ◌++◌, ◌
 use Rattle.mtx_text.specs.Sparse.{Sparse}
 use Rattle.least_walks.specs.Walks.{AreLeast}
 
--- A weight, or `-` where there is no walk.
+-- A weight, or `-` if there is no walk.
 abbrev pub weight_text : Option ℕ → List ℕ
 weight_text None = 45 ∷ []
 weight_text (Some n) = decimal n

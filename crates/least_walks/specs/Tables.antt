@@ -48,7 +48,7 @@ offers_at table vs p = offers_from (slice_index_or vs p unreached_vertex).weight
 abbrev pub offers_by_place : List (List Edge) → List Vertex → List ℕ → List (ℕ × Item)
 offers_by_place table vs places = flat_map (offers_at table vs) places
 
--- The edge of an entry comes to its vertex, where its weight is from low to high.
+-- The edge of an entry comes to its vertex, if its weight is from low to high.
 abbrev pub table_with_edge : ℕ → ℕ → ℕ → Triple → List (List Edge) → List (List Edge)
 table_with_edge ranks low high t rows =
     if in_range low high t then changed_at rows (t.i / ranks) [] (λ es. es ++ edge_of ranks t ∷ []) else rows

@@ -16,7 +16,7 @@ abbrev pub is_better : ℕ → Option ℕ → Bool
 is_better w None = true
 is_better w (Some m) = nat_lt w m
 
--- A vertex to which a walk of weight w leads: it is improved where w is better.
+-- A vertex to which a walk of weight w leads: it is improved if w is better.
 abbrev pub improve : ℕ → Vertex → Vertex
 improve w v = if is_better w v.weight then record { weight = Some w; improved = true } else v
 
@@ -67,6 +67,6 @@ lesser None b = b
 lesser (Some a) None = Some a
 lesser (Some a) (Some b) = Some (min a b)
 
--- The least weight of an improved vertex, or None where none is improved.
+-- The least weight of an improved vertex, or None if none is improved.
 abbrev pub least_marked : List Vertex → Option ℕ
 least_marked vs = fold (λ w p. lesser w (slice_index_or vs p unreached_vertex).weight) None (marked_places vs)

@@ -6,7 +6,7 @@ use Rattle.mtx_text.specs.Sparse.{Sparse}
 
 -- A walk from vertex s to vertex t: a list of entries that join up, each an edge from its row to
 -- its column.
--- IsWalk entries s t (e1, .., ek): e1 begins at s, each begins where the one before it ends, and ek
+-- IsWalk entries s t (e1, .., ek): e1 begins at s, each begins if the one before it ends, and ek
 -- ends at t Over (0,1,3), (1,2,2) the list (0,1,3), (1,2,2) is a walk from 0 to 2, and the empty
 -- list is one from 1 to 1.
 abbrev pub IsWalk : List Triple → ℕ → ℕ → List Triple → Type 0
@@ -34,7 +34,7 @@ weight_of walk = sum_by (λ e. nat_abs e.v) walk
 abbrev pub AtMost : Option ℕ → ℕ → Type 0
 AtMost found n = (m : ℕ) × (found ≡ Some m) × (m ≤ n)
 
--- The least weight of a walk from s to t, or None where there is no walk.
+-- The least weight of a walk from s to t, or None if there is no walk.
 -- found = Some of the least weight_of w over the walks w from s to t
 -- Over (0,1,3), (1,2,2), (0,2,7) the least weight from 0 to 2 is 5, and from 2 to 0 there is none.
 pub record IsLeast (entries : List Triple) (s t : ℕ) (found : Option ℕ) : Type 0 where

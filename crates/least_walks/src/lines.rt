@@ -10,7 +10,7 @@ use bale_types::{Failed, Line, Out, Sink};
 ///
 /// # Errors
 ///
-/// `Failed` where the sink's faults rose in this call.
+/// `Failed` if the sink's faults rose in this call.
 pub fn write_vertex<K: Sink>(
     out: &mut Out<'_, K>,
     v: u32,
@@ -27,7 +27,7 @@ pub fn write_vertex<K: Sink>(
     out.line(&line)
 }
 
-/// Appends a weight, or `-` where there is none.
+/// Appends a weight, or `-` if there is none.
 fn put_weight(line: &mut Line, weight: Option<u64>)
     requires { length line.old + 20 ≤ 64 }
     ensures bytes { line.new ≡ line.old ++ weight_text weight }

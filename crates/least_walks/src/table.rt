@@ -17,7 +17,7 @@ use std::marker::Model;
 pub struct Edge {
     /// the rank that owns its end
     pub owner: u32,
-    /// the vertex where it ends
+    /// the vertex at which it ends
     pub to: u32,
     pub weight: u64,
 }
@@ -63,11 +63,11 @@ impl Table {
     }
 
     /// The edges of so many places with weights from `low` to `high`, in the order of the entries.
-    /// It is fast where the entries of each vertex stand together.
+    /// It is fast if the entries of each vertex stand together.
     ///
     /// # Errors
     ///
-    /// `NoMemory` where there was none.
+    /// `NoMemory` if there was none.
     pub fn of(
         alloc: Global,
         ranks: u32,
@@ -114,7 +114,7 @@ fn empty_spans(alloc: Global, places: usize) -> Result<Vec<Span>, NoMemory>
     Ok(vec![in alloc; nothing; places]?)
 }
 
-/// Puts the edge of an entry to its vertex, where its weight is from `low` to `high`.
+/// Puts the edge of an entry to its vertex, if its weight is from `low` to `high`.
 #[inline(always)]
 fn keep(
     edges: &mut Vec<Edge>,
@@ -161,7 +161,7 @@ fn push_edge(
     Ok(())
 }
 
-/// Where edges stand once they are the last ones: they are moved behind the others if they aren't.
+/// The place of edges once they are the last ones: they are moved behind the others if they aren't.
 #[inline(always)]
 fn last_span(edges: &mut Vec<Edge>, span: Span) -> Result<Span, NoMemory>
     requires within { IsSpanWithin edges.old.items span }
@@ -199,7 +199,7 @@ fn edge_of(ranks: u32, t: Triple) -> Edge
 ///
 /// # Errors
 ///
-/// `NoMemory` where there was none; `outgoing` may hold anything then.
+/// `NoMemory` if there was none; `outgoing` may hold anything then.
 pub fn put_offers(
     outgoing: &mut Vec<(u32, Item)>,
     table: &Table,

@@ -51,7 +51,7 @@ LiveLaw cap = (shape : Shape) (s : State Contents Knowing) → IsShape shape →
 abbrev pub AllThere : Shape → List (Option (Lists Contents)) → Type 0
 AllThere shape lists = (r : ℕ) → r < ranks shape.dims → IsSome (slice_index_or lists r None)
 
--- Where each rank's lists are there, the round keeps the laws of a round.
+-- If each rank's lists are there, the round keeps the laws of a round.
 abbrev pub IsSettled : ℕ → Shape → List (Option (Lists Contents)) → Type 0
 IsSettled cap shape lists = AllThere shape lists → IsRound (slot_round shape cap lists)
 
@@ -60,7 +60,7 @@ abbrev pub first_lists : List Knowing → List (Option (Lists Contents))
 first_lists [] = []
 first_lists (v ∷ vs) = v.lists
 
--- How many epochs a link has ended, by what a rank counted, or 0 where it counted nothing yet.
+-- How many epochs a link has ended, by what a rank counted, or 0 if it counted nothing yet.
 abbrev pub ended_of : Option EndedCounts → ℕ → ℕ
 ended_of (Some v) l = slice_index_or v.counts.items l 0
 ended_of None l = 0

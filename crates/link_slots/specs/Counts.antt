@@ -1,4 +1,4 @@
--- What a rank's seat counts beside the table, and the lists that the counts stand for.
+-- What a rank's seat counts besides the table, and the lists that the counts stand for.
 use Rattle.std.specs.Prelude.{◌≡◌, ◌≢◌, ◌⊎◌, ℕ, ◌+◌, ◌-◌, ◌*◌, ◌^◌, ◌%◌, ◌<◌, ◌≤◌, ◌==◌, Bool, true, false, List, take}
 use Rattle.std.specs.Prelude.{length, suc, [], ◌∷◌, ◌++◌}
 use Rattle.std.specs.Int.{bit_at}
@@ -17,8 +17,8 @@ use Rattle.link_slots.specs.Logs.{OutLog, InLog, Lists, in_of, found_full}
 use Rattle.link_slots.specs.Shape.{Shape, wiring, MayFollow}
 
 -- What a post of parcel p makes of a link out, from o to o', by its answer.
--- looks, once: it looks at most once, and only where no empty slot is at hand.
--- found: where it finds no room, every slot is taken, and nothing changed but the look.
+-- looks, once: it looks at most once, and only if no empty slot is at hand.
+-- found: if it finds no room, every slot is taken, and nothing changed but the look.
 pub record HasPosted (slots : ℕ) (o o' : OutLog Contents) (p : Contents) (answer : Posted) : Type 0 where
   pub sent : answer ≡ Sent → o'.sent ≡ o.sent ++ p ∷ []
   pub offered : answer ≡ Sent → o'.offered ≡ length o'.sent
@@ -54,7 +54,7 @@ pub record IsInEnd {T : Type 0} (slots : ℕ) (i : InLog T) (taken waiting noted
   pub few : waiting ≤ slots
   pub noted_before : noted ≤ saturated_count i.hears
 
--- The links into a rank on hop h: each is marked where its bit is set, and their doorbell was heard
+-- The links into a rank on hop h: each is marked if its bit is set, and their doorbell was heard
 -- so often.
 pub record IsHeard (shape : Shape) (rank h : ℕ) (x : Lists Contents) (marks hears : ℕ) : Type 0 where
   pub marked : (l : ℕ) → l < links shape.dims → reader_at shape.dims l ≡ rank → hop_at shape.dims l ≡ h
@@ -88,7 +88,7 @@ pub record ElseKept (shape : Shape) (rank l : ℕ) (x x' : Lists Contents) : Typ
   pub other_hops : (m : ℕ) → m < links shape.dims → reader_at shape.dims m ≡ rank
       → hop_at shape.dims m ≢ hop_at shape.dims l → in_of x' m ≡ in_of x m
 
--- How many epochs a link has ended, after a collect: one more where it gave a parcel marked last.
+-- How many epochs a link has ended, after a collect: one more if it gave a parcel marked last.
 abbrev pub ended_after : Collected → Bool → ℕ → ℕ
 ended_after Got true n = saturated_count (n + 1)
 ended_after Got false n = n

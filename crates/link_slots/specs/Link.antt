@@ -37,11 +37,11 @@ module _ {T : Type 0} (Blank : T → Type 0) (Good : ℕ → List T → T → Ty
     pub good : (n : ℕ) (p : T) → get_elem? o.sent n ≡ some p → Good l (take n o.sent) p
 
 module _ {T : Type 0} (w : Wiring) where
-  -- Part (vi) for a link l: no parcel is offered that was not posted; where the doorbell's bit is
+  -- Part (vi) for a link l: no parcel is offered that was not posted; if the doorbell's bit is
   -- not set and the link is not marked, all offered parcels are seen; each look in answers one bit
-  -- that was heard; and where the reader has heard the doorbell since the sender last rang, and the
+  -- that was heard; and if the reader has heard the doorbell since the sender last rang, and the
   -- link is not marked, all offered parcels are seen: no hear is counted that passes over a ring.
-  -- And where the sender has looked for room since the latest release, it may use every slot that
+  -- And if the sender has looked for room since the latest release, it may use every slot that
   -- is free:
   -- no look is counted that passes over a release.
   pub record BellOk (l : ℕ) (o : OutLog T) (i : InLog T) (words : List ℕ) : Type 0 where

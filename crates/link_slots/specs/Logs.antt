@@ -38,8 +38,8 @@ module _ {T : Type 0} where
   listens i = i.hears + i.look_ins
 
 module _ {T : Type 0} where
-  -- One parcel more is posted; all that are posted are offered, where the reader had heard the
-  -- doorbell so often; one parcel more is taken, where the sender had looked for room so often.
+  -- One parcel more is posted; all that are posted are offered, if the reader had heard the
+  -- doorbell so often; one parcel more is taken, if the sender had looked for room so often.
   abbrev pub sent_more : OutLog T → T → OutLog T
   sent_more o p = record o { sent = o.sent ++ p ∷ [] }
 

@@ -12,7 +12,7 @@ use Rattle.link_slots.specs.Logs.{out_of, in_of, with_out, with_in, found_full, 
 use Rattle.link_slots.specs.Doorbell.{is_due, HeardWhere, LookedFor}
 use Rattle.link_slots.specs.SeatView.{Manning, collected_from, known_on, hears_noted}
 
--- A post of p on link l, from the seat s to s': it changes that link's lists alone. Where an empty
+-- A post of p on link l, from the seat s to s': it changes that link's lists alone. If an empty
 -- slot is at hand the parcel is sent without a look for room, and no post looks more than once. At
 -- Sent every parcel of the link is offered; at NoRoom the port looked once and nobody was rung for.
 pub record DidPost (s s' : Manning) (l : ℕ) (p : Contents) (r : Result Posted NoMemory) : Type 0 where
@@ -24,9 +24,9 @@ pub record DidPost (s s' : Manning) (l : ℕ) (p : Contents) (r : Result Posted 
   pub looked : r ≡ Ok NoRoom → out_of s'.lists l ≡ found_full (out_of s.lists l)
   pub once : (out_of s'.lists l).looks ≤ suc (out_of s.lists l).looks
 
--- A collect on link l, from the seat s to s'. Where a parcel was at hand it is taken, with no step
--- of looking. Else the doorbell of the link's hop is heard where a hear is due and not else, and
--- the link is looked in where it is then marked and not else.
+-- A collect on link l, from the seat s to s'. If a parcel was at hand it is taken, with no step
+-- of looking. Else the doorbell of the link's hop is heard if a hear is due and not else, and
+-- the link is looked in if it is then marked and not else.
 pub record DidCollect (s s' : Manning) (l : ℕ) (r : Collected) : Type 0 where
   pub here : s' ≡ record s { lists = s'.lists; noted = s'.noted; ended = s'.ended }
   pub outs : s'.lists.outs ≡ s.lists.outs

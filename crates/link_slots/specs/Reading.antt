@@ -15,7 +15,7 @@ use Rattle.link_slots.specs.WordSteps.{Knowing, IsAtIn, StaysSeated}
 use Rattle.link_slots.specs.Counts.{IsInEnd, IsWire, IsHeard, ElseKept}
 
 -- A rank's seat m in its place, and link l, which ends at the rank. What the rank counts of the
--- link and of its hop's doorbell, beside the table, is what the seat's lists tell.
+-- link and of its hop's doorbell, besides the table, is what the seat's lists tell.
 pub record ReadsLink (shape : Shape) (table place : TableId) (m : Me Contents Knowing) (l : ℕ) (counts : InEnd)
     (way : Wire) (bell : Ear) : Type 0 where
   pub at : IsAtIn shape table place m l

@@ -48,7 +48,7 @@ pub record IsSeat (cap : ℕ) (shape : Shape) (m : Me Contents Knowing) (rank : 
   pub each_ended : (l d : ℕ) → l < links shape.dims → reader_at shape.dims l ≡ rank
       → slice_index_or ended l d ≡ saturated_count (lasts (map as_shipped (got_of (own_logs m.0) l)))
 
--- What is kept of a bank beside its table: the way of each link, by its number.
+-- What is kept of a bank besides its table: the way of each link, by its number.
 pub record IsWiredUp (cap : ℕ) (shape : Shape) (id : TableId) (slots : ℕ) (grid : List ℕ)
     (wires : List Wire) : Type 0 where
   pub is_cap : IsCap cap

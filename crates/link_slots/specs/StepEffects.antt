@@ -13,7 +13,7 @@ use Rattle.link_slots.specs.Wiring.{Wiring, slot_of}
 use Rattle.link_slots.specs.HeldSlots.{Holds}
 
 -- How many of `more` parcels are not among those of which a word counts n modulo 2^64.
--- Example: of 5 parcels posted, where the word of the released ones says 3, two are not released.
+-- Example: of 5 parcels posted, if the word of the released ones says 3, two are not released.
 abbrev pub beyond : ℕ → ℕ → ℕ
 beyond more n = (more % 2 ^ 64 + (2 ^ 64 - n)) % 2 ^ 64
 
@@ -45,7 +45,7 @@ module _ {T : Type 0} where
 
 -- What a look before a step tells: where the step would leave the word as it is, the look is that
 -- step; else nothing is changed by it.
--- Example: a look before a ring, where the link's bit is set already, is the ring.
+-- Example: a look before a ring, if the link's bit is set already, is the ring.
 abbrev pub LookedFirst : {M : Type 0} → Bool → (M → Type 0) → M → M → Type 0
 LookedFirst true Done m m' = Done m'
 LookedFirst false Done m m' = m' ≡ m

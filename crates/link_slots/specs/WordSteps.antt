@@ -49,7 +49,7 @@ pub record StaysSeated (shape : Shape) (place place' : TableId) (m : Me Contents
   pub table : place' ≡ place
   pub seat : IsManned shape m
 
--- What one step of a rank's seat makes of what it knows and holds, from m to m', where it found n.
+-- What one step of a rank's seat makes of what it knows and holds, from m to m', if it found n.
 module _ (cap : ℕ) (shape : Shape) (l : ℕ) (m : Me Contents Knowing) where
   abbrev pub room_found : ℕ → Me Contents Knowing → Type 0
   room_found n m' = plays.found_room IsBlank (MayFollow shape.dims cap) (wiring shape) l m n m'

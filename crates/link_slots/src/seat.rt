@@ -32,7 +32,7 @@ use port_bank::{Collected, Posted};
 use route_tensor::MOST_HOPS;
 use std::marker::Model;
 
-/// One rank's seat at a bank. It may go to another thread; a port is made of it where the rank's
+/// One rank's seat at a bank. It may go to another thread; a port is made of it if the rank's
 /// parcels are.
 #[derive(Drop)]
 pub struct SlotSeat<const CAP: usize> {
@@ -43,7 +43,7 @@ pub struct SlotSeat<const CAP: usize> {
     pub(crate) ins: Vec<InEnd>,
     /// By the hop, from 0.
     pub(crate) ears: [Ear; MOST_HOPS],
-    /// How many parcels marked last were collected of each link in; it stands still at the last
+    /// How many parcels marked last were collected of each link in; it saturates at the last
     /// number.
     pub(crate) ended: Vec<u64>,
 }
@@ -120,8 +120,8 @@ impl<const CAP: usize> SlotSeat<CAP> {
 
     /// Collects the next parcel of a link into this rank.
     ///
-    /// Where the rank knows of a parcel, that is all. Else it hears the doorbell of the link's hop
-    /// where a hear is due, which marks every link whose bit it finds; and then it looks in where
+    /// If the rank knows of a parcel, that is all. Else it hears the doorbell of the link's hop
+    /// if a hear is due, which marks every link whose bit it finds; and then it looks in if
     /// the link is marked.
     #[inline]
     pub fn collect(
@@ -190,7 +190,7 @@ impl<const CAP: usize> SlotSeat<CAP> {
     }
 }
 
-/// Counts an epoch that the link has ended, where the collect gave a parcel marked last.
+/// Counts an epoch that the link has ended, if the collect gave a parcel marked last.
 #[inline]
 fn note_last(ended: &mut Vec<u64>, link: u32, answer: Collected, last: bool)
     requires { link < length ended.old.items }

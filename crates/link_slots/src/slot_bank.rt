@@ -91,7 +91,7 @@ impl<const CAP: usize> SlotBank<CAP> {
 }
 
 impl<const CAP: usize> SlotBank<CAP> {
-    /// Ends the exchange, where each rank's seat was gathered or never given out: what each rank
+    /// Ends the exchange, if each rank's seat was gathered or never given out: what each rank
     /// pulled is a prefix of what the others pushed toward it, and all of it in each epoch that
     /// every link has ended. Of each gathered rank, the round has the logs of its seat.
     pub fn close(self, g: GatherSeat<CAP>) -> SlotRound

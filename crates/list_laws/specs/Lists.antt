@@ -7,7 +7,7 @@ use Rattle.std.specs.Prelude.{◌≡◌, ℕ, ◌<◌, ◌==◌, List, ◌++◌,
 abbrev pub EachAt : {X : Type 0} → (ℕ → X → Type 0) → List X → Type 0
 EachAt {X} P xs = (k : ℕ) (d : X) → k < length xs → P k (slice_index_or xs k d)
 
--- A list with one element changed by a function; d stands for an element past the end, where
+-- A list with one element changed by a function; d stands for an element past the end, if
 -- nothing changes.
 -- changed_at xs i d f is xs with f (xs at i) at i.
 -- The list 5, 6, 7 changed at 1 by (λ v. v + 10) is 5, 16, 7.

@@ -100,7 +100,7 @@ fn measured<const CAP: usize, const HOPS: usize, R: Threads + Wait + Clock + Syn
     })
 }
 
-/// How many rounds a run has: one, or where nothing is sent enough of them to take a while.
+/// How many rounds a run has: one, or if nothing is sent enough of them to take a while.
 fn rounds_of(ranks: u32, items: u32) -> u32
     requires some { 0 < ranks }
     requires few { ranks ≤ 64 }

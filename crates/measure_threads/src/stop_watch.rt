@@ -30,7 +30,7 @@ impl<'a, R: Clock> StopWatch<'a, R> {
         }
     }
 
-    /// The nanoseconds since it was made; 0 where the clock can't be read.
+    /// The nanoseconds since it was made; 0 if the clock can't be read.
     fn now(&self) -> u64 {
         let Some(made) = self.made else {
             return 0;

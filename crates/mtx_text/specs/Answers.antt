@@ -1,4 +1,4 @@
--- What a reader answers, beside the definition that it is held to. Want of memory is free.
+-- What a reader answers, besides the definition that it is held to. Want of memory is free.
 use Rattle.std.specs.Prelude.{◌≡◌, Result, Ok, Err}
 use Rattle.mtx_text.specs.declared.refusal.BadLine.{BadLine}
 use Rattle.mtx_text.specs.declared.refusal.ParseFault.{ParseFault}
@@ -15,14 +15,14 @@ Gives view (Ok x) read = read ≡ Ok (view x)
 Gives view (Err (fault.Bad b)) read = read ≡ Err b
 Gives view (Err fault.NoMemory) read = Unit {0}
 
--- The same for a reader of a source. After Source and after NoMemory nothing is said of the text.
+-- The same for a reader of a source. After Source and after NoMemory this says nothing of the text.
 abbrev pub ReadGives : Result Sparse ReadFault → Result Sparse BadLine → Type 0
 ReadGives (Ok m) read = read ≡ Ok m
 ReadGives (Err (stop.Bad b)) read = read ≡ Err b
 ReadGives (Err stop.Source) read = Unit {0}
 ReadGives (Err stop.NoMemory) read = Unit {0}
 
--- A fact, where the text was read as far as it counts: the answer is a matrix or a bad line.
+-- A fact, if the text was read as far as it counts: the answer is a matrix or a bad line.
 abbrev pub OnDecided : Result Sparse ReadFault → Type 0 → Type 0
 OnDecided (Ok m) P = P
 OnDecided (Err (stop.Bad b)) P = P

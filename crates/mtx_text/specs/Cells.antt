@@ -19,8 +19,8 @@ abbrev pub InOrder : List Triple → Type 0
 InOrder cells = AllPairs (λ s t. is_before s t ≡ true) cells
 
 -- Cells in order, after a value was raised to t's: its place has the greater of the two values, or
--- t's where it had none.
--- raised (i,j,v) cells = cells with max v w at (i,j), where w was there, and else with v (0,1,5),
+-- t's if it had none.
+-- raised (i,j,v) cells = cells with max v w at (i,j), if w was there, and else with v (0,1,5),
 -- (2,0,3) raised to (2,0,4) has 4 at row 2, raised to (2,0,2) stays, and raised to (1,1,1) has
 -- three cells.
 abbrev pub with_value_raised : Triple → List Triple → List Triple

@@ -27,7 +27,7 @@ use Rattle.mtx_text.specs.Sparse.{Sparse, AreSides}
 
 -- ---- Steps that may refuse
 
--- The second step, where the first gave a value: the `?` of the definitions.
+-- The second step, if the first gave a value: the `?` of the definitions.
 infixl 10 ◌>>=◌
 abbrev pub ◌>>=◌ : {A B E : Type 0} → Result A E → (A → Result B E) → Result B E
 Ok x >>= next = next x
@@ -76,14 +76,14 @@ profile_form (Some k) None = None
 profile_form (Some kind.Pattern) (Some SkewSymmetric) = None
 profile_form (Some k) (Some s) = Some (record { kind = k; symmetry = s })
 
--- The first five words, where there are as many.
+-- The first five words, if there are as many.
 abbrev pub five_of : List (List ℕ) → Option (List ℕ × List ℕ × List ℕ × List ℕ × List ℕ)
 five_of (a ∷ b ∷ c ∷ d ∷ e ∷ more) = Some (a, b, c, d, e)
 five_of _ = None
 
 -- The banner: "%%MatrixMarket" and then object, format, field and symmetry; further words are
 -- ignored.
---   reason 1 where the words are too few or the first is another, then 2 where the profile doesn't
+--   reason 1 if the words are too few or the first is another, then 2 if the profile doesn't
 --   accept the four "%%MatrixMarket MATRIX Coordinate pattern general" is a pattern without
 --   symmetry; with "real" it is unsupported.
 abbrev pub banner_form : List ℕ × List ℕ × List ℕ × List ℕ × List ℕ → Result Form Reason
@@ -122,7 +122,7 @@ pub record AreLimited (sizes : Sizes) : Type 0 where
 
 -- The sizes: three integer words that aren't negative, for rows, columns and entries; `read` reads
 -- an integer word.
---   reason 3 where a word is missing, over, or no such integer, then the limits
+--   reason 3 if a word is missing, over, or no such integer, then the limits
 --   "3 3 4" is 3 by 3 with 4 entries; "-1 1 0" is a bad size line; "16385 1 0" is too large.
 unfoldable pub sizes_by : (List ℕ → Option Integer) → Form → List (List ℕ) → Result Sizes Reason
 sizes_by read form words = do
@@ -160,7 +160,7 @@ value_within None = Err reason.Value
 value_within (Some z) = if nat_lt 1_000_000_000_000 z.size then Err reason.Value else Ok (value_of z)
 
 -- An entry line by itself; `read` reads an integer word.
---   reason 5 where words are missing, over, or an index is no integer, then 6, 13 and 7 with
+--   reason 5 if words are missing, over, or an index is no integer, then 6, 13 and 7 with
 --   integer "2 1 -7" is -7 at row 1 and column 0, counted from 0; with pattern "2 1" is 1 there.
 unfoldable pub cell_by : (List ℕ → Option Integer) → Form → Sizes → List (List ℕ) → Result Triple Reason
 cell_by read form sizes words = do
@@ -181,7 +181,7 @@ entry_of form sizes done words = do
   t ← cell_by integer_of form sizes words
   if has_place t.i t.j done then Err reason.Duplicate else Ok t
 
--- The entries that an entry line stands for: itself, and its mirror where it has one.
+-- The entries that an entry line stands for: itself, and its mirror if it has one.
 --   symmetric: (j,i,v) off the diagonal; skew-symmetric: (j,i,-v)
 --   symmetric "2 1 7" stands for 7 at (1,0) and at (0,1), "1 1 5" for 5 at (0,0) alone.
 abbrev pub stands_for : Symmetry → Triple → List Triple
@@ -202,7 +202,7 @@ abbrev pub none_over : List Line → List Triple → Result (List Triple) BadLin
 none_over [] entries = Ok entries
 none_over (line ∷ rest) entries = Err (bad line.number reason.TooMany)
 
--- Reason 9 at the end line where lines are missing.
+-- Reason 9 at the end line if lines are missing.
 abbrev pub as_many : ℕ → ℕ → List Line → List Triple → Result (List Triple) BadLine
 as_many end count lines entries =
     if nat_lt (length lines) count then Err (bad end reason.TooFew) else none_over (drop count lines) entries
@@ -223,7 +223,7 @@ body_of form end (line ∷ rest) = do
   entries ← entries_of form sizes end sizes.entries [] rest
   Ok (record { rows = sizes.rows; cols = sizes.cols; kind = form.kind; entries = entries })
 
--- The words of line 1, and none where there is no line.
+-- The words of line 1, and none if there is no line.
 abbrev pub first_words : List (List ℕ) → List (List ℕ)
 first_words [] = []
 first_words (line ∷ rest) = words_of line
@@ -239,7 +239,7 @@ abbrev pub line_after : ℕ → List ℕ → ℕ
 line_after n text = 1 + count_by (λ b. b == 10) (take n text)
 
 -- The matrix of a text, or its first bad line.
---   reason 11 where the text has more than 16,777,216 bytes, else what its lines are read as
+--   reason 11 if the text has more than 16,777,216 bytes, else what its lines are read as
 --   "%%MatrixMarket matrix coordinate pattern general/2 2 1/2 1/" is 2 by 2 with 1 at row 1 and
 --   column 0.
 unfoldable pub matrix_of : List ℕ → Result Sparse BadLine

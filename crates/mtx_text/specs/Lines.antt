@@ -2,7 +2,7 @@
 use Rattle.std.specs.Prelude.{ℕ, ◌+◌, ◌==◌, ◌||◌, Bool, true, false, List, [], ◌∷◌, length, map, nat_lt, if◌then◌else◌}
 use Rattle.std.specs.List.{filter, onto_first, slice_split}
 
--- The pieces of a text: it is cut at LF bytes, and what stands after the last LF is a piece where
+-- The pieces of a text: it is cut at LF bytes, and what stands after the last LF is a piece if
 -- it isn't empty.
 --   pieces (piece ++ LF ∷ rest) = piece ∷ pieces rest
 --   "1 2/3" has the pieces "1 2" and "3", "1 2/" has one, the empty text has none.
@@ -49,8 +49,8 @@ pub record Line : Type 0 where
   pub number : ℕ
   pub words : List (List ℕ)
 
--- The lines that count, where the first of the lines given is line n of the text.
---   lines_from n (line ∷ rest) = (line n, where it isn't skipped) and lines_from (n + 1) rest from
+-- The lines that count, if the first of the lines given is line n of the text.
+--   lines_from n (line ∷ rest) = (line n, if it isn't skipped) and lines_from (n + 1) rest from
 --   2, "%", "3 3 4" and "1 1" give line 3 with the words "3", "3", "4" and line 4 with the words
 --   "1", "1".
 abbrev pub lines_from : ℕ → List (List ℕ) → List Line

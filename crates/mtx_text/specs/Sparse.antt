@@ -24,7 +24,7 @@ pub record IsInside (rows cols : ℕ) (t : Triple) : Type 0 where
   pub col : t.j < cols
   pub limit : nat_abs t.v ≤ 1_000_000_000_000
 
--- An entry lies inside its matrix and has a value within the limits, which is 1 where the kind is
+-- An entry lies inside its matrix and has a value within the limits, which is 1 if the kind is
 -- Pattern.
 pub record IsEntry (m : Sparse) (t : Triple) : Type 0 where
   pub row : t.i < m.rows

@@ -1,7 +1,7 @@
 //! Whether no place comes twice among entries, in time that grows with their number.
 //!
 //! A walk over the entries of a row marks each column that it meets with the row's own stamp: a
-//! column that bears the stamp already came twice. Where the entries stand row by row, one walk
+//! column that bears the stamp already came twice. If the entries stand row by row, one walk
 //! goes over them all as they stand; else the entries of each row are chained first.
 ghost use Rattle.std.specs.Prelude.{◌≡◌, ◌<◌, true, replicate, vec_len, Ok};
 ghost use Rattle.std.specs.List.{All, AllPairs};

@@ -17,7 +17,7 @@ pub(crate) fn append(triples: &mut Vec<Triple>, t: Triple) -> Result<(), AllocEr
     append_full(triples, t)
 }
 
-/// Appends one triple where the list has to grow: kept apart, so that `append` is few steps.
+/// Appends one triple if the list has to grow: kept apart, so that `append` is few steps.
 #[inline(never)]
 fn append_full(triples: &mut Vec<Triple>, t: Triple) -> Result<(), AllocError>
     ensures { AllOrNothing (triples.old.items ++ t ∷ []) triples.old.items triples.new.items result }

@@ -1,4 +1,4 @@
-//! Entry lines read with a look at every place that came before: slower, and exact where a place
+//! Entry lines read with a look at every place that came before: slower, and exact if a place
 //! comes twice.
 ghost use Rattle.std.specs.Prelude.{◌≡◌, ◌+◌, [], true, List, length, IfOk};
 ghost use Rattle.bale_items.specs.declared.triple.Triple.{Triple};

@@ -20,7 +20,7 @@ use bale_items::Triple;
 /// Absolute values at most.
 const MOST_VALUE: u64 = 1_000_000_000_000;
 
-/// What the plain line that a text begins with names, how many bytes it has, and where the next
+/// What the plain line that a text begins with names, how many bytes it has, and if the next
 /// line begins.
 #[derive(Clone, Copy)]
 pub(crate) struct PlainCell {
@@ -92,7 +92,7 @@ fn cell_of(form: Form, sizes: Sizes, fields: Option<Fields>) -> Result<Triple, R
     })
 }
 
-/// Row and column counted from 0, where they are in range and allowed.
+/// Row and column counted from 0, if they are in range and allowed.
 fn place(form: Form, sizes: Sizes, i: Integer, j: Integer) -> Result<(u32, u32), Reason>
     ensures { result ≡ place_of form sizes i j }
 {

@@ -21,7 +21,7 @@ const MOST_WAITING: usize = 1_024;
 
 /// An ordered map from places to values, seen as the list of its cells by row and then column.
 ///
-/// What comes is kept as it comes. It is put in order by `settle`, by `into_entries`, and where a
+/// What comes is kept as it comes. It is put in order by `settle`, by `into_entries`, and if a
 /// matrix is made of it.
 #[derive(Drop)]
 pub struct Cells {
@@ -55,12 +55,12 @@ impl Cells {
         }
     }
 
-    /// Raises the value at row `i` and column `j` to `v`: it is `v` where the place was new or had
+    /// Raises the value at row `i` and column `j` to `v`: it is `v` if the place was new or had
     /// a lesser value, and else nothing changes.
     ///
     /// # Errors
     ///
-    /// `NoMemory` where there was none; the cells are as before.
+    /// `NoMemory` if there was none; the cells are as before.
     #[inline(always)]
     pub fn raise(&mut self, i: u32, j: u32, v: i64) -> Result<(), NoMemory>
         ensures { AllOrNothing (with_value_raised (record { i = i; j = j; v = v }) self.old) self.old self.new result }
@@ -73,7 +73,7 @@ impl Cells {
     ///
     /// # Errors
     ///
-    /// `NoMemory` where there was none; the cells are as before.
+    /// `NoMemory` if there was none; the cells are as before.
     pub fn raise_all(&mut self, other: &Cells) -> Result<(), NoMemory>
         ensures { AllOrNothing (raised_all self.old other.now) self.old self.new result }
     {
@@ -81,12 +81,12 @@ impl Cells {
         Ok(())
     }
 
-    /// Puts the value `v` at row `i` and column `j`, where that place is new, and says whether it
+    /// Puts the value `v` at row `i` and column `j`, if that place is new, and says whether it
     /// was; else nothing changes.
     ///
     /// # Errors
     ///
-    /// `NoMemory` where there was none; the cells are as before.
+    /// `NoMemory` if there was none; the cells are as before.
     pub fn put(&mut self, i: u32, j: u32, v: i64) -> Result<bool, NoMemory>
         ensures fresh { IfOk result (λ fresh. fresh ≡ not (has_place i j self.old)) }
         ensures put { result ≡ Ok true → self.new ≡ with_value_raised (record { i = i; j = j; v = v }) self.old }
@@ -124,7 +124,7 @@ impl Cells {
     }
 
     /// The cell of the least place, by row and then column, that isn't before row `i` and column
-    /// `j`; `None` exactly where there is none.
+    /// `j`; `None` if and only if there is none.
     pub fn at_or_after(&self, i: u32, j: u32) -> Option<Triple>
         ensures first { result ≡ first_from i j self.now }
         ensures ordered { InOrder self.now }

@@ -1,4 +1,4 @@
-//! Digits many at a time: where runs of them end among sixteen bytes, and the number that up to
+//! Digits many at a time: if runs of them end among sixteen bytes, and the number that up to
 //! five of them are.
 ghost use Rattle.std.specs.Prelude.{◌≡◌, ℕ, ◌<◌, ◌≤◌, length, map};
 ghost use Rattle.std.specs.Simd.Lanes.{mask_l};

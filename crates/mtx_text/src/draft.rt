@@ -17,7 +17,7 @@ use crate::sizes::Sizes;
 use bale_items::Triple;
 use std::alloc::{AllocError, Global};
 
-/// The entries of the lines that were read, and the line that ended the reading, where it is bad.
+/// The entries of the lines that were read, and the line that ended the reading, if it is bad.
 #[derive(Drop)]
 pub(crate) struct Draft {
     pub(crate) entries: Vec<Triple>,
@@ -104,7 +104,7 @@ pub struct Run<'a> {
 /// How many plain lines pay for the look at one that isn't.
 const PAUSE: u32 = 16;
 
-/// Reads on as long as lines are plain and their entries in range. Where lines that aren't plain
+/// Reads on as long as lines are plain and their entries in range. If lines that aren't plain
 /// come often, most of them are not even looked at.
 #[inline(never)]
 fn read_plain<'a>(
@@ -134,7 +134,7 @@ fn read_plain<'a>(
     }
 }
 
-/// Reads on as `read_plain` does where a look is due. A matrix with no mirrors has a copy of this
+/// Reads on as `read_plain` does if a look is due. A matrix with no mirrors has a copy of this
 /// loop that asks for none.
 #[inline(always)]
 #[tactic(auto, using(crate::proofs::Steps::draft_ok))]

@@ -1,6 +1,6 @@
 //! The entry lines of a text.
 //!
-//! They are first read without regard to duplicates. Where no place came twice, which one walk over
+//! They are first read without regard to duplicates. If no place came twice, which one walk over
 //! the entries shows, that reading is the answer. Else they are read again, with a look at every
 //! place that came before, for the first bad line.
 ghost use Rattle.std.specs.Prelude.{◌+◌, [], length};

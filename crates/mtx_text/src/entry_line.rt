@@ -20,13 +20,13 @@ pub struct EntryLine {
     fours: Fours,
     /// The row, from 1, and a blank.
     front: Line,
-    /// The row that the front names, from 1; 0 where it names none yet.
+    /// The row that the front names, from 1; 0 if it names none yet.
     row: u64,
-    /// What the value is; none where there is no entry yet.
+    /// What the value is; none if there is no entry yet.
     kind: Option<Kind>,
     /// The column, from 0.
     column: u32,
-    /// The value, where it is written.
+    /// The value, if it is written.
     value: i64,
 }
 

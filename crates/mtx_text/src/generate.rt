@@ -15,7 +15,7 @@ use std::alloc::{AllocError, Global};
 ///
 /// # Errors
 ///
-/// `NoMemory` where there was none.
+/// `NoMemory` if there was none.
 pub fn gen_matrix(alloc: Global, n: u32, m: u32, seed: u64) -> Result<Matrix, NoMemory>
     requires some { 1 ≤ n }
     requires full { n ≤ m }

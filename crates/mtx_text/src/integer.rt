@@ -34,7 +34,7 @@ pub(crate) fn read_integer(word: &[u8]) -> Option<Integer>
     }
 }
 
-/// The number that one or more decimal digits spell, or the cap where that is less.
+/// The number that one or more decimal digits spell, or the cap if that is less.
 fn read_digits(digits: &[u8]) -> Option<u64>
     ensures { result ≡ option_map (λ n. min n 1_000_000_000_000_000_000) (digits_of digits.now) }
 {

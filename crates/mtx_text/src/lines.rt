@@ -17,7 +17,7 @@ pub(crate) struct Kept<'a> {
     pub(crate) rest: &'a [u8],
 }
 
-/// The next line that counts, where the text begins with line `number`; else the number of the end
+/// The next line that counts, if the text begins with line `number`; else the number of the end
 /// line.
 pub(crate) fn next_kept(text: &[u8], number: u64) -> Result<Kept<'_>, u64>
     requires { number + length text.now < 2 ^ 63 }
@@ -42,7 +42,7 @@ pub(crate) fn next_kept(text: &[u8], number: u64) -> Result<Kept<'_>, u64>
     Err(number)
 }
 
-/// The line of `len` bytes that a text begins with, where it counts; the next line begins at the
+/// The line of `len` bytes that a text begins with, if it counts; the next line begins at the
 /// byte `next`.
 #[inline(always)]
 #[tactic(auto, using(crate::proofs::PlainLines::kept_at, crate::proofs::PlainLines::left_at))]
@@ -98,7 +98,7 @@ pub(crate) fn cut_line(text: &[u8]) -> (&[u8], &[u8])
     (uncarried(piece), behind_first(rest))
 }
 
-/// What stands behind the first byte, and nothing where there is none.
+/// What stands behind the first byte, and nothing if there is none.
 fn behind_first(text: &[u8]) -> &[u8]
     ensures { result.now ≡ drop 1 text.now }
 {

@@ -9,7 +9,7 @@ use std::marker::Model;
 /// A sparse matrix: its sizes, its kind, and its entries in order, each a triple counted from 0.
 ///
 /// Rows and columns are at most 16,384 each, entries at most 524,288, each inside the matrix, no
-/// place twice; absolute values are at most 1,000,000,000,000, and 1 throughout where the kind is
+/// place twice; absolute values are at most 1,000,000,000,000, and 1 throughout if the kind is
 /// Pattern.
 #[derive(Drop)]
 pub struct Matrix {
@@ -79,7 +79,7 @@ impl Matrix {
         self.entries.as_slice().get(e).copied()
     }
 
-    /// Does nothing, and tells what every matrix keeps.
+    /// Does nothing, and states what every matrix keeps.
     #[inline]
     pub fn known(&self)
         ensures { IsSparse self.now }

@@ -11,7 +11,7 @@ use crate::integer::{CAP, Integer, read_integer};
 use crate::kind::Kind;
 use crate::words::{cut_word, first_word, is_blank, trimmed};
 
-/// A word read as an integer, where it is one, and the line behind it.
+/// A word read as an integer, if it is one, and the line behind it.
 #[derive(Clone, Copy)]
 struct Number<'a> {
     word: &'a [u8],
@@ -108,7 +108,7 @@ fn ends_word(line: &[u8], len: usize) -> bool
     len == line.len() || is_blank(line[len])
 }
 
-/// How many digits a line begins with, and their number, or the cap where that is less.
+/// How many digits a line begins with, and their number, or the cap if that is less.
 #[inline(always)]
 fn leading_digits(line: &[u8]) -> (u64, usize)
     ensures { CappedTo line.now result.1 result.0 }

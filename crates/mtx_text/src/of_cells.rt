@@ -20,7 +20,7 @@ impl Matrix {
     ///
     /// # Errors
     ///
-    /// `NoMemory` where there was none, or where there are more cells than the 524,288 entries of a
+    /// `NoMemory` if there was none, or if there are more cells than the 524,288 entries of a
     /// matrix.
     pub fn of_cells(
         alloc: Global,
@@ -54,12 +54,12 @@ impl Matrix {
         of_ordered(rows, cols, kind, cells.into_entries())
     }
 
-    /// The matrix of the cells of several maps, ordered by row and then column; where some have the
+    /// The matrix of the cells of several maps, ordered by row and then column; if some have the
     /// same place, their greatest value counts.
     ///
     /// # Errors
     ///
-    /// `NoMemory` where there was none, or where there are more cells than the 524,288 entries of a
+    /// `NoMemory` if there was none, or if there are more cells than the 524,288 entries of a
     /// matrix.
     pub fn of_all_cells(
         alloc: Global,

@@ -44,7 +44,7 @@ pub(crate) struct Front<'a> {
     pub(crate) rest: &'a [u8],
 }
 
-/// The digits that a line ends with: their number, how many they are, and where the next line
+/// The digits that a line ends with: their number, how many they are, and if the next line
 /// begins.
 #[derive(Clone, Copy)]
 struct Ending {
@@ -53,7 +53,7 @@ struct Ending {
     next: usize,
 }
 
-/// The last word of a line: its integer, how many bytes it has, and where the next line begins.
+/// The last word of a line: its integer, how many bytes it has, and if the next line begins.
 #[derive(Clone, Copy)]
 pub(crate) struct Last {
     value: Integer,
@@ -61,7 +61,7 @@ pub(crate) struct Last {
     next: usize,
 }
 
-/// The fields of a plain line, how many bytes it has, and where the next line begins.
+/// The fields of a plain line, how many bytes it has, and if the next line begins.
 #[derive(Clone, Copy)]
 pub(crate) struct Plain {
     pub(crate) fields: Fields,
@@ -85,7 +85,7 @@ pub(crate) fn front_of_three(text: &[u8]) -> Option<Front<'_>>
     })
 }
 
-/// The value at the end of such a line, where it is one of few digits.
+/// The value at the end of such a line, if it is one of few digits.
 #[inline(always)]
 pub(crate) fn short_value(front: Front<'_>) -> Option<Last>
     requires { IsFew front.two front.rest.now }
@@ -180,7 +180,7 @@ fn natural(size: u64) -> Integer
     Integer { minus: false, size }
 }
 
-/// The word that a text begins with, where it is digits behind a minus or no sign, and the line
+/// The word that a text begins with, if it is digits behind a minus or no sign, and the line
 /// ends with it.
 #[inline(never)]
 #[tactic(auto, using(crate::proofs::PlainLines::digits_last))]
@@ -206,7 +206,7 @@ pub(crate) fn last_word(text: &[u8]) -> Option<Last>
     })
 }
 
-/// The digits that a text begins with, where they are at most `MOST_DIGITS` and the line ends with
+/// The digits that a text begins with, if they are at most `MOST_DIGITS` and the line ends with
 /// them.
 #[inline(always)]
 fn last_digits(text: &[u8]) -> Option<Ending>
@@ -240,7 +240,7 @@ fn line_end(text: &[u8], len: usize) -> Option<usize>
     None
 }
 
-/// The digits that a text begins with, where another byte follows. The number of too many digits
+/// The digits that a text begins with, if another byte follows. The number of too many digits
 /// wraps: it is cheaper to count them once than to look at each whether it is one too many.
 #[inline(always)]
 fn leading(text: &[u8]) -> Option<Digits>
@@ -258,7 +258,7 @@ fn leading(text: &[u8]) -> Option<Digits>
 /// As many digits as are read one by one, without a loop.
 const UNROLLED: usize = 5;
 
-/// The digits that a text begins with, as an error where they are fewer than `UNROLLED`.
+/// The digits that a text begins with, as an error if they are fewer than `UNROLLED`.
 #[inline(always)]
 fn few_digits(text: &[u8]) -> Result<Digits, Digits>
     requires { 5 < length text.now }
@@ -272,7 +272,7 @@ fn few_digits(text: &[u8]) -> Result<Digits, Digits>
     digit_more(text, five)
 }
 
-/// One digit more, or as an error the digits as they are, where no digit follows.
+/// One digit more, or as an error the digits as they are, if no digit follows.
 #[inline(always)]
 fn digit_more(text: &[u8], digits: Digits) -> Result<Digits, Digits>
     requires { MayRead text.now digits }
@@ -289,7 +289,7 @@ fn digit_more(text: &[u8], digits: Digits) -> Result<Digits, Digits>
     })
 }
 
-/// The digits that a text begins with, however many, where another byte follows.
+/// The digits that a text begins with, however many, if another byte follows.
 #[inline(always)]
 fn more_digits(text: &[u8]) -> Option<Digits>
     ensures { IfSome result (LeadingDigits text.now) }

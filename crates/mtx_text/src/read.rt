@@ -18,7 +18,7 @@ use std::alloc::Global;
 ///
 /// # Errors
 ///
-/// `Source` where a read failed, and only there, as the source's faults tell; `Bad` exactly as of
+/// `Source` if a read failed, and only there, as the source's faults tell; `Bad` exactly as of
 /// [`parse_matrix`]; want of memory may come at any time.
 pub fn read_matrix<S: Source>(alloc: Global, source: &mut S) -> Result<Matrix, ReadFault>
     ensures gives { (text : List ℕ) → S.left source.old ≡ Some text → ReadGives result (matrix_of text) }

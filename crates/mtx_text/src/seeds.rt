@@ -51,7 +51,7 @@ impl Words {
     ///
     /// # Errors
     ///
-    /// `NoMemory` where there was none; no word was drawn.
+    /// `NoMemory` if there was none; no word was drawn.
     pub fn permutation(&mut self, alloc: Global, n: u32) -> Result<Vec<u32>, NoMemory>
         ensures list { IfOk result (λ p. p.items ≡ (permutation_of n self.old).0) }
         ensures state { OnOk result (self.new ≡ (permutation_of n self.old).1) }

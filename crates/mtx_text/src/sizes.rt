@@ -59,7 +59,7 @@ fn natural(z: Option<Integer>) -> Option<u64>
     }
 }
 
-/// The sizes, where they are within the limits.
+/// The sizes, if they are within the limits.
 fn limited(form: Form, rows: u64, cols: u64, entries: u64) -> Result<Sizes, Reason>
     ensures value { result ≡ within_limits form (record { rows = rows; cols = cols; entries = entries }) }
     ensures limited { IfOk result AreLimited }

@@ -13,12 +13,12 @@ use bale_items::Triple;
 use bale_types::{Failed, Line, Out, Sink};
 
 /// Appends the text of a matrix: banner, sizes, and a line for each entry in the order of its list.
-/// Takes no memory. What was written is read as the same matrix, where it has no more entries than
+/// Takes no memory. What was written is read as the same matrix, if it has no more entries than
 /// a text may have.
 ///
 /// # Errors
 ///
-/// `Failed` where the sink's faults rose in this call.
+/// `Failed` if the sink's faults rose in this call.
 pub fn write_matrix<K: Sink>(m: &Matrix, out: &mut Out<'_, K>) -> Result<(), Failed>
     ensures written { Writes K.taken K.faults (text_of m.now) out.old out.new result }
     ensures read_again { length m.now.entries ≤ 262_144 → matrix_of (text_of m.now) ≡ Ok m.now }

@@ -23,12 +23,12 @@ pub record EndsLast (log : List Shipped) : Type 0 where
   pub is : log ≡ front ++ final ∷ []
   pub last : final.last ≡ true
 
--- How many parcels of a link are marked last, in an epoch: one more where the link has ended it.
+-- How many parcels of a link are marked last, in an epoch: one more if the link has ended it.
 abbrev pub lasts_in : ℕ → Bool → ℕ
 lasts_in epoch through = if through then epoch + 1 else epoch
 
 -- Segment e of a log: the parcels after the e-th parcel marked last, up to and including the next
--- one marked last, or up to the log's end. It is closed where e < lasts log.
+-- one marked last, or up to the log's end. It is closed if e < lasts log.
 -- With the marks no, yes, yes, no segment 0 is the first two parcels, segment 1 the third and
 -- segment 2 the fourth.
 abbrev pub segment : ℕ → List Shipped → List Shipped

@@ -1,4 +1,4 @@
--- What went over a link, where nothing of it is kept.
+-- What went over a link, if nothing of it is kept.
 use Rattle.std.specs.Prelude.{List, [], ◌∷◌, ◌++◌}
 use Rattle.bale_items.specs.declared.item.Entry.{Entry}
 use Rattle.item_buffer.specs.Contents.{Shipped}

@@ -86,7 +86,7 @@ pub record BankPosted (old new : Bank) (l : ℕ) (p : Shipped) (r : Result Poste
   pub no_room : r ≡ Ok NoRoom → new ≡ with_channel old l (channel_after_refusal (channel_at old l))
   pub no_memory : IsErr r → new ≡ old
 
--- What a collect did: it looked and listened once, and p is the next parcel where it got one.
+-- What a collect did: it looked and listened once, and p is the next parcel if it got one.
 pub record BankCollected (old new : Bank) (l : ℕ) (p : Shipped) (r : Collected) : Type 0 where
   pub got : r ≡ Got → new ≡ with_channel old l (channel_after_collect (channel_at old l) p)
   pub nothing : r ≡ Nothing → new ≡ with_channel old l (channel_after_look (channel_at old l))

@@ -17,7 +17,7 @@ HasFairTags dims h p = All (λ e. IsFair dims h e.tag) p.entries
 -- The relay law of rank r, over the logs of what it sent on its links out and got on its links in.
 -- fair: what it sent on a link of hop h has tags that are fair on h.
 -- begins: what it passed on of a pair's flow is a prefix of what it got of it.
--- closed: where it ended an epoch on a link of hop h + 1, it had got the end of that epoch on every
+-- closed: if it ended an epoch on a link of hop h + 1, it had got the end of that epoch on every
 -- link of hop h.
 -- whole: there it passed on the pair's whole flow of that epoch.
 -- Example: in the grid 2x2 rank 0 got [x, y] from 1 to 2 in epoch 0: it may have sent [x] toward 2,

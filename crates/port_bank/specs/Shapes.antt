@@ -11,13 +11,13 @@ IsFilled false cap p = length p.entries ≡ cap
 IsFilled true cap p = 0 < length p.entries
 
 -- The shape of a conveyor's log: every parcel that isn't marked last is filled.
--- At capacity 2 the parcels [x, y], [z] have it where the second is marked last.
+-- At capacity 2 the parcels [x, y], [z] have it if the second is marked last.
 abbrev pub IsConveyorShape : Bool → ℕ → List Shipped → Type 0
 IsConveyorShape steady cap log = All (λ p. p.last ≡ false → IsFilled steady cap p) log
 
 -- The shape of an exstack's log: in each segment every parcel of even number is empty, and no
 -- parcel of odd number is marked last.
--- The parcels [], [x], [] have it where the third is marked last.
+-- The parcels [], [x], [] have it if the third is marked last.
 pub record IsExstackShape (log : List Shipped) : Type 0 where
   pub empty : (e i : ℕ) (d : Shipped) → i < length (segment e log) → i % 2 ≡ 0
       → (slice_index_or (segment e log) i d).entries ≡ []

@@ -11,15 +11,15 @@
 //!
 //! | Call | Answer |
 //! |---|---|
-//! | `Port::post` | `Sent`; `NoRoom` where as many parcels as there are slots wait for the link's reader |
-//! | `Port::collect` | `Got`; `Nothing` where every parcel that the port heard of is collected |
+//! | `Port::post` | `Sent`; `NoRoom` if as many parcels as there are slots wait for the link's reader |
+//! | `Port::collect` | `Got`; `Nothing` if every parcel that the port heard of is collected |
 //! | `PlainBank::new` | a bank on which nothing was sent |
 //! | `PlainBank::port`, `PlainPort::into_bank` | one rank's port, which owns the bank, and the bank back |
 //! | `PlainBank::live_law`, `PlainPort::live_law` | the laws of a closed round hold of a bank's lists at every moment |
 //! | `PlainBank::close` | a closed round, on which what each rank pulled is what the others pushed |
 //! | `PlainRound::ranks`, `PlainRound::epochs` | the number of ranks; how many epochs every link has ended |
 //! | `is_slot_count` | whether a link may have so many slots |
-//! | `few_parcels_law` | where only its last parcel may be less than full, an epoch has few parcels |
+//! | `few_parcels_law` | if only its last parcel may be less than full, an epoch has few parcels |
 #![tactic(auto)]
 
 mod calls;

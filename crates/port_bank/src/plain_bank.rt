@@ -96,7 +96,7 @@ impl<const CAP: usize> PlainBank<CAP> {
         PlainRound::new(grid, CAP as u32, slots, links)
     }
 
-    /// Does nothing, and tells that the bank keeps the laws of a round at every moment, and not
+    /// Does nothing, and states that the bank keeps the laws of a round at every moment, and not
     /// only when it is closed.
     pub fn live_law(&self)
         ensures { IsRound (round_of_bank CAP self.now) }
@@ -104,7 +104,7 @@ impl<const CAP: usize> PlainBank<CAP> {
         let _slots = self.slots;
     }
 
-    /// Does nothing, and tells what a bank keeps.
+    /// Does nothing, and states what a bank keeps.
     pub(crate) fn known(&self)
         ensures { IsBank CAP self.now }
     {

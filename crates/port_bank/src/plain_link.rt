@@ -19,7 +19,7 @@ use std::marker::Model;
 pub(crate) struct PlainLink {
     sent: Log,
     got: Log,
-    /// How many epochs its reader has seen the end of; this count and those below stand still at
+    /// How many epochs its reader has seen the end of; this count and those below saturate at
     /// their last number.
     ended: u64,
     /// How often the sender looked for room.

@@ -29,7 +29,7 @@ impl<const CAP: usize> PlainPort<CAP> {
         }
     }
 
-    /// Does nothing, and tells that the bank keeps the laws of a round at every moment: so in each
+    /// Does nothing, and states that the bank keeps the laws of a round at every moment: so in each
     /// epoch and for each pair of ranks what was got on the last hop is a prefix of what was sent
     /// on the first.
     pub fn live_law(&self)

@@ -53,7 +53,7 @@ impl PlainRound {
         self.grid.ranks()
     }
 
-    /// How many epochs every link has ended. The count stands still at the last number.
+    /// How many epochs every link has ended. The count saturates.
     pub fn epochs(&self) -> u64
         ensures value { result ≡ saturated_count (epochs_of self.now) }
         ensures round { IsRound self.now }

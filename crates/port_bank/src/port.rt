@@ -41,7 +41,7 @@ pub enum Collected {
 /// | What contracts see | Of |
 /// |---|---|
 /// | `rank`, `dims`, `slots` | the rank, the grid, and the number of slots of each link; no call changes them |
-/// | `sent`, `got` | each link: all parcels that the rank posted there, or collected there; empty where the link isn't its own |
+/// | `sent`, `got` | each link: all parcels that the rank posted there, or collected there; empty if the link isn't its own |
 /// | `freed`, `crowded` | each link out: how many of its parcels the port knows to be collected, and whether that leaves no slot |
 /// | `known`, `idle` | each link in: how many parcels the port knows to be posted, and whether it collected all those |
 /// | `calls` | the calls of `post` that had memory and those of `collect`, in the order in which they were made |
@@ -99,10 +99,10 @@ pub trait Port<const CAP: usize>: Drop {
     ///
     /// The parcel is fresh, is of the epoch that the link is in, and, with the parcels posted
     /// before, keeps the relay law: it passes on only what the rank got, and is marked last only
-    /// where that is all.
+    /// if that is all.
     ///
     /// # Errors
-    /// `NoMemory` changes nothing, and never comes where `Memory::GROWS` is false.
+    /// `NoMemory` changes nothing, and never comes if `Memory::GROWS` is false.
     fn post(&mut self, link: u32, p: &mut Parcel<CAP>) -> Result<Posted, NoMemory>
         requires link { link < links (dims self.old) }
         requires starts_here { sender_at (dims self.old) link ≡ rank self.old }
@@ -122,7 +122,7 @@ pub trait Port<const CAP: usize>: Drop {
             ≡ freed self.new link + slots self.old }
         ensures crowded { result ≡ Ok Posted.NoRoom → crowded self.new link ≡ true }
 
-        // Where the port knew of a free slot, it is used.
+        // If the port knew of a free slot, it is used.
         ensures at_hand { crowded self.old link ≡ false → result ≢ Ok Posted.NoRoom }
 
         // Not sent: nothing else changed; without memory, nothing at all.
@@ -173,7 +173,7 @@ pub trait Port<const CAP: usize>: Drop {
         ensures still_crowded { result ≡ Collected.Nothing → crowded self.new ≡ crowded self.old }
         ensures kept { result ≡ Collected.Nothing → p.new ≡ p.old }
 
-        // Where the port knew of a parcel, it is collected.
+        // If the port knew of a parcel, it is collected.
         ensures at_hand { idle self.old link ≡ false → result ≡ Collected.Got }
 
         // In each case: what the port knows changes at this link alone, and of its links out

@@ -88,7 +88,7 @@ impl<const CAP: usize> Ring<CAP> {
     }
 }
 
-/// Adds a place where every place has a parcel on its way. Answers the place of the next collect.
+/// Adds a place if every place has a parcel on its way. Answers the place of the next collect.
 ///
 /// # Errors
 /// `NoMemory` changes nothing.
@@ -111,7 +111,7 @@ fn make_room<const CAP: usize>(
 }
 
 /// Turns the places, each of which has a parcel on its way, until the next one to collect is in
-/// front, and adds one behind them. It is seldom called, and out of the way of the code that is.
+/// front, and adds one behind them. It is rarely called, so it is kept out of line.
 ///
 /// # Errors
 /// `NoMemory` changes nothing.

@@ -47,7 +47,7 @@ RepliesBegin {S} T = (dims : List ℕ) (all : ℕ → S) (asking asked replying 
     → ((r : ℕ) → r < ranks dims → IsOwnSide T dims all r asking replying asked)
     → (s d : ℕ) → s < ranks dims → d < ranks dims → IsPrefix (got_from dims replied s d) (replies_of T all d s)
 
--- Where each rank sent all, and the last links of both ways have ended, they are all of them: each
+-- If each rank sent all, and the last links of both ways have ended, they are all of them: each
 -- query has its one reply.
 abbrev pub RepliesEnd : {S : Type 0} → Talk S → Type 0
 RepliesEnd {S} T = (dims : List ℕ) (all : ℕ → S) (asking asked replying replied : Logs) → IsLawfulBank dims asking asked

@@ -59,10 +59,10 @@ pub record IsFirst (dims : List ℕ) (rank : ℕ) (steady : Bool) (c : State) : 
 
 -- A BiNode between two turns, of a rank that began in the state `start`, over a port of queries
 -- (what it sent is asking, what it got is asked) and one of replies (replying, replied).
--- next_low, all_pushed, pushed: the first so many of its queries are pushed; all of them where it
+-- next_low, all_pushed, pushed: the first so many of its queries are pushed; all of them if it
 -- is done asking.
 -- answered: it pushed its answers, in order, to the queries that it pulled, and nothing else.
--- over: it is done replying only where the queries of all ranks are over.
+-- over: it is done replying only if the queries of all ranks are over.
 -- heard: it heard what came, matched by order alone. read: nothing that came is unheard.
 pub record IsBiNode {S : Type 0} (T : Talk S) (start : S) (n : BiState S)
     (asking asked replying replied : Logs) : Type 0 where
@@ -103,7 +103,7 @@ pub record AdvancesOnce {P : Type 0} {cap : ℕ} {M : Type 0} (G : Ghosts P cap 
 -- to number n'.next.
 -- at_push: the conveyor of queries after these pushes, before it advances, with no more in a parcel
 -- than it holds.
--- pushes: where a query is left, the open parcel toward its receiver is full.
+-- pushes: if a query is left, the open parcel toward its receiver is full.
 pub record HasAsked {S : Type 0} (T : Talk S) (cap : ℕ) (n n' : BiState S) : Type 0 where
   pub at_push : State
   pub fits : HoldsAtMost cap at_push

@@ -16,7 +16,7 @@ pub record Known : Type 0 where
 -- asked: the rank is done asking, or a query was refused, and a link out of the queries is crowded.
 -- answered: all queries that came are answered, or an answer was refused, and a link out of the
 -- replies is crowded.
--- done: it is done replying exactly where its queries are complete.
+-- done: it is done replying if and only if its queries are complete.
 pub record IsStuckBoth {S : Type 0} (n n' : BiState S) (old new : Sides) (known : Known) : Type 0 where
   pub queries : IsStill n.queries n'.queries old.asking old.asked new.asking new.asked known.crowded known.idle
   pub replies : IsStill n.replies n'.replies old.replying old.replied new.replying new.replied known.replies_crowded

@@ -82,7 +82,7 @@ impl<A: Asker, const CAP: usize, const HOPS: usize> BiNode<A, CAP, HOPS> {
 
     /// One turn, by which `steps` rises by one. It pushes queries, in order, until one is refused
     /// or all are pushed; advances the queries; answers those that came, until an answer is
-    /// refused; advances the replies, which are done exactly where the queries are complete; and
+    /// refused; advances the replies, which are done if and only if the queries are complete; and
     /// hears all replies that came.
     ///
     /// # Errors
@@ -122,15 +122,15 @@ impl<A: Asker, const CAP: usize, const HOPS: usize> BiNode<A, CAP, HOPS> {
             now.asking now.replying now.asked }
         ensures memory { P.Memory.GROWS ≡ false → R.Memory.GROWS ≡ false → IsOk result }
 
-        // Ended exactly where both ways are complete.
+        // Ended if and only if both ways are complete.
         ensures ended { result ≡ Ok Turn.Ended → (self.new.queries.phase ≡ Phase.Complete)
             × (self.new.replies.phase ≡ Phase.Complete) }
         ensures going { result ≡ Ok Turn.Going → self.new.queries.phase ≡ Phase.Complete
             → self.new.replies.phase ≢ Phase.Complete }
 
-        // A query is left to push only where its push was refused, and one that came is unread only
-        // where its answer was. The rank is done asking exactly where all its queries are pushed,
-        // and done replying exactly where the queries are over.
+        // A query is left to push only if its push was refused, and one that came is unread only
+        // if its answer was. The rank is done asking if and only if all its queries are pushed,
+        // and done replying if and only if the queries are over.
         ensures unasked { HasAsked A.talk CAP self.old self.new }
         ensures unanswered { HasAnswered A.talk CAP self.old self.new (P.sent queries.old) (P.got queries.old)
             (P.sent queries.new) (P.got queries.new) }
@@ -145,7 +145,7 @@ impl<A: Asker, const CAP: usize, const HOPS: usize> BiNode<A, CAP, HOPS> {
         ensures queries { AdvancesOnce P.Port self.old.queries self.new.queries queries.old queries.new }
         ensures replies { AdvancesOnce R.Port self.old.replies self.new.replies replies.old replies.new }
 
-        // Where no parcel was moved on either way, something outside keeps the rank.
+        // If no parcel was moved on either way, something outside keeps the rank.
         ensures stuck { OnOk result ((start : A) → IsBiNode A.talk start self.old (P.sent queries.old)
             (P.got queries.old) (R.sent replies.old) (R.got replies.old)
             → ((l : ℕ) → P.sent queries.new l ≡ P.sent queries.old l)

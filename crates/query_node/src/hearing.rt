@@ -48,7 +48,7 @@ fn hear_batch<A: Asker, const CAP: usize, const HOPS: usize>(
     replies.pull_all(number);
 }
 
-/// Hears one reply, as that to the first query to the rank `from` that has none; drops it where
+/// Hears one reply, as that to the first query to the rank `from` that has none; drops it if
 /// there is none.
 fn hear_one<A: Asker>(asker: &mut Box<A>, lines: &mut Vec<Line>, from: u32, reply: u64)
     requires from { from < length lines.old.items }

@@ -45,7 +45,7 @@ impl Line {
         Ok(())
     }
 
-    /// Takes the first query out, or answers `None` exactly where none waits.
+    /// Takes the first query out, or answers `None` if and only if none waits.
     #[inline]
     pub(crate) fn next(&mut self) -> Option<u64>
         ensures first { result ≡ slice_get self.old 0 }

@@ -4,7 +4,7 @@ use Rattle.std.specs.List.{list_all}
 use Rattle.list_laws.specs.Lists.{EachAt}
 use Rattle.rank_crews.specs.Runs.{AllRan}
 
--- The ranks of crew k of `count`, where those at hand are the ranks from number r on: each whose
+-- The ranks of crew k of `count`, if those at hand are the ranks from number r on: each whose
 -- number leaves k when divided by count. The last of the list has the lowest number, and is turned
 -- first.
 -- Of the ranks 0 to 4 in two crews, crew 1 has 3 and 1.

@@ -3,7 +3,7 @@ use Rattle.std.specs.Prelude.{◌≡◌, ℕ, ◌+◌, Bool, true, false, List, 
 use Rattle.std.specs.List.{All}
 
 -- The laws of a relation `ran` between a rank before some turns and after them.
--- none: it holds where no turn was made. on: and from some turns to further ones.
+-- none: it holds if no turn was made. on: and from some turns to further ones.
 pub record RanLaws {S : Type 0} (ran : S → S → Type 0) : Type 0 where
   pub none : (x : S) → ran x x
   pub on : (x y z : S) → ran x y → ran y z → ran x z

@@ -98,7 +98,7 @@ impl Backoff {
         };
     }
 
-    /// Counts turns, and reports them where there are enough.
+    /// Counts turns, and reports them if there are enough.
     fn count<R, G: Gate, J: GateLog>(
         &mut self,
         shared: &Shared<'_, R, G, J>,

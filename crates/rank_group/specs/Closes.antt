@@ -4,7 +4,7 @@ use Rattle.exstack.specs.Law as exstacks
 use Rattle.exstack.specs.Law.{CyclesLaw}
 use Rattle.exstack.specs.Lockstep.{RoomLaw, ArrivalLaw}
 
--- Where all ranks agree with one bank, in each epoch that some rank has completed every rank was
+-- If all ranks agree with one bank, in each epoch that some rank has completed every rank was
 -- done, and that rank pulled all that was pushed toward it: by conveyors, and by exstacks.
 -- room, arrival, cycles: over exstacks, ranks that have finished as many rounds don't keep each
 -- other, and what a reader got in a cycle its sender sent in the same.

@@ -1,4 +1,4 @@
--- How items travel where a caller says nothing else, and what a drive promises.
+-- How items travel if a caller says nothing else, and what a drive promises.
 use Rattle.std.specs.Prelude.{ℕ, ◌≡◌, false, List, length}
 use Rattle.std.specs.List.{range_with_len}
 use Rattle.item_buffer.specs.Capacity.{IsCap}

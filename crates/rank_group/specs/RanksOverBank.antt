@@ -120,8 +120,8 @@ pub record DrivePlan {S : Type 0} (R : Rules S) (dims : List ℕ) (slots : ℕ) 
 
 -- What the turns of the first i ranks of an order leave of all ranks, which were in some cycles.
 -- forward: no rank goes back. grown: what moved stays moved.
--- rests: where nothing moved, each rank that was turned and is in its epoch still is at rest.
--- made: over exstacks, where every rank had made j halves of rounds, each still has, and one that
+-- rests: if nothing moved, each rank that was turned and is in its epoch still is at rest.
+-- made: over exstacks, if every rank had made j halves of rounds, each still has, and one that
 -- was turned has made one more.
 pub record AfterSomeTurns {S : Type 0} (R : Rules S) (dims : List ℕ) (cap slots : ℕ) (manner : Manner) (starts : List S)
     (order : List ℕ) (i : ℕ) (cycle0 : ℕ → ℕ) (rs0 : List (RankState S)) (sent0 got0 : Logs) (rs : List (RankState S))

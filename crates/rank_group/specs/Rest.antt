@@ -1,4 +1,4 @@
--- The rest law of nodes: where a sweep of turns over conveyors moved nothing, the least epoch is
+-- The rest law of nodes: if a sweep of turns over conveyors moved nothing, the least epoch is
 -- over.
 use Rattle.std.specs.Prelude.{◌≡◌, ◌⊎◌, ℕ, ◌<◌, ◌≤◌, Bool, true, List}
 use Rattle.route_tensor.specs.Grid.{ranks, IsGrid}
@@ -24,7 +24,7 @@ pub record Conveys {S : Type 0} (R : Rules S) (dims : List ℕ) (steady : Bool) 
 -- A turn of rank r that had memory took its node from n to n' and moved nothing: the lists of the
 -- bank are after it what they were before it.
 -- epoch: it is in the same epoch. kept: no inbox lost an item.
--- waits: what the turn says of what it waits for, where its port knows what is true of the bank.
+-- waits: what the turn says of what it waits for, if its port knows what is true of the bank.
 pub record MovesNothing {S : Type 0} (R : Rules S) (dims : List ℕ) (slots : ℕ) (steady : Bool) (r : ℕ)
     (h : ℕ → S) (n n' : NodeState S) (sent got : Logs) : Type 0 where
   pub conveyed : Conveys R dims steady r h n sent got

@@ -33,7 +33,7 @@ quota_of R p starts r e = quota_from R p starts r 0 e
 
 -- How many rounds an epoch has at most: a rank that isn't done pushes an item in each exchange
 -- round at least.
--- Where 3 items are sent these are 7.
+-- If 3 items are sent these are 7.
 abbrev pub most_rounds : {S : Type 0} → Rules S → ℕ → List S → ℕ → ℕ
 most_rounds R p starts e = 2 * total p (λ r. quota_of R p starts r e) + 1
 
@@ -50,7 +50,7 @@ pub record IsHalfway (x : Stack) : Type 0 where
   pub none_due : (b : ℕ) → b < x.ranks → (stack_out_at x b).due ≡ false
 
 -- A rank has made j halves of rounds: posts are the first half of a round, and collects the second.
--- With 3 rounds made it has made 6, and 7 where it is halfway in its next round.
+-- With 3 rounds made it has made 6, and 7 if it is halfway in its next round.
 abbrev pub HasMadeHalves : (ℕ → ℕ) → ℕ → Bool → ℕ → Stack → Type 0
 HasMadeHalves most j over n x =
     (j ≤ 2 * rounds_made most over n x) ⊎ ((j ≡ 2 * rounds_made most over n x + 1) × (over ≡ false) × IsHalfway x)
@@ -60,7 +60,7 @@ abbrev pub MoverMadeHalves : (ℕ → ℕ) → ℕ → Bool → ℕ → MoverSta
 MoverMadeHalves most j over n (Conveying c) = ⊤
 MoverMadeHalves most j over n (Stacking cap x) = HasMadeHalves most j over n x
 
--- What is left of the cycles where a rank's run is over.
+-- What is left of the cycles if a rank's run is over.
 abbrev pub HasCycled : (ℕ → ℕ) → ℕ → MoverState → Logs → Logs → Type 0
 HasCycled quota n (Conveying c) sent got = ⊤
 HasCycled quota n (Stacking cap x) sent got = AgreesIn n x sent got × MarksLast quota x sent

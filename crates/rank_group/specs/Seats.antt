@@ -6,7 +6,7 @@ use Rattle.rank_node.specs.Movers.{Manner}
 use Rattle.rank_group.specs.TurnNotes.{HasSame}
 use Rattle.rank_group.specs.Ranks.{RankState, IsRank, progress}
 
--- A rank and its seat: how many turns it made, and whether memory was wanting at the end of its
+-- A rank and its seat: how many turns it made, and whether memory ran out at the end of its
 -- run.
 pub record SeatedState (S : Type 0) : Type 0 where
   pub rank : RankState S
@@ -19,7 +19,7 @@ abbrev pub bank_of : {S : Type 0} → SeatedState S → Identity
 bank_of x = record { id = x.seat.id; shape = x.seat.shape }
 
 -- By its seat's lists it is a rank of a run; h m is the state of its program as round m began.
--- Nothing is said where memory was wanting.
+-- Nothing is stated if memory ran out.
 -- few: it completed no more epochs than it made turns.
 pub record IsRankAtSeat {S : Type 0} (R : Rules S) (cap : ℕ) (manner : Manner) (h : ℕ → S) (x : SeatedState S) : Type 0 where
   pub runs : x.lost ≡ false
@@ -56,7 +56,7 @@ abbrev pub AreSeated : {S : Type 0} → Rules S → ℕ → Manner → Identity 
 AreSeated {S} R cap manner b xs = (r : ℕ) (x : SeatedState S) → slice_get xs r ≡ Some x → IsSeated R cap manner b r x
 
 -- Turns from x to y made no progress: no parcel was posted or collected, no item was pushed, no
--- epoch ended, and the run didn't end for want of memory.
+-- epoch ended, and the run didn't end because memory ran out.
 pub record MadeNoProgress {S : Type 0} (x y : SeatedState S) : Type 0 where
   pub parcels : HasSame x.seat y.seat
   pub pushed : y.rank.node.run.next ≡ x.rank.node.run.next

@@ -35,7 +35,7 @@ vote_sent R (Some s) = vote_item (R.vote s) ∷ []
 -- canonical run.
 -- votes: in epoch 2m + 1 it pushed its one vote on round m.
 -- all_came: each rank pulled what was pushed toward it.
--- shape: each parcel is filled as the transport fills it, conveyors steady or not. Where they
+-- shape: each parcel is filled as the transport fills it, conveyors steady or not. If they
 -- aren't steady, an epoch's entries travel in few parcels (port_bank's few_parcels_law).
 -- With two ranks and six rounds there are 12 epochs; in each odd one each of the four pairs has one
 -- item.

@@ -26,7 +26,7 @@ pub struct AtPort<'a, Q: Program, const CAP: usize, const HOPS: usize> {
     pub(crate) port: NotingPort<'a, CAP>,
     /// How many turns it has made.
     pub(crate) turns: u64,
-    /// Its run is over, and memory was wanting.
+    /// Its run is over, and memory ran out.
     pub(crate) lost: bool,
     pub(crate) _after: [u64; 8],
 }
@@ -87,7 +87,7 @@ impl<'a, Q: Program, const CAP: usize, const HOPS: usize> Seated for AtPort<'a, 
     }
 }
 
-/// Returns where a rank may make its next turn. One that made 2^63 turns waits for ever.
+/// Returns when a rank may make its next turn. One that made 2^63 turns waits for ever.
 pub fn await_turn<R: Wait>(rt: &R, turns: u64)
     ensures { turns < 2 ^ 63 }
 {

@@ -33,7 +33,7 @@ impl ClosedRound {
         }
     }
 
-    /// How many epochs every link has ended. The count stands still at the last number.
+    /// How many epochs every link has ended. The count saturates.
     pub fn epochs(&self) -> u64
         ensures value { result ≡ saturated_count (epochs_of (round_inside self.now)) }
         ensures round { IsRound (round_inside self.now) }

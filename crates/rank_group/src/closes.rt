@@ -1,7 +1,7 @@
 //! What both transports tell of the epochs of all ranks.
 ghost use Rattle.rank_group.specs.Closes.{ClosesLaws};
 
-/// Does nothing, and tells the closes laws of conveyors and of exstacks, and how exstacks keep
+/// Does nothing, and states the closes laws of conveyors and of exstacks, and how exstacks keep
 /// step.
 pub(crate) fn closes_laws()
     ensures { ClosesLaws }

@@ -201,7 +201,7 @@ pub fn drive_on_threads<
 /// The ranks below a number in their own order, as an order for `drive_serial`.
 ///
 /// # Errors
-/// `NoMemory` where there was none.
+/// `NoMemory` if there was none.
 pub fn in_order(alloc: Global, ranks: u32) -> Result<Vec<u32>, NoMemory>
     ensures numbers { IfOk result (λ v. v.items ≡ range_with_len 0 ranks) }
     ensures order { IfOk result (λ v. IsOrder ranks v.items) }

@@ -32,7 +32,7 @@ pub struct Finished<Q> {
 /// epoch follows for any. Each turn raises `steps` by one.
 ///
 /// # Errors
-/// `NoMemory` where a program, a node, the bank or the result found none. The programs are dropped.
+/// `NoMemory` if a program, a node, the bank or the result found none. The programs are dropped.
 pub fn drive_serial<const CAP: usize, const HOPS: usize, Q: Program, L: Ledger>(
     alloc: Global,
     grid: &Grid,
@@ -53,7 +53,7 @@ pub fn drive_serial<const CAP: usize, const HOPS: usize, Q: Program, L: Ledger>(
         (record { dims = grid.now; cap = CAP; slots = slots; by_slots = false }) (manner_of via steady)
         order.now steps.old steps.new) }
 
-    // The turns are bounded before the run, also where it ends in `NoMemory`.
+    // The turns are bounded before the run, also if it ends in `NoMemory`.
     ensures steps { WithinTurns Q.rules progs (manner_of via steady) grid.now steps.old steps.new }
 {
     closes_laws();

@@ -29,7 +29,7 @@ impl<T> Model for OneByOne<T> {
 /// `reverse` would be compiled anew for the ranks of each drive.
 ///
 /// # Errors
-/// `NoMemory` where there was none.
+/// `NoMemory` if there was none.
 pub fn one_by_one<T: Drop>(alloc: Global, list: Vec<T>) -> Result<OneByOne<T>, NoMemory>
     ensures { IfOk result (λ o. o ≡ list.items) }
 {

@@ -11,11 +11,11 @@ use rank_node::Turn;
 use round_program::Program;
 use std::sync::ledger::Ledger;
 
-/// Turns the node of a rank, and goes on to its next epoch where one has ended. Answers whether it
+/// Turns the node of a rank, and goes on to its next epoch if one has ended. Answers whether it
 /// pushed something or an epoch ended.
 ///
 /// # Errors
-/// `NoMemory` comes only where no epoch follows.
+/// `NoMemory` comes only if no epoch follows.
 pub(crate) fn turn_over<const CAP: usize, const HOPS: usize, Q: Program, P: Port<CAP>, L: Ledger>(
     rank: &mut Rank<Q, CAP, HOPS>,
     port: &mut P,

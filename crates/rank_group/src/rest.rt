@@ -3,7 +3,7 @@ ghost use Rattle.rank_group.specs.Rest.{NodesRestLaw};
 
 use round_program::Program;
 
-/// Where a sweep of turns over the conveyors of all ranks moved nothing, neither a parcel nor an
+/// If a sweep of turns over the conveyors of all ranks moved nothing, neither a parcel nor an
 /// item out of an inbox, each rank of the least epoch has completed it. The ranks may be in
 /// different epochs.
 pub fn rest_law<Q: Program>()

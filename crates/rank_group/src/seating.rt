@@ -61,7 +61,7 @@ pub(crate) fn seat_all<'a, const CAP: usize, const HOPS: usize, Q: Program>(
 /// Gathers the seats of ranks whose runs are over.
 ///
 /// # Errors
-/// `NoMemory` where memory was wanting at the end of a rank's run, or for a list.
+/// `NoMemory` if memory ran out at the end of a rank's run, or for a list.
 pub(crate) fn gather_all<'a, const CAP: usize, const HOPS: usize, Q: Program>(
     alloc: Global,
     bank: &SlotBank<CAP>,

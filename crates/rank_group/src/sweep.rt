@@ -43,7 +43,7 @@ impl<Q, const CAP: usize, const HOPS: usize> Model for Rank<Q, CAP, HOPS> {
     ghost view = { λ r. record { node = r.node; over = r.over } };
 }
 
-/// Turns the node of a rank, where its run isn't over, and goes on to its next epoch, where one has
+/// Turns the node of a rank, if its run isn't over, and goes on to its next epoch, if one has
 /// ended.
 fn turn_rank<const CAP: usize, const HOPS: usize, Q: Program, L: Ledger>(
     bank: PlainBank<CAP>,

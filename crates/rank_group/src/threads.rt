@@ -30,10 +30,10 @@ use std::thread::Threads;
 /// from their processors, all ranks fall back to the caller, which polls those of each thread as
 /// soon as that returns.
 ///
-/// It waits for its threads, and returns where they do.
+/// It waits for its threads, and returns when they do.
 ///
 /// # Errors
-/// `NoMemory` where a program, a node, the bank or the result found none. The programs are dropped.
+/// `NoMemory` if a program, a node, the bank or the result found none. The programs are dropped.
 pub fn drive_threads<
     const CAP: usize,
     const HOPS: usize,

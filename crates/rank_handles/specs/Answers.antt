@@ -30,7 +30,7 @@ begin_answer phase.Cleanup = BegunAlready
 begin_answer phase.Complete = BegunAlready
 
 -- push needs an epoch that has begun, a rank that isn't done, and a rank to push to. Full comes
--- where the open parcel toward that rank holds as many entries as it can.
+-- if the open parcel toward that rank holds as many entries as it can.
 abbrev pub while_working : Phase → Answer → Answer
 while_working phase.Dormant a = NotBegun
 while_working phase.Working a = a
@@ -58,7 +58,7 @@ pull_once_begun phase.Complete r = r
 abbrev pub pull_result : Seated → Result (ℕ × Item) Answer
 pull_result s = pull_once_begun s.state.phase (item_or_nothing (pull_from s.state (lowest_unread s.state)))
 
--- unpull puts an item back where the latest call pulled one.
+-- unpull puts an item back if the latest call pulled one.
 abbrev pub unpull_answer : Seated → Answer
 unpull_answer s = if is_some s.state.pulled then Good else Nothing
 

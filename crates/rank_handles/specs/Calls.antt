@@ -10,7 +10,7 @@ use Rattle.rank_handles.specs.Seated.{Seated, Moved}
 use Rattle.rank_handles.specs.Answers.{begin_answer, push_answer, pull_result, unpull_answer, advance_answer}
 use Rattle.rank_handles.specs.Answers.{reset_answer}
 
--- A call on the rank that is there leaves this of it. Where there is none, there is none after it.
+-- A call on the rank that is there leaves this of it. If there is none, there is none after it.
 abbrev pub OnRank : (Seated → Seated → Type 0) → Option Seated → Option Seated → Type 0
 OnRank R (Some old) (Some new) = R old new
 OnRank R None None = ⊤

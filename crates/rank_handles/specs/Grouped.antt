@@ -23,7 +23,7 @@ pub record Grouped : Type 0 where
   pub steady : Bool
   pub given : List Bool
 
--- What becomes of the wish to make a group, where there is memory.
+-- What becomes of the wish to make a group, if there is memory.
 -- 2x2 with buffers of 64 and 2 slots is Good; 9x8 has too many ranks, 3 is no capacity, and 3 no
 -- number of slots.
 abbrev pub group_answer : List ℕ → ℕ → ℕ → Answer
@@ -73,7 +73,7 @@ IsNewRank g rank s = NewRank g.bank rank g.cap g.steady s
 abbrev pub with_given : Grouped → ℕ → Grouped
 with_given g rank = record g { given = slice_set g.given rank true }
 
--- What becomes of the wish to make a rank, where there is memory.
+-- What becomes of the wish to make a rank, if there is memory.
 abbrev pub rank_answer : Grouped → ℕ → Answer
 rank_answer g rank =
     if nat_lt rank (ranks g.bank.shape.dims) then (if slice_index_or g.given rank true then RankTaken else Good)

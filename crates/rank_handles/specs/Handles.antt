@@ -23,7 +23,7 @@ group_in (Some (Rank r)) = None
 group_in (Some Empty) = None
 group_in None = None
 
--- What a call answers: Gone where there is none, and else by what is there.
+-- What a call answers: Gone if there is none, and else by what is there.
 abbrev pub if_there : {T : Type 0} → Option T → (T → Answer) → Answer
 if_there None f = Gone
 if_there (Some x) f = f x
@@ -32,17 +32,17 @@ abbrev pub result_if_there : {T U : Type 0} → Option T → (T → Result U Ans
 result_if_there None f = Err Gone
 result_if_there (Some x) f = f x
 
--- How many ranks there are, 0 where there is none.
+-- How many ranks there are, 0 if there is none.
 abbrev pub ranks_in : Option Seated → ℕ
 ranks_in None = 0
 ranks_in (Some s) = ranks s.state.dims
 
--- The phase of a rank. Where there is none, that of a rank before its first epoch.
+-- The phase of a rank. If there is none, that of a rank before its first epoch.
 abbrev pub phase_in : Option Seated → Phase
 phase_in None = Dormant
 phase_in (Some s) = s.state.phase
 
--- What becomes of the wish to make a group, or a rank of a group, where there is memory: the handle
+-- What becomes of the wish to make a group, or a rank of a group, if there is memory: the handle
 -- that is to have it must have none.
 abbrev pub new_group_answer : Option Grouped → List ℕ → ℕ → ℕ → Answer
 new_group_answer there dims cap slots = if is_some there then InUse else group_answer dims cap slots

@@ -10,7 +10,7 @@ item_of i = record { a = i.a; b = i.b; c = i.c }
 abbrev pub bale_item : Item → BaleItem
 bale_item i = record { a = i.a; b = i.b; c = i.c }
 
--- What a pull leaves in the places for the item and its sender: what was there, where it gave none.
+-- What a pull leaves in the places for the item and its sender: what was there, if it gave none.
 abbrev pub item_given : Result (ℕ × Item) Answer → BaleItem → BaleItem
 item_given (Ok p) there = bale_item p.1
 item_given (Err a) there = there

@@ -11,7 +11,7 @@ use Rattle.rank_handles.specs.Lends.{with_rank}
 abbrev pub having : BaleRank → Seated → BaleRank
 having h rank = record { held = with_rank h.held rank; live = true; told = refl }
 
--- once the borrow r ends, the handle has the rank that was left behind r; where nothing was lent,
+-- once the borrow r ends, the handle has the rank that was left behind r; if nothing was lent,
 -- it is as it was
 abbrev pub lends_rank_of : MutBor BaleRank → Option (MutBor Seated) → Fml
 lends_rank_of h r = LendsIf handle_row rank_row h r (having h.now) h.now

@@ -27,7 +27,7 @@ steps_of make (suc n) [] to = []
 steps_of make (suc n) (x ∷ items) [] = []
 steps_of make (suc n) (x ∷ items) (r ∷ to) = make r (item_of x) ∷ steps_of make n items to
 
--- The step of the call that found no room, or no item, where fewer than all were moved.
+-- The step of the call that found no room, or no item, if fewer than all were moved.
 abbrev pub then_idle : ℕ → ℕ → List Step
 then_idle n most = if nat_lt n most then Idle ∷ [] else []
 
@@ -62,7 +62,7 @@ RanSteps steps old new = Run steps old new
 unfoldable pub all_ranks : ℕ → List ℕ → Bool
 all_ranks n to = list_all (λ r. nat_lt r n) to
 
--- What is wrong with a push of these: of the rank, or else of a destination. Good where nothing is.
+-- What is wrong with a push of these: of the rank, or else of a destination. Good if nothing is.
 abbrev pub push_many_answer : Seated → List ℕ → Answer
 push_many_answer s to = while_working s.state.phase (if all_ranks (ranks s.state.dims) to then Good else NoSuchRank)
 
@@ -91,7 +91,7 @@ number_or RankTaken n = Err RankTaken
 number_or NoMoreEpochs n = Err NoMoreEpochs
 number_or NotLent n = Err NotLent
 
--- How many a call moved: none where something was wrong.
+-- How many a call moved: none if something was wrong.
 abbrev pub moved_by : Result ℕ Answer → ℕ
 moved_by (Ok n) = n
 moved_by (Err a) = 0

@@ -12,7 +12,7 @@ use Rattle.rank_handles.specs.contracts.part.Part.{the_row}
 abbrev pub heap : Global
 heap = record { memory = record { seal = tt } }
 
--- Where there is a part: it stands at the pointer, and its block may be freed.
+-- Of a part that there is: it is at the pointer, and its block may be freed.
 abbrev pub holds : Ptr → Option Part → Fml
 holds at None = ftrue
 holds at (Some part) = box_owns (ghosts.dealloc_token heap) the_row at part

@@ -44,7 +44,7 @@ unfoldable pub LentBy : List Entry → ℕ → Option Seated → Type 0
 LentBy entries from None = ⊥
 LentBy entries from (Some s) = Lending entries from s
 
--- What is wrong with a call that pulls n items of a view: Good where nothing is.
+-- What is wrong with a call that pulls n items of a view: Good if nothing is.
 abbrev pub pulled_answer : Seated → ℕ → Answer
 pulled_answer s n = once_begun s.state.phase (if nat_lt (length (lent s.state)) n then NotLent else Good)
 

@@ -25,7 +25,7 @@ use hop_core::Phase;
 pub trait Exchange: Drop {
     ghost seen: { Self → Option Seated };
 
-    /// How many ranks there are; 0 where there is no rank.
+    /// How many ranks there are; 0 if there is no rank.
     fn ranks(&self) -> u32
         ensures { result ≡ ranks_in (seen self.now) };
 
@@ -33,7 +33,7 @@ pub trait Exchange: Drop {
     fn phase(&self) -> Option<Phase>
         ensures { result ≡ option_map (λ s. s.state.phase) (seen self.now) };
 
-    /// What the rank sent and received since it was made; nothing where there is no rank.
+    /// What the rank sent and received since it was made; nothing if there is no rank.
     fn statistics(&self) -> BaleStatistics
         ensures { result ≡ statistics_in (seen self.now) };
 
@@ -62,7 +62,7 @@ pub trait Exchange: Drop {
         ensures answer { result ≡ if_there (seen self.old) (λ s. advance_answer s done (phase_in (seen self.new))) }
         ensures advances { OnRank (Advances done) (seen self.old) (seen self.new) };
 
-    /// What the next pulls give, as far as it is in one inbox and of one sender, where it is.
+    /// What the next pulls give, as far as it is in one inbox and of one sender, if it is.
     ///
     /// # Errors
     /// As of a pull; the rank is as it was.

@@ -78,7 +78,7 @@ impl<const CAP: usize> Group<CAP> {
         self.grid.ranks()
     }
 
-    /// What becomes of the wish to make this rank, where there is memory.
+    /// What becomes of the wish to make this rank, if there is memory.
     pub(crate) fn answer(&self, rank: u32) -> Answer
         ensures { result ≡ rank_answer self.now rank }
     {

@@ -83,7 +83,7 @@ impl BaleRank {
         }
     }
 
-    /// The rank, if there is one, where it stands.
+    /// The rank in place, if there is one.
     #[inline]
     pub fn get_mut(&mut self) -> Option<&mut AnyRank>
         ensures* writes_back { sem 𝓛 (lends_rank_of self.entry result) }

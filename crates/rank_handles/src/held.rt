@@ -44,7 +44,7 @@ impl Held {
         Held { at: at as *mut u8 }
     }
 
-    /// The part, where it stands.
+    /// The part, in place.
     #[inline]
     pub(crate) fn part_mut(&mut self) -> &mut Part
         requires there { is_some self.old.value ≡ true }
@@ -54,7 +54,7 @@ impl Held {
         unsafe { &mut *(self.at as *mut Part) }
     }
 
-    /// The rank, where it stands.
+    /// The rank, in place.
     #[inline]
     pub(crate) fn rank_mut(&mut self) -> &mut AnyRank
         requires there { is_some (rank_in self.old.value) ≡ true }

@@ -7,7 +7,7 @@
 //!
 //! | | |
 //! |---|---|
-//! | `BaleGroup`, `BaleRank` | the handles: nothing, or a `Part`, which `take` takes out and `put` puts in; `get_mut` lends a rank where it stands |
+//! | `BaleGroup`, `BaleRank` | the handles: nothing, or a `Part`, which `take` takes out and `put` puts in; `get_mut` lends a rank in place |
 //! | `make_group`, `make_rank` | a group of these numbers; a rank of a group |
 //! | `Exchange` | the conveyor's own calls, each a step of the exchange machine, one or many at a time |
 //! | `BaleStatistics` | what a rank sent and received so far |

@@ -80,7 +80,7 @@ pub(crate) fn pull_while_some<const CAP: usize, const HOPS: usize>(
 }
 
 /// Pulls the items of the inbox from which the next pull takes, as many as there are places from
-/// `start` on. Where the places end.
+/// `start` on. If the places end.
 fn pull_batch<const CAP: usize, const HOPS: usize>(
     conveyor: &mut Conveyor<CAP, HOPS>,
     number: u32,

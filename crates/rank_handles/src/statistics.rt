@@ -1,4 +1,4 @@
-//! What a rank sent and received, counted where its buffers go out and come in.
+//! What a rank sent and received, counted if its buffers go out and come in.
 ghost use Rattle.std.specs.Prelude.{◌≡◌, ◌+◌, ◌==◌, length, refl};
 ghost use Rattle.list_laws.specs.Counts.{saturated_count};
 ghost use Rattle.link_slots.specs.SeatView.{posted_on, collected_from};

@@ -1,4 +1,4 @@
-//! What a view lends: unread entries of one inbox that one rank sent, where they are.
+//! What a view lends: unread entries of one inbox that one rank sent, if they are.
 ghost use Rattle.std.specs.Prelude.{◌≡◌, ◌≢◌, ℕ, ◌<◌, ◌≤◌, Some, None, IfSome, length, sum, take, slice_get, slice_index_or};
 ghost use Rattle.std.specs.List.{All};
 ghost use Rattle.bale_items.specs.declared.item.Entry.{Entry};

@@ -29,7 +29,7 @@ abbrev pub sum_after : ℕ → List (ℕ × Item) → ℕ
 sum_after sum came = fold (λ n e. min (n + e.1.a) (2 ^ 64 - 1)) sum came
 
 -- What a node makes of items that it pulled. In an epoch of votes it adds their first fields to its
--- sum. In an epoch of work the program absorbs those that it may be sent, unless memory was wanting
+-- sum. In an epoch of work the program absorbs those that it may be sent, unless memory ran out
 -- by then: a spoiled node drops what comes.
 pub record TakesEach {S : Type 0} (R : Rules S) (voting : Bool) (prog prog' : S) (came : List (ℕ × Item)) (sum sum' : ℕ)
     (spoiled spoiled' : Bool) : Type 0 where

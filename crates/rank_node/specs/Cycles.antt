@@ -35,7 +35,7 @@ cycles_gone_on n AllDone = n
 
 -- In cycle m of epoch e the exchange went on, since the proceed parcel of some rank wasn't marked
 -- last.
--- In cycle 0, where rank 1 had something to push, sender 1 with its first parcel of the epoch.
+-- In cycle 0, if rank 1 had something to push, sender 1 with its first parcel of the epoch.
 pub record WentOn (e m : ℕ) (x : Stack) (got : Logs) : Type 0 where
   pub sender : ℕ
   pub low : sender < x.ranks
@@ -43,7 +43,7 @@ pub record WentOn (e m : ℕ) (x : Stack) (got : Logs) : Type 0 where
   pub came : proceed_parcel e m (got (stack_link_from x sender)) ≡ Some parcel
   pub going : parcel.last ≡ false
 
--- A rank's proceed parcel of cycle m isn't marked last only where the rank has more than m items to
+-- A rank's proceed parcel of cycle m isn't marked last only if the rank has more than m items to
 -- send in that epoch.
 -- With two items to send in epoch 0 those of the cycles 0 and 1 may go on, and that of cycle 2 is
 -- marked last at the latest.
@@ -112,7 +112,7 @@ abbrev pub IsInCycle : {S : Type 0} → Rules S → (ℕ → ℕ) → ℕ → Ru
 IsInCycle R quota n run (Conveying c) sent got = ⊤
 IsInCycle R quota n run (Stacking cap x) sent got = InCycle R quota n run x sent got
 
--- The cycle in which a turn leaves it: one later where an exchange round was over at entry.
+-- The cycle in which a turn leaves it: one later if an exchange round was over at entry.
 abbrev pub cycle_of_turn : ℕ → MoverState → ℕ
 cycle_of_turn n (Conveying c) = n
 cycle_of_turn n (Stacking cap x) = cycle_after n x.stage

@@ -38,7 +38,7 @@ pub data Manner : Type 0 where
   ByConveyor : Bool → Manner
   ByExstack : Manner
 
--- An exstack takes no heed of `steady`.
+-- An exstack ignores `steady`.
 abbrev pub manner_of : Via → Bool → Manner
 manner_of Convey steady = ByConveyor steady
 manner_of Exstack steady = ByExstack

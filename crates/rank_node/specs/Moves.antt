@@ -58,7 +58,7 @@ pub record AfterMoves {S : Type 0} (R : Rules S) (cap : ℕ) (n n' : NodeState S
 -- holds.
 -- pushed: what they made of it. They go on until the open parcel toward the next
 -- item's receiver is full, or until no item is left.
--- done: the rank is done exactly where all its items are pushed.
+-- done: the rank is done if and only if all its items are pushed.
 pub record LeavesAfterAdvance {S : Type 0} (R : Rules S) (cap : ℕ) (run run' : Running S) (c c' : State)
     (got got' : Logs) : Type 0 where
   pub lies : (l : ℕ) (more : List Shipped) → l < links c.dims → reader_at c.dims l ≡ c.rank → got' l ≡ got l ++ more
@@ -77,8 +77,8 @@ pub record LeavesAfterPoll {S : Type 0} (R : Rules S) (cap : ℕ) (run run' : Ru
       → (at_push : Stack) × Fills cap (to_send R run'.prog run'.sends) x at_push run.next run'.next
   pub unpushed : (x.stage ≡ Filling → ⊥) → run'.next ≡ run.next
 
--- Where a parcel of its round is still to be posted, the link is crowded, unless this turn
--- collected a parcel from it; where one is still to be collected, the link is idle.
+-- If a parcel of its round is still to be posted, the link is crowded, unless this turn
+-- collected a parcel from it; if one is still to be collected, the link is idle.
 pub record WaitsFor (x x' : Stack) (got got' : Logs) (is_crowded is_idle : ℕ → Bool) : Type 0 where
   pub posts : (b : ℕ) → b < x.ranks → (stack_out_at x' b).due ≡ true → got' (stack_link_to x b) ≡ got (stack_link_to x b)
       → is_crowded (stack_link_to x b) ≡ true
@@ -106,7 +106,7 @@ DueIsCrowded (Conveying c) is_crowded = (l : ℕ) → l < links c.dims → sende
     → is_due c.cap c.steady false (out_of c l) ≡ true → is_crowded l ≡ true
 DueIsCrowded (Stacking cap x) is_crowded = ⊤
 
--- What a turn leaves undone that wanted no memory, and why: over a conveyor, where it moved no
+-- What a turn leaves undone that wanted no memory, and why: over a conveyor, if it moved no
 -- parcel.
 abbrev pub Waits : {S : Type 0} → Rules S → Running S → MoverState → MoverState → Logs → Logs → Logs → Logs → (ℕ → Bool)
     → (ℕ → Bool) → Type 0

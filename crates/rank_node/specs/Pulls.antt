@@ -27,7 +27,7 @@ pub record PushedOn (items : List (ℕ × Item)) (p next next' : ℕ) (part part
   pub elsewhere : (e d : ℕ) → e ≢ part.epoch → part'.pushed e d ≡ part.pushed e d
   pub pushed : IsPushed items p next part → IsPushed items p next' part'
 
--- A link in has ended where it had.
+-- A link in has ended if it had.
 abbrev pub SameEnds : State → State → Type 0
 SameEnds old new = (l : ℕ) → (in_of new l).ended ≡ (in_of old l).ended
 
@@ -50,7 +50,7 @@ pub record Takes {S : Type 0} (R : Rules S) (voting : Bool) (old c : State) (pro
       → HasTaken R (ranks old.dims) rank h round sends next prog' sum' spoiled' (part_of (buffers_of c) sent got)
 
 -- What pushes leave of a conveyor: of the items from number `from` on those below `next` are
--- pushed. Where one is left, the open parcel toward its receiver is as full as it can be.
+-- pushed. If one is left, the open parcel toward its receiver is as full as it can be.
 pub record Handed (cap : ℕ) (es : List (ℕ × Item)) (old c : State) (from next : ℕ) : Type 0 where
   pub forward : from ≤ next
   pub low : next ≤ length es
@@ -62,7 +62,7 @@ pub record Handed (cap : ℕ) (es : List (ℕ × Item)) (old c : State) (from ne
   pub receiver : (to : ℕ) (x : Item) → slice_get es next ≡ Some (to, x) → to < ranks c.dims
 
 -- What pushes leave of an exstack: of the items from number `from` on those below `next` are
--- pushed. Where one is left, the buffer toward its receiver is full.
+-- pushed. If one is left, the buffer toward its receiver is full.
 pub record Fills (cap : ℕ) (es : List (ℕ × Item)) (old x : Stack) (from next : ℕ) : Type 0 where
   pub forward : from ≤ next
   pub low : next ≤ length es

@@ -21,9 +21,9 @@ part_lists part = record { pushed = part.pushed; pulled = part.pulled }
 abbrev pub IsPushed : List (ℕ × Item) → ℕ → ℕ → Part → Type 0
 IsPushed items p next part = (d : ℕ) → d < p → part.pushed part.epoch d ≡ items_of d (take next items)
 
--- What a node keeps beside its conveyor: its program, the round, what it sends in this epoch and
--- how many of those items are pushed, the sum of the votes that came, and whether memory was
--- wanting for its program.
+-- What a node keeps besides its conveyor: its program, the round, what it sends in this epoch and
+-- how many of those items are pushed, the sum of the votes that came, and whether memory ran
+-- out for its program.
 pub record Running (S : Type 0) : Type 0 where
   pub prog : S
   pub round : ℕ
@@ -80,12 +80,12 @@ pub record HasPassed {S : Type 0} (R : Rules S) (p rank : ℕ) (h : ℕ → S) (
 
 -- The epoch that it is in.
 -- next_low, all_pushed, pushed: the first so many of the items to send are pushed; all of them
--- where the rank is done.
--- nothing: it leaves out its emissions only where memory was wanting.
--- works: unless memory was wanting, the program is in the state that the pulls of the round make of
+-- if the rank is done.
+-- nothing: it leaves out its emissions only if memory ran out.
+-- works: unless memory ran out, the program is in the state that the pulls of the round make of
 -- h m.
--- vote: it votes what that state votes, and the greatest vote where memory was wanting.
--- emitted_all: where it votes what its program votes, it has pushed all that the program emits in
+-- vote: it votes what that state votes, and the greatest vote if memory ran out.
+-- emitted_all: if it votes what its program votes, it has pushed all that the program emits in
 -- the round.
 -- hears: it has summed the votes that came.
 pub record IsWithinEpoch {S : Type 0} (R : Rules S) (p : ℕ) (h : ℕ → S) (run : Running S) (part : Part) : Type 0 where

@@ -23,11 +23,11 @@ pub record HasCrowded (dims : List ℕ) (rank : ℕ) (is_crowded : ℕ → Bool)
 -- before the turn's advance, and `after` just after it: pushes fill open parcels before it, and
 -- pulls empty inboxes of the last hop after it.
 -- lies: of each inbox the end is left.
--- idle: where an inbox wanted a parcel, its link is idle.
+-- idle: if an inbox wanted a parcel, its link is idle.
 -- stopped: where entries are left in an inbox below the last hop, the next link of the first one is
 -- crowded.
 -- closing: a link out that may be closed, and isn't, is crowded.
--- over: where the epoch is over, the conveyor is complete.
+-- over: if the epoch is over, the conveyor is complete.
 pub record IsStill (c c' : State) (sent got sent' got' : Logs) (is_crowded is_idle : ℕ → Bool) : Type 0 where
   pub before : State
   pub after : State

@@ -26,7 +26,7 @@ pub record Turns {P : Type 0} {cap : ℕ} {M : Type 0} (G : Ghosts P cap M) {S :
   pub onward : TurnsOnward old.mover new.mover
   pub same_port : SamePort G port port'
 
--- Where it had memory.
+-- What a turn with memory further leaves.
 -- awaits: within a round an exstack waits for a parcel.
 -- due, waits: what outside keeps a link out that is due, a rank that moved no parcel, and one that
 -- waits within a round.

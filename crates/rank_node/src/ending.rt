@@ -39,7 +39,7 @@ pub(crate) fn end_prog<Q: Program>(prog: &mut Box<Q>, sum: u64) -> Follows
     }
 }
 
-/// The vote of a rank: that of its program, and the greatest number where memory was wanting.
+/// The vote of a rank: that of its program, and the greatest number if memory ran out.
 pub(crate) fn vote_of<Q: Program>(prog: &Box<Q>, spoiled: bool) -> u64
     ensures { result ≡ cond spoiled spoiled_vote (Q.rules.vote prog.now.value) }
 {

@@ -12,8 +12,8 @@
 //! | Call | What it does |
 //! |---|---|
 //! | `Node::new` | a node that hasn't turned, for a program of the grid |
-//! | `Node::turn` | one turn; `Ended` exactly where the epoch is over for this rank |
-//! | `Node::next` | goes on to the next epoch, where one follows |
+//! | `Node::turn` | one turn; `Ended` if and only if the epoch is over for this rank |
+//! | `Node::next` | goes on to the next epoch, if one follows |
 //! | `Node::into_prog` | the program |
 //!
 //! `specs/Runs` says what a rank has done, against its part of the exchange machine: which of its

@@ -102,7 +102,7 @@ impl<Q: Program, const CAP: usize, const HOPS: usize> Node<Q, CAP, HOPS> {
     /// A turn over a conveyor pushes what is left to send, in order, until a push is refused or all
     /// is pushed; advances once; and takes in what came, until nothing is left. A turn over an
     /// exstack makes one poll, which the stage at entry decides:
-    /// a proceed poll comes after all that came is taken in, and says that the rank is done where
+    /// a proceed poll comes after all that came is taken in, and says that the rank is done if
     /// all is pushed; an exchange poll that begins its round comes after the pushes. In an epoch of
     /// work the node sends what its program emits and absorbs what fits; in an epoch of votes it
     /// sends its vote to each rank and sums those that come.
@@ -122,7 +122,7 @@ impl<Q: Program, const CAP: usize, const HOPS: usize> Node<Q, CAP, HOPS> {
         ensures turns { Turns P.Port Q.rules self.old self.new port.old port.new }
         ensures in_full { OnOk result (TurnsInFull P.Port Q.rules self.old self.new port.old port.new) }
 
-        // Ended exactly where the rank has completed its epoch.
+        // Ended if and only if the rank has completed its epoch.
         ensures ended { result ≡ Ok Turn.Ended → has_completed self.new.mover ≡ true }
         ensures going { result ≡ Ok Turn.Going → has_completed self.new.mover ≡ false }
     {
@@ -133,12 +133,12 @@ impl<Q: Program, const CAP: usize, const HOPS: usize> Node<Q, CAP, HOPS> {
     /// Goes on to the next epoch, once one has ended: from a round's work to its votes, and from
     /// these to the next round's work. Answers whether an epoch follows.
     ///
-    /// Where the program finds no memory for a round that follows, the node is spoiled and has
+    /// If the program finds no memory for a round that follows, the node is spoiled and has
     /// nothing to send in it.
     ///
     /// # Errors
-    /// `NoMemory` comes only where no epoch follows: where the sum of the votes is 2^64 - 1, as
-    /// each rank then finds, or where the program found no memory to end its last round.
+    /// `NoMemory` comes only if no epoch follows: if the sum of the votes is 2^64 - 1, as
+    /// each rank then finds, or if the program found no memory to end its last round.
     pub fn next(&mut self) -> Result<bool, NoMemory>
         requires over { has_completed self.old.mover ≡ true }
         requires epochs { epoch_in self.old.mover < 2 ^ 63 }
@@ -155,8 +155,8 @@ impl<Q: Program, const CAP: usize, const HOPS: usize> Node<Q, CAP, HOPS> {
             × ((h : ℕ → Q) (sent got : Logs) → IsNode Q.rules h self.old sent got
             → IsNode Q.rules h self.new sent got) }
 
-        // After the votes comes the next round, exactly where the program goes on; its state is the
-        // one with memory.
+        // After the votes comes the next round, if and only if the program goes on; its state is
+        // the one with memory.
         ensures work { is_voting self.old.run.sends ≡ true → result ≡ Ok true → (h : ℕ → Q) (sent got : Logs)
             → IsNode Q.rules h self.old sent got
             → IsNode Q.rules (with_next h (self.old.run.round + 1) (Q.rules.ended self.old.run.prog self.old.run.sum))
@@ -173,7 +173,7 @@ impl<Q: Program, const CAP: usize, const HOPS: usize> Node<Q, CAP, HOPS> {
             → length (to_send Q.rules self.new.run.prog self.new.run.sends) ≤ quota (epoch_in self.new.mover)
             → IsInCycle Q.rules quota 0 self.new.run self.new.mover sent got }
 
-        // No memory: only where no epoch follows, and always where the sum says that some rank had
+        // No memory: only if no epoch follows, and always if the sum says that some rank had
         // none. A spoiled rank is one of these, since its own vote is in the sum.
         ensures no_memory { IsErr result → (is_voting self.old.run.sends ≡ true)
             × ((self.old.run.sum ≡ 2 ^ 64 - 1)

@@ -31,7 +31,7 @@ use route_tensor::Grid;
 use std::alloc::Global;
 
 /// One turn: one poll, which the stage at entry decides. A proceed poll comes after all that came
-/// is taken in, and says that the rank is done where all is pushed; an exchange poll that begins
+/// is taken in, and says that the rank is done if all is pushed; an exchange poll that begins
 /// its round comes after pushes, in order, until one is refused or all is pushed.
 pub(crate) fn turn_exstack<const CAP: usize, Q: Program, P: Port<CAP>>(
     run: &mut Run<Q>,

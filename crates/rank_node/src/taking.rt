@@ -12,7 +12,7 @@ use crate::arrivals::{FromLink, FromSender};
 use convey::{Conveyor, Phase};
 use round_program::{Arrivals, Program};
 
-/// What a node has made of the items that came, beside the state of its program.
+/// What a node has made of the items that came, besides the state of its program.
 #[derive(Clone, Copy, PartialEq, Eq, Debug)]
 pub struct Taken {
     /// The sum of the votes that came. It stands at 2^64 - 1 once it would pass it.
@@ -22,7 +22,7 @@ pub struct Taken {
 }
 
 impl Taken {
-    /// Whether memory was wanting, here or, as the votes say, at some rank: no round follows then.
+    /// Whether memory ran out, here or, as the votes say, at some rank: no round follows then.
     pub(crate) fn is_lost(self) -> bool
         ensures { result ≡ (self.spoiled || self.sum == 2 ^ 64 - 1) }
     {
@@ -68,7 +68,7 @@ fn take_batch<Q: Program, const CAP: usize, const HOPS: usize>(
     taken
 }
 
-/// Sums or absorbs these items where they lie, without a copy: on one hop all of them are of the
+/// Sums or absorbs these items in place, without a copy: on one hop all of them are of the
 /// neighbour.
 fn take_unread<Q: Program, const CAP: usize, const HOPS: usize>(
     prog: &mut Box<Q>,

@@ -3,7 +3,7 @@ use Rattle.std.specs.Prelude.{ℕ, ◌%◌, List, map, length, slice_get, slice_
 use Rattle.std.specs.List.{range_with_len}
 use Rattle.reductions.specs.Reductions.{ReducedState}
 
--- The cell of a key in a state, and 0 where there is no state.
+-- The cell of a key in a state, and 0 if there is no state.
 abbrev pub cell_in : {S : Type 0} → (S → ReducedState) → Option S → ℕ → ℕ
 cell_in cells None key = 0
 cell_in cells (Some s) key = slice_index_or (cells s).cells key 0

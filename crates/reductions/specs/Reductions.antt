@@ -31,6 +31,6 @@ after_item how s key value =
 abbrev pub has_changed : ReducedState → ℕ → Bool
 has_changed s key = not (slice_index_or s.cells key 0 == slice_index_or s.before key 0)
 
--- One vote where a cell has changed since the round began, else none.
+-- One vote if a cell has changed since the round began, else none.
 abbrev pub vote_of : ReducedState → ℕ
 vote_of s = if pointwise nat_eq s.cells s.before then 0 else 1

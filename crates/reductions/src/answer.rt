@@ -24,7 +24,7 @@ pub trait HasCells: Drop {
 /// ranks`.
 ///
 /// # Errors
-/// `NoMemory` where there was none for them.
+/// `NoMemory` if there was none for them.
 pub fn owned<Q: HasCells>(
     alloc: Global,
     progs: &Progs<Q>,

@@ -17,9 +17,9 @@
 //! | `specs/Answers` | the cells as their owners have them |
 //! | `proofs/Answers` | what holds of each cell at its owner holds of the answer; at the end all ranks have a cell for each key |
 //! | `proofs/Cells` | reductions commute, and keep the number of cells; a vote is below 2^32 |
-//! | `proofs/CellRounds` | after a round a cell is the fold of all that all ranks sent for it; where least values are kept, it fell, heard all, and is one of them |
+//! | `proofs/CellRounds` | after a round a cell is the fold of all that all ranks sent for it; if least values are kept, it fell, heard all, and is one of them |
 //! | `proofs/CellRuns` | least values fall, so the run ends; after a round without votes no cell has changed |
-//! | `proofs/Links` | where what a link offers its end is sent once the cell of its beginning fell, at the end no offer is below its end's cell |
+//! | `proofs/Links` | if what a link offers its end is sent once the cell of its beginning fell, at the end no offer is below its end's cell |
 //! | `proofs/Ends` | when a run ends: at a round after which none follows, or since a number falls; the round in which it ended |
 //! | `proofs/Rounds` | what a round makes of each rank, whatever the program |
 //! | `proofs/Starts` | the ranks that `programs` made are in round 0 of one run |

@@ -7,11 +7,11 @@ use bale_items::NoMemory;
 use round_program::{Program, Progs};
 use std::alloc::Global;
 
-/// The programs of so many ranks, of which `make` makes each from its rank. Where it makes `f r` of
+/// The programs of so many ranks, of which `make` makes each from its rank. If it makes `f r` of
 /// rank `r`, they are those of a run wherever each `f r` is in round 0 (`proofs/Starts`).
 ///
 /// # Errors
-/// `NoMemory` where there was none for them.
+/// `NoMemory` if there was none for them.
 pub fn programs<Q: Program, F: Fn(u32) -> Result<Q, NoMemory>>(
     alloc: Global,
     ranks: u32,

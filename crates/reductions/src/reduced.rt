@@ -42,7 +42,7 @@ impl Reduced {
     /// Cells with these values, as a round begins.
     ///
     /// # Errors
-    /// `NoMemory` where there was none.
+    /// `NoMemory` if there was none.
     pub fn new(alloc: Global, values: &[u64]) -> Result<Reduced, NoMemory>
         ensures { IfOk result (λ s. s ≡ at_round_begin values.now) }
     {
@@ -51,7 +51,7 @@ impl Reduced {
         Ok(Reduced { before, cells })
     }
 
-    /// Does nothing, and tells that each cell has a value from before.
+    /// Does nothing, and states that each cell has a value from before.
     pub fn known(&self)
         ensures { length self.now.before ≡ length self.now.cells }
     {
@@ -95,7 +95,7 @@ impl Reduced {
         self.cells[key] != self.before[key]
     }
 
-    /// 1 where a cell has changed in this round, else 0: a vote to go on.
+    /// 1 if a cell has changed in this round, else 0: a vote to go on.
     pub fn vote(&self) -> u64
         ensures { result ≡ vote_of self.now }
     {

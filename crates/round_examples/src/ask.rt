@@ -70,7 +70,7 @@ impl Ask {
         })
     }
 
-    /// The value of each column that was named, in the order of the names; 0 where it isn't known
+    /// The value of each column that was named, in the order of the names; 0 if it isn't known
     /// yet.
     pub fn answers(&self) -> &[u64]
         ensures { result.now ≡ self.now.answers }
@@ -148,7 +148,7 @@ fn note(queries: &mut Vec<Vec<Item>>, from: usize, item: Item) -> Result<(), NoM
     queries[from].push(item).map_err(|_| NoMemory)
 }
 
-/// Takes a value in, where there is a place for it and no greater value stands there.
+/// Takes a value in, if there is a place for it and no greater value stands there.
 fn raise(answers: &mut Vec<u64>, at: u64, value: u64)
     ensures { answers.new.items ≡ changed_at answers.old.items at 0 (λ v. max v value) }
 {
@@ -158,7 +158,7 @@ fn raise(answers: &mut Vec<u64>, at: u64, value: u64)
     }
 }
 
-/// What is sent in the next round: replies, where this one was the round of the queries.
+/// What is sent in the next round: replies, if this one was the round of the queries.
 fn next_outgoing(
     alloc: Global,
     asked: bool,

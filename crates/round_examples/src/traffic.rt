@@ -180,7 +180,7 @@ fn is_for_it(ranks: u32, from: u32, item: Item) -> bool
     from < ranks && item.a < CELLS
 }
 
-/// Counts an item, where its cell has a count.
+/// Counts an item, if its cell has a count.
 #[inline(always)]
 fn count_one(counts: &mut [u64], item: Item)
     ensures { counts.new ≡ traffic_raised counts.old item }

@@ -12,16 +12,16 @@ abbrev pub items_of : ℕ → List (ℕ × Item) → List Item
 items_of r pairs = map (λ e. e.1) (filter (λ e. e.0 == r) pairs)
 
 -- The items that a program sends to rank d in its round, in order.
--- Where it emits x to 1, y to 0 and z to 1, it sends x, z to rank 1.
+-- If it emits x to 1, y to 0 and z to 1, it sends x, z to rank 1.
 abbrev pub emissions_to : {S : Type 0} → Rules S → S → ℕ → List Item
 emissions_to R s d = items_of d (R.emissions s)
 
--- What a program sends to rank d, where there is a program.
+-- What a program sends to rank d, if there is a program.
 abbrev pub emitted_of : {S : Type 0} → Rules S → Option S → ℕ → List Item
 emitted_of R None d = []
 emitted_of R (Some s) d = emissions_to R s d
 
--- What the rank numbered f of a list of programs sends to rank d; nothing where there is no rank f.
+-- What the rank numbered f of a list of programs sends to rank d; nothing if there is no rank f.
 abbrev pub emitted_by : {S : Type 0} → Rules S → List S → ℕ → ℕ → List Item
 emitted_by R ss d f = emitted_of R (slice_get ss f) d
 

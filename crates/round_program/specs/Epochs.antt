@@ -25,7 +25,7 @@ vote_item v = record { a = v; b = 0; c = 0 }
 abbrev pub heard : ℕ → PairLists → ℕ → ℕ
 heard p l m = min (total p (λ f. sum_by (λ x. x.a) (l.pulled (2 * m + 1) f))) (2 ^ 64 - 1)
 
--- The state of a rank after the work of round m, where h m is its state as the round began.
+-- The state of a rank after the work of round m, if h m is its state as the round began.
 abbrev pub after_work : {S : Type 0} → Rules S → ℕ → (ℕ → S) → PairLists → ℕ → S
 after_work R p h l m = after_pulls R (h m) (l.pulled (2 * m)) p
 
@@ -38,8 +38,8 @@ pub data Voted {S : Type 0} (R : Rules S) (p : ℕ) (h : ℕ → S) (l : PairLis
   spoiled : ((d : ℕ) → d < p → l.pushed (2 * m + 1) d ≡ vote_item (2 ^ 64 - 1) ∷ []) → Voted R p h l m
 
 -- What one rank knows of itself. It has completed the epochs below `completed` and was done in
--- those below `done`. An epoch of votes is completed where its sum ended the round, and not where
--- the sum told that memory was wanting.
+-- those below `done`. An epoch of votes is completed if its sum ended the round, and not if
+-- the sum told that memory ran out.
 -- h m is the rank's state as round m began, or the state that it would have had with memory.
 pub record Own {S : Type 0} (R : Rules S) (p completed done : ℕ) (h : ℕ → S) (l : PairLists) : Type 0 where
   pub done_low : completed ≤ done
@@ -49,7 +49,7 @@ pub record Own {S : Type 0} (R : Rules S) (p completed done : ℕ) (h : ℕ → 
   pub unspoiled : (m : ℕ) → 2 * m + 2 ≤ completed → heard p l m ≢ 2 ^ 64 - 1
   -- a completed round ends with the votes that were heard
   pub next : (m : ℕ) → 2 * m + 2 ≤ completed → h (suc m) ≡ R.ended (after_work R p h l m) (heard p l m)
-  -- a rank begins another round only where the program goes on
+  -- a rank begins another round only if the program goes on
   pub goes : (m : ℕ) → 2 * m + 2 < done → R.goes_on (R.shape (h m)) m (heard p l m) ≡ true
 
 -- What all ranks together know of an epoch that one of them has completed: all were done in it, and

@@ -34,7 +34,7 @@ pub record SameRound {S : Type 0} (R : Rules S) (s t : S) : Type 0 where
   pub most : R.most t ≡ R.most s
   pub emissions : R.emissions t ≡ R.emissions s
 
--- A state of the same rank in the next round of the same run. The round's number stands still at
+-- A state of the same rank in the next round of the same run. The round's number saturates at
 -- 2^64 - 1.
 pub record NextRound {S : Type 0} (R : Rules S) (s t : S) : Type 0 where
   pub valid : R.valid t

@@ -18,12 +18,12 @@ abbrev pub asks_of : {S : Type 0} → Talk S → S → List (ℕ × Item)
 asks_of T s = as_items (T.queries s)
 
 -- The queries of the pair (s,d): those that a rank in the state s has for d, in order.
--- Where it asks rank 1 for 5, rank 0 for 6 and rank 1 for 7, its queries to 1 are 5 and 7.
+-- If it asks rank 1 for 5, rank 0 for 6 and rank 1 for 7, its queries to 1 are 5 and 7.
 abbrev pub queries_to : {S : Type 0} → Talk S → S → ℕ → List Item
 queries_to T s d = items_of d (asks_of T s)
 
 -- The answers to queries of the rank `from`, in order, by a rank in the state s.
--- Where a rank answers the question plus 1, those to 5 and 7 are 6 and 8.
+-- If a rank answers the question plus 1, those to 5 and 7 are 6 and 8.
 abbrev pub answers : {S : Type 0} → Talk S → S → ℕ → List Item → List Item
 answers T s from queries = map (λ x. carrying (T.answer s from x.a)) queries
 

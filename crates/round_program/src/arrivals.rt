@@ -10,7 +10,7 @@ use bale_items::Item;
 pub trait Arrivals: Drop {
     ghost items: { Self → List (ℕ × Item) };
 
-    /// Takes the first one out, or answers `None` exactly where none is left.
+    /// Takes the first one out, or answers `None` if and only if none is left.
     fn next(&mut self) -> Option<(u32, Item)>
         ensures first { result ≡ slice_get (items self.old) 0 }
         ensures rest { items self.new ≡ drop 1 (items self.old) };

@@ -55,7 +55,7 @@ impl<Q: Drop> Progs<Q> {
         self.list.get(r)
     }
 
-    /// Takes the first program out, or answers `None` exactly where the list is empty.
+    /// Takes the first program out, or answers `None` if and only if the list is empty.
     pub fn take_first(&mut self) -> Option<Q>
         ensures first { result ≡ slice_get self.old 0 }
         ensures rest { self.new ≡ drop 1 self.old }

@@ -24,7 +24,7 @@ pub fn every_run<Q: Program>()
     ensures { EveryRunIsCanonical Q.rules }
 {}
 
-/// One program as a case of another: where each state of `A` has its state of `B`, which does the
+/// One program as a case of another: if each state of `A` has its state of `B`, which does the
 /// same, a run of `B` that begins with such states is the run of `A`. So one type can stand for
 /// several applications, and one drive run them all.
 pub fn same_runs<A: Program, B: Program>()

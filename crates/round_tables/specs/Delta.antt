@@ -32,7 +32,7 @@ pub record Look : Type 0 where
   -- the bucket at work: that of the weights x with x div width = bucket
   pub bucket : ℕ
 
--- An edge is light where it weighs at most the width of a bucket, and else heavy.
+-- An edge is light if it weighs at most the width of a bucket, and else heavy.
 -- with width 4, of (0,1,3), (1,2,2), (0,2,7) the first two are light
 abbrev pub is_light : ℕ → Triple → Bool
 is_light width t = nat_le (nat_abs t.v) width
@@ -47,7 +47,7 @@ some_active m width x = list_any (is_active width x) (range_with_len 0 m.rows)
 
 -- What the next round is for: the edges are told first; then for each bucket comes a find round,
 -- light ones as long as some vertex is active, and a heavy one.
--- after a light round: light where a vertex is active, and else heavy
+-- after a light round: light if a vertex is active, and else heavy
 abbrev pub next_phase : Phase → Bool → Phase
 next_phase First active = Find
 next_phase Find active = Light
@@ -59,7 +59,7 @@ next_of m width x = next_phase x.phase (some_active m width x)
 
 -- ---- What changes in a round
 
--- A vertex took the weight that one of some edges offered, where it had none or a greater one.
+-- A vertex took the weight that one of some edges offered, if it had none or a greater one.
 pub record Took (entries : List Triple) (sent : Triple → Bool) (old new : ℕ → Option ℕ) (v : ℕ) : Type 0 where
   pub edge : Triple
   pub is : Contains entries edge
@@ -88,7 +88,7 @@ pub record Finds (m : Sparse) (width : ℕ) (x y : Look) : Type 0 where
   pub reached : (v : ℕ) → y.pending v ≡ true → some_active m width y ≡ true
 
 -- In a light round the light edges of active vertices offer; these become settled, and are pending
--- only where they took an offer.
+-- only if they took an offer.
 pub record Lights (m : Sparse) (width : ℕ) (x y : Look) : Type 0 where
   pub bucket : y.bucket ≡ x.bucket
   pub settled : (v : ℕ) → y.settled v ≡ (x.settled v || is_active width x v)
@@ -109,7 +109,7 @@ Changes Heavy m width x y = Improves m.entries (λ e. not (is_light width e) && 
 abbrev pub own_vertices : ℕ → Sparse → (ℕ → Bool) → ℕ → List ℕ
 own_vertices ranks m test r = dealt (λ i. i % ranks) r (filter test (range_with_len 0 m.rows))
 
--- The least weight of an own pending vertex, or None where none is pending.
+-- The least weight of an own pending vertex, or None if none is pending.
 abbrev pub least_pending : ℕ → Sparse → Look → ℕ → Option ℕ
 least_pending ranks m x r = fold (λ w v. lesser w (x.found v)) None (own_vertices ranks m x.pending r)
 
@@ -122,7 +122,7 @@ offers ranks m found test wanted r =
     (own_vertices ranks m test r)
 
 -- What a rank emits in a round of each kind.
--- find: to each rank the least own bucket, and 2^64 - 1 where nothing is pending; light: what
+-- find: to each rank the least own bucket, and 2^64 - 1 if nothing is pending; light: what
 -- active vertices offer along light edges; heavy: what settled ones offer along heavy edges
 -- of (0,1,3), (1,2,2), (0,2,7) from 0 with width 4 on 2 ranks: in round 1, find, rank 0 emits
 -- (0,0,0) and rank 1 (2^64 - 1, 0, 0) to both; in round 2, light, rank 0 emits (1,3,0) to rank 1;

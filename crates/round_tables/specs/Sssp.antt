@@ -23,7 +23,7 @@ use Rattle.sparse_rows.specs.Emits.{item, Emit}
 abbrev pub to_rows : ℕ → Sparse → ℕ → List (ℕ × Item)
 to_rows ranks m r = map (λ e. (e.1.i % ranks, item e.1.i e.1.j (twos_complement e.1.v))) (own_entries ranks r m.entries)
 
--- The least weight of a walk from s to t of at most k edges, or None where there is no such walk.
+-- The least weight of a walk from s to t of at most k edges, or None if there is no such walk.
 -- over the same from 0 to 2: of at most 0 edges None, of at most 1 edge 7, of at most 2 edges 5
 pub record IsLeastWithin (entries : List Triple) (s k t : ℕ) (found : Option ℕ) : Type 0 where
   -- it is the weight of such a walk
@@ -37,8 +37,8 @@ abbrev pub falls : Option ℕ → Option ℕ → Bool
 falls old None = false
 falls old (Some w) = is_better w old
 
--- found k v is a weight of vertex v with at most k edges. It improves with k edges where it is
--- better than with fewer; with none it improves where it is there, which is at the source.
+-- found k v is a weight of vertex v with at most k edges. It improves with k edges if it is
+-- better than with fewer; with none it improves if it is there, which is at the source.
 -- of the same from 0: vertex 2 improves with 1 edge, from None to 7, and with 2 edges, from 7 to 5
 abbrev pub improves : (ℕ → ℕ → Option ℕ) → ℕ → ℕ → Bool
 improves found zero v = falls None (found 0 v)

@@ -83,7 +83,7 @@ topo_sends ranks m n =
 abbrev pub topo_vote : ℕ → Sparse → ℕ → ℕ → ℕ
 topo_vote ranks m n r = if n % 2 == 1 then length (columns_claimed ranks m (n / 2) r) else 0
 
--- topo has 2l + 2 rounds, where l is the number of levels that aren't empty.
+-- topo has 2l + 2 rounds, if l is the number of levels that aren't empty.
 -- of (0,0), (0,1), (1,1), with levels 0 and 1: six rounds, with votes above 0 in rounds 1 and 3;
 -- round 5, whose votes are all 0, is the last
 pub record IsTopoTable (ranks : ℕ) (m : Sparse) (t : Table) : Type 0 where

@@ -23,7 +23,7 @@ pub record IsGrid (dims : List ℕ) : Type 0 where
 abbrev pub dim : List ℕ → ℕ → ℕ
 dim dims h = slice_index dims (h - 1)
 
--- Coordinate h of a rank, counted from 1; 0 where the grid has no such dimension.
+-- Coordinate h of a rank, counted from 1; 0 if the grid has no such dimension.
 -- r = c1 + n1 * (c2 + n2 * c3)
 -- In the grid 2x3x5 rank 29 has the coordinates 1, 2 and 4.
 unfoldable pub coord : List ℕ → ℕ → ℕ → ℕ
@@ -32,7 +32,7 @@ coord (n ∷ ns) r zero = 0
 coord (n ∷ ns) r (suc zero) = r % n
 coord (n ∷ ns) r (suc (suc h)) = coord ns (r / n) (suc h)
 
--- Where an entry from s to d stands after h hops: the rank with coordinates 1 to h of d and the
+-- The place of an entry from s to d after h hops: the rank with coordinates 1 to h of d and the
 -- others of s.
 -- place s d 0 = s, place s d k = d
 -- In the grid 2x2x2 the places from rank 1 to rank 6 are 1, 0, 2 and 6.

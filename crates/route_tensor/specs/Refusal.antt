@@ -6,7 +6,7 @@ use Rattle.route_tensor.specs.declared.grid.GridError.TheVariants.{Order, ZeroDi
 use Rattle.route_tensor.specs.declared.by_hops.TheConstants.{MOST_HOPS}
 use Rattle.route_tensor.specs.Grid.{ranks}
 
--- Why these numbers are no grid; the first that fits, and None where they are one.
+-- Why these numbers are no grid; the first that fits, and None if they are one.
 -- not one to MOST_HOPS numbers; a zero among them; a product over 64
 -- 9x0 is refused for its zero, 9x8 for its product.
 unfoldable pub refusal : List ℕ → Option GridError

@@ -1,4 +1,4 @@
--- Where a rank sends entries, and whom it has links with.
+-- Where a rank sends entries, and which ranks it has links with.
 use Rattle.std.specs.Prelude.{◌≡◌, ℕ, ◌+◌, ◌-◌, ◌<◌, List, length, sum, slice_index_or}
 use Rattle.bale_items.specs.declared.item.Entry.{Entry}
 use Rattle.bale_items.specs.declared.item.Tag.{Tag}
@@ -15,7 +15,7 @@ pub record Site : Type 0 where
   pub dims : List ℕ
   pub rank : ℕ
 
--- Where an entry from r to d goes first: to the neighbour of hop 1 that has d's first coordinate,
+-- The first link of an entry from r to d: to the neighbour of hop 1 that has d's first coordinate,
 -- with its first tag.
 -- In the grid 2x2x2 an entry from 1 to 6 goes to neighbour number 0, rank 0, with the tag (0,1,1).
 abbrev pub first_step : List ℕ → ℕ → ℕ → Onward
@@ -34,7 +34,7 @@ about dims r i = record {
   filler = 0;
 }
 
--- Where an entry goes that came from a neighbour: to the neighbour of the next hop with the
+-- The next link of an entry that came from a neighbour: to the neighbour of the next hop with the
 -- coordinate that the tag tells, with the next tag.
 -- In the grid 2x2x2 an entry with the tag (0,1,1) that came from rank 1 to rank 0 on hop 1 goes to
 -- neighbour number 3, rank 2, with the tag (1,0,1).

@@ -109,7 +109,7 @@ impl Grid {
         self.n1 * self.n2 * self.n3
     }
 
-    /// Does nothing, and tells what holds of a grid at every moment.
+    /// Does nothing, and states what holds of a grid at every moment.
     pub fn known(&self)
         ensures { IsGrid self.now }
     {
@@ -148,7 +148,7 @@ impl Grid {
         r / self.stride(h - 1) % self.dim(h)
     }
 
-    /// Where an entry from `s` to `d` stands after `h` hops.
+    /// The place of an entry from `s` to `d` after `h` hops.
     pub fn place(&self, s: u32, d: u32, h: u32) -> u32
         requires sender { s < ranks self.now }
         requires destination { d < ranks self.now }

@@ -9,7 +9,7 @@
 //! |---|---|
 //! | `Grid::new` | the grid of these dimensions, or why there is none |
 //! | `ranks`, `hops`, `links` | how many ranks, hops and links it has |
-//! | `coord`, `place` | a rank's coordinate; where an entry stands after some hops |
+//! | `coord`, `place` | a rank's coordinate; the place of an entry after some hops |
 //! | `link`, `ends` | the number of a link; the hop and the two ranks of a number |
 //! | `tag_first`, `tag_next` | the tag of an entry on its first and on its next link |
 //! | `pair_of` | the sender and the destination of an entry, by its tag and link |

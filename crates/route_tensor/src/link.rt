@@ -37,7 +37,7 @@ impl Grid {
         (h, a, b)
     }
 
-    /// The hop of a number, where numbers are given hop by hop, and `per` of them to each
+    /// The hop of a number, if numbers are given hop by hop, and `per` of them to each
     /// coordinate.
     pub(crate) fn hop_among(&self, per: u32, number: u32) -> u32
         requires number { number < per * sum self.now }

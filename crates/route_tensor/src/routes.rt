@@ -88,7 +88,7 @@ pub struct Routes {
     stamps: Vec<Entry>,
     /// By number.
     neighbours: Vec<Neighbour>,
-    /// By link: the number of the neighbour at the link's other end, where the link is one of this
+    /// By link: the number of the neighbour at the link's other end, if the link is one of this
     /// rank's.
     numbers: Vec<u8>,
 }
@@ -125,7 +125,7 @@ impl Routes {
         })
     }
 
-    /// Does nothing, and tells what holds of tables at every moment.
+    /// Does nothing, and states what holds of tables at every moment.
     #[inline]
     pub fn known(&self)
         ensures grid { IsGrid self.now.dims }
@@ -169,7 +169,7 @@ impl Routes {
         self.neighbours[i as usize]
     }
 
-    /// Where an entry from this rank to `to` goes first.
+    /// The first link of an entry from this rank to `to`.
     #[inline]
     pub fn first(&self, to: u32) -> Onward
         requires { to < ranks self.now.dims }

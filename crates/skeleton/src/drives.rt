@@ -24,7 +24,7 @@ use std::thread::Threads;
 /// The answer by column, found by the ranks of a grid of one number, which one thread turns.
 ///
 /// # Errors
-/// `NoMemory` where there was none.
+/// `NoMemory` if there was none.
 #[tactic(auto, using(crate::proofs::Starts::some_ranks))]
 pub fn skeleton_serial(alloc: Global, m: &Matrix, grid: &Grid) -> Result<Vec<u64>, NoMemory>
     requires one_hop { length grid.now ≡ 1 }
@@ -39,7 +39,7 @@ pub fn skeleton_serial(alloc: Global, m: &Matrix, grid: &Grid) -> Result<Vec<u64
 /// The answer by column, found by the ranks of a grid of one number, which are on threads.
 ///
 /// # Errors
-/// `NoMemory` where there was none.
+/// `NoMemory` if there was none.
 #[tactic(auto, using(crate::proofs::Starts::some_ranks))]
 pub fn skeleton_threads<R: Threads + Wait + Sync>(
     rt: &R,
@@ -56,7 +56,7 @@ pub fn skeleton_threads<R: Threads + Wait + Sync>(
     found(alloc, m, ranks, &finished.progs)
 }
 
-/// The cell of each column at its owner, where the programs have run to their end.
+/// The cell of each column at its owner, if the programs have run to their end.
 fn found(
     alloc: Global,
     m: &Matrix,

@@ -17,7 +17,7 @@ use std::alloc::Global;
 /// The programs of `ranks` ranks, from 1 to 64.
 ///
 /// # Errors
-/// `NoMemory` where there was none for them.
+/// `NoMemory` if there was none for them.
 pub fn start(alloc: Global, m: &Matrix, ranks: u32) -> Result<Progs<Skeleton>, NoMemory>
     requires { AreRanks ranks }
     ensures starts { IfOk result (λ ps. ps ≡ starts ranks m.now) }

@@ -12,7 +12,7 @@ use std::thread::Threads;
 const TEXT: &[u8] =
     b"%%MatrixMarket matrix coordinate pattern general\n4 3 4\n3 1\n2 1\n4 3\n2 3\n";
 
-/// The least row of each column, 4 where there is none.
+/// The least row of each column, 4 if there is none.
 const FOUND: &[u64] = &[1, 4, 1];
 
 /// Whether both drives find it on grids of up to five ranks.

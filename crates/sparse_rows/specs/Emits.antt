@@ -12,7 +12,7 @@ item a b c = record { a = a; b = b; c = c }
 -- As round n of a run begins there are so many ranks, and each emits its line: its items in order,
 -- each with the rank that it goes to.
 -- what rank r emits in round n = line r, for r = 0, .., ranks - 1
--- Where rank 0 emits x to 1 and then y to 0, and rank 1 nothing, line 0 is (1,x), (0,y) and line 1
+-- If rank 0 emits x to 1 and then y to 0, and rank 1 nothing, line 0 is (1,x), (0,y) and line 1
 -- is empty.
 abbrev pub Emit : {S : Type 0} → Rules S → List S → ℕ → ℕ → (ℕ → List (ℕ × Item)) → Type 0
 Emit R starts n ranks line = map R.emissions (states_at R starts n) ≡ map line (range_with_len 0 ranks)

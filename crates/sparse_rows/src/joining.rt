@@ -15,7 +15,7 @@ use std::alloc::Global;
 ///
 /// # Errors
 ///
-/// `NoMemory` where there was none, or where there are more cells than the 524,288 entries of a
+/// `NoMemory` if there was none, or if there are more cells than the 524,288 entries of a
 /// matrix.
 pub fn join(
     alloc: Global,

@@ -9,7 +9,7 @@ use std::alloc::Global;
 use std::marker::Model;
 
 /// The parts of a matrix, one for each rank: a list of triples with their numbers in the matrix.
-/// They are read where the matrix has them.
+/// They are read if the matrix has them.
 #[derive(Drop)]
 pub struct Parts<'a> {
     /// All entries of the matrix, in order.

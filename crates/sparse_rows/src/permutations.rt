@@ -10,7 +10,7 @@ use std::alloc::Global;
 ///
 /// # Errors
 ///
-/// `NoMemory` where there was none for the marks.
+/// `NoMemory` if there was none for the marks.
 pub fn is_permutation(alloc: Global, p: &[u32], n: u32) -> Result<bool, NoMemory>
     ensures { IfOk result (λ b. Decides b (Permutes n p.now)) }
 {

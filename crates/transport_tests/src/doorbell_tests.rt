@@ -40,7 +40,7 @@ fn answered<P: Port<1>>(
     Ok(calls.len())
 }
 
-/// Makes the calls at a bank of the grid 2 with two slots, where rank 0 posts and rank 1 collects.
+/// Makes the calls at a bank of the grid 2 with two slots, if rank 0 posts and rank 1 collects.
 #[tactic(auto, unfolding(port_bank::specs::Port::IsSlots))]
 fn answered_by_slots(alloc: Global, calls: &[(Call, Answer)]) -> Result<usize, NoMemory> {
     let Ok(grid) = Grid::new(&[2]) else {

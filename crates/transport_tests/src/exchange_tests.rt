@@ -68,7 +68,7 @@ fn epoch(ranks: Ranks, number: u64, pulled: &mut Vec<Got>) -> Result<(Ranks, boo
     Ok((ranks, (begun, pushed, over, reset) == (8, SENT.len(), 8, 8)))
 }
 
-/// Two epochs, with so many slots per link: how many the bank has ended, where no call answers
+/// Two epochs, with so many slots per link: how many the bank has ended, if no call answers
 /// otherwise than it should.
 fn exchange(alloc: Global, slots: u32, pulled: &mut Vec<Got>) -> Result<Option<u64>, NoMemory>
     requires slots { IsSlots slots }

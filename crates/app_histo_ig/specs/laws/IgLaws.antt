@@ -27,7 +27,7 @@ pub is_query : (cols ranks round to from : ℕ) (x : Item) → may_ig (cols ∷ 
     → IsIgQuery cols x × (from < ranks)
 is_query cols ranks round to from x h z = (grind (arith, nat_tests), grind (arith, nat_tests))
 
--- a step that is taken under a test commutes with another, where the steps do
+-- a step that is taken under a test commutes with another, if the steps do
 both_ways : {X : Type 0} (b : Bool) (f g : X → X) (x : X) → f (g x) ≡ g (f x)
     → (if b then f (if b then g x else x) else if b then g x else x)
     ≡ (if b then g (if b then f x else x) else if b then f x else x)

@@ -7,7 +7,7 @@ use Rattle.mtx_text.specs.Cells.{with_value_raised}
 use Rattle.app_permute.specs.declared.carried.RowOwner.{RowOwner}
 use Rattle.app_permute.specs.Carried.{item_cell, may_cell}
 
--- One cell is taken in where the rank owns its row, and else dropped.
+-- One cell is taken in if the rank owns its row, and else dropped.
 abbrev pub own_raised : RowOwner → List Triple → ℕ → Item → List Triple
 own_raised owner cells from x =
     if may_cell owner.rows owner.cols owner.ranks owner.rank from x then with_value_raised (item_cell x) cells else cells

@@ -1,4 +1,4 @@
--- Where the numbers of a row stand, and the entries of a column.
+-- The places of a row's numbers, and of a column's entries.
 use Rattle.std.specs.Prelude.{ℕ, ◌≡◌, ◌<◌, ◌≤◌, ◌/◌, ◌^◌, List, length, slice_index_or}
 use Rattle.bale_items.specs.declared.triple.Triple.{Triple}
 use Rattle.sparse_rows.specs.Owners.{places_for}

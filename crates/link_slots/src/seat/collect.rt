@@ -1,4 +1,4 @@
-//! A collect: a hear where it is due, a look into the marked link, and the exchange.
+//! A collect: a hear if it is due, a look into the marked link, and the exchange.
 ghost use Rattle.std.specs.Prelude.{◌≡◌, ◌≢◌, ℕ, suc, ◌^◌, ◌<◌, ◌≤◌, false, take, length};
 ghost use mathlib.Core.Option.{some};
 ghost use lib.ListN.{get_elem?};
@@ -55,7 +55,7 @@ fn hear_if_due<const CAP: usize>(
     }
 }
 
-/// Looks into the link where it is marked, and takes its mark away. Answers how many parcels are at
+/// Looks into the link if it is marked, and takes its mark away. Answers how many parcels are at
 /// hand then.
 fn look_if_marked<const CAP: usize>(
     top: &Top<CAP>,
@@ -94,7 +94,7 @@ fn look_if_marked<const CAP: usize>(
     }
 }
 
-/// Finds how many parcels of the link are at hand: where none is, it hears the doorbell if that is
+/// Finds how many parcels of the link are at hand: if none is, it hears the doorbell if that is
 /// due, and looks into the link if it is marked. It makes no other step.
 fn find_parcel<const CAP: usize>(
     top: &Top<CAP>,
@@ -121,7 +121,7 @@ fn find_parcel<const CAP: usize>(
         (saturated_count (listens (in_of (own_logs place.new.me.0) link))) }
     // A parcel that is at hand costs no step.
     ensures at_hand { end.old.waiting ≢ 0 → place.new.me.0 ≡ place.old.me.0 }
-    // Else the doorbell is heard where a hear is due, and the link is looked in where it is then
+    // Else the doorbell is heard if a hear is due, and the link is looked in if it is then
     // marked.
     ensures heard { end.old.waiting ≡ 0 → (m : ℕ) → m < links top.now.key.dims
         → reader_at top.now.key.dims m ≡ place.old.me.0.pick → hop_at top.now.key.dims m ≡ hop_at top.now.key.dims link
@@ -142,7 +142,7 @@ fn find_parcel<const CAP: usize>(
 /// Collects the link's next parcel for the empty one at hand, if one is found.
 ///
 /// Most collects in vain are of a link that isn't marked and for which no hear is due: that is told
-/// where the call stands, by what the seat counts, and the rest is a call.
+/// if the call stands, by what the seat counts, and the rest is a call.
 #[inline]
 pub(crate) fn collect_on<const CAP: usize>(
     top: &Top<CAP>,
@@ -184,7 +184,7 @@ pub(crate) fn collect_on<const CAP: usize>(
     ensures no_looking { end.old.waiting ≢ 0 → own_logs place.new.me.0
         ≡ with_in (own_logs place.old.me.0) link (taken_more (in_of (own_logs place.old.me.0) link)
         (in_of (own_logs place.new.me.0) link).released_at) }
-    // Else the doorbell is heard where a hear is due, and the link is looked in where it is then
+    // Else the doorbell is heard if a hear is due, and the link is looked in if it is then
     // marked.
     ensures heard { end.old.waiting ≡ 0 → (m : ℕ) → m < links top.now.key.dims
         → reader_at top.now.key.dims m ≡ place.old.me.0.pick → hop_at top.now.key.dims m ≡ hop_at top.now.key.dims link
@@ -204,7 +204,7 @@ pub(crate) fn collect_on<const CAP: usize>(
     collect_now(top, place, end, ear, wire, slots, link, parcel)
 }
 
-/// Collects where the counts of the seat do not answer already: hears and looks in as far as is
+/// Collects if the counts of the seat do not answer already: hears and looks in as far as is
 /// due.
 fn collect_now<const CAP: usize>(
     top: &Top<CAP>,
@@ -246,7 +246,7 @@ fn collect_now<const CAP: usize>(
     ensures no_looking { end.old.waiting ≢ 0 → own_logs place.new.me.0
         ≡ with_in (own_logs place.old.me.0) link (taken_more (in_of (own_logs place.old.me.0) link)
         (in_of (own_logs place.new.me.0) link).released_at) }
-    // Else the doorbell is heard where a hear is due, and the link is looked in where it is then
+    // Else the doorbell is heard if a hear is due, and the link is looked in if it is then
     // marked.
     ensures heard { end.old.waiting ≡ 0 → (m : ℕ) → m < links top.now.key.dims
         → reader_at top.now.key.dims m ≡ place.old.me.0.pick → hop_at top.now.key.dims m ≡ hop_at top.now.key.dims link

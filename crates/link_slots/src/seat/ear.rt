@@ -5,6 +5,6 @@
 pub(crate) struct Ear {
     /// The bits of the links that are marked: rung for, and not looked in since.
     pub(crate) marks: u64,
-    /// How often the doorbell was heard; it stands still at the last number.
+    /// How often the doorbell was heard; it saturates.
     pub(crate) hears: u64,
 }

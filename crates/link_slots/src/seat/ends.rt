@@ -1,4 +1,4 @@
-//! What a rank's seat counts for each of its links, beside the table.
+//! What a rank's seat counts for each of its links, besides the table.
 ghost use Rattle.std.specs.Prelude.{◌≡◌, ℕ, ◌+◌, ◌*◌, ◌%◌, ◌^◌};
 ghost use Rattle.port_bank.specs.Port.{IsSlots};
 
@@ -24,7 +24,7 @@ pub(crate) struct InEnd {
     pub(crate) _filler: u64,
 }
 
-/// The slot through which parcel number `count` of a link goes, where the count is known modulo
+/// The slot through which parcel number `count` of a link goes, if the count is known modulo
 /// 2^64. The number of slots is a power of two.
 #[inline]
 #[tactic(auto, unfolding(port_bank::specs::Port::IsSlots))]

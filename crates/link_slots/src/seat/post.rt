@@ -1,4 +1,4 @@
-//! A post: a look for room where no empty slot is at hand, the exchange, and the ring.
+//! A post: a look for room if no empty slot is at hand, the exchange, and the ring.
 ghost use Rattle.std.specs.Prelude.{◌≡◌, ◌≢◌, suc, ◌≤◌};
 ghost use Rattle.link_slots.specs.Logs.{out_of, with_out, sent_of, got_of, sent_more, found_full};
 ghost use Rattle.link_slots.specs.View.{own_logs};
@@ -13,7 +13,7 @@ use crate::table::wire::Wire;
 use item_buffer::Parcel;
 use port_bank::Posted;
 
-/// Looks for room where no empty slot of the link is at hand.
+/// Looks for room if no empty slot of the link is at hand.
 fn make_room<const CAP: usize>(
     top: &Top<CAP>,
     place: &mut Place<CAP>,

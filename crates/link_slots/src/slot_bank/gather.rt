@@ -115,7 +115,7 @@ impl<const CAP: usize> GatherSeat<CAP> {
 
 impl<const CAP: usize> SlotBank<CAP> {
     /// The gathering seat learns what the rank knows, and what it knew of the others stands. The
-    /// seat's slots stay where they are.
+    /// seat's slots stay if they are.
     pub fn gather(&self, g: &mut GatherSeat<CAP>, seat: SlotSeat<CAP>)
         requires bank { (g.old.id ≡ self.now.id) × (g.old.shape ≡ self.now.shape) }
         requires seat { (seat.id ≡ self.now.id) × (seat.shape ≡ self.now.shape) }

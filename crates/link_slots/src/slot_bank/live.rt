@@ -44,7 +44,7 @@ pub fn live_law<const CAP: usize>()
     ensures { LiveLaw CAP }
 {}
 
-/// Where a link's bit isn't set, as right after a hear of its doorbell, or the reader has heard it
+/// If a link's bit isn't set, as right after a hear of its doorbell, or the reader has heard it
 /// since the sender last rang, and a collect of the link answered Nothing, each parcel that was
 /// offered is collected; and a step that counts a hear marks each link for which one rang. This
 /// call tells it, and does nothing else.
@@ -54,7 +54,7 @@ pub fn bell_law<const CAP: usize>()
     ensures step { HearLaw CAP }
 {}
 
-/// Where the sender of a link has looked for room since the latest release, and a post answered
+/// If the sender of a link has looked for room since the latest release, and a post answered
 /// NoRoom, every slot of the link is taken; and a step that counts a look finds all the room that
 /// there is. This call tells it, and does nothing else.
 pub fn room_law<const CAP: usize>()

@@ -45,7 +45,7 @@ impl<const CAP: usize> Play<Slot<CAP>, Knows> for BringParcel {
     ghost then = { parcel_told CAP };
 }
 
-/// A look at the doorbell, which is the ring where the link's bit is set already.
+/// A look at the doorbell, which is the ring if the link's bit is set already.
 pub(crate) struct LookBeforeRing;
 
 impl<const CAP: usize> Play<Slot<CAP>, Knows> for LookBeforeRing {
@@ -58,7 +58,7 @@ impl<const CAP: usize> Play<Slot<CAP>, Knows> for Ring {
     ghost then = { ring_told CAP };
 }
 
-/// A look at the doorbell, which is the hear where no bit is set.
+/// A look at the doorbell, which is the hear if no bit is set.
 pub(crate) struct LookBeforeHear;
 
 impl<const CAP: usize> Play<Slot<CAP>, Knows> for LookBeforeHear {

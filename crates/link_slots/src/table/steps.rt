@@ -88,7 +88,7 @@ pub(crate) fn send<const CAP: usize>(
 }
 
 /// Sets the link's bit of its reader's doorbell, for all parcels posted so far. It looks first, for
-/// all senders of the reader share the doorbell's cache line: where the bit is set already, nothing
+/// all senders of the reader share the doorbell's cache line: if the bit is set already, nothing
 /// is written.
 pub(crate) fn ring<const CAP: usize>(
     top: &Top<CAP>,
@@ -110,7 +110,7 @@ pub(crate) fn ring<const CAP: usize>(
 }
 
 /// Empties the doorbell of the link's hop, and answers the bits that were set. It marks their
-/// links. It looks first: where no bit is set, nothing is written.
+/// links. It looks first: if no bit is set, nothing is written.
 pub(crate) fn hear<const CAP: usize>(
     top: &Top<CAP>,
     place: &mut Place<CAP>,

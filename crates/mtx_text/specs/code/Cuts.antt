@@ -1,4 +1,4 @@
--- Where a text's first line and a line's first word end.
+-- The ends of a text's first line and of a line's first word.
 use Rattle.std.specs.Prelude.{◌≡◌, ◌≢◌, ℕ, ◌<◌, ◌≤◌, true, false, List, ◌∷◌, length, get_or}
 use Rattle.mtx_text.specs.Lines.{lines_of, words_of, is_blank}
 

@@ -42,7 +42,7 @@ draft_of form sizes end left done (line ∷ rest) =
     (λ t. draft_of form sizes end (left - 1) (done ++ stands_for form.symmetry t) rest)
     (λ why. record { entries = done; stop = Some (bad line.number why) })
 
--- What a draft decides, where no place comes twice in it.
+-- What a draft decides, if no place comes twice in it.
 abbrev pub verdict : Drafted → Result (List Triple) BadLine
 verdict draft = verdict_at draft.entries draft.stop
 
@@ -64,7 +64,7 @@ pub record ReadsOn (form : Form) (sizes : Sizes) (old new : List Triple) (from t
       → All (λ t. IsBelowSide (max sizes.rows sizes.cols) t) new
   pub few : length new + 2 * to.left ≤ length old + 2 * from.left
 
--- Sizes within the limits, and a text whose lines have numbers below 2^63 where its first line has
+-- Sizes within the limits, and a text whose lines have numbers below 2^63 if its first line has
 -- the number given.
 pub record CanRead (sizes : Sizes) (text : List ℕ) (number : ℕ) : Type 0 where
   pub limits : AreLimited sizes

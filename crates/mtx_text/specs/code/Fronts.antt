@@ -19,7 +19,7 @@ abbrev pub line_of : List ℕ → Option Kind → ℕ → ℤ → List ℕ
 line_of front None column value = []
 line_of front (Some kind) column value = front ++ rest_text kind column value
 
--- The front names the row, where there is one.
+-- The front names the row, if there is one.
 --   "12 " names row 12
 pub record Names (row : ℕ) (front : List ℕ) : Type 0 where
   pub short : length front ≤ 21

@@ -5,7 +5,7 @@ use Rattle.std.specs.Ordering.{nat_cmp}
 use Rattle.std.specs.BTreeSet.{BTreeSet, contains}
 use Rattle.bale_items.specs.declared.triple.Triple.{Triple}
 
--- A place as one number, where columns are below 65,536.
+-- A place as one number, if columns are below 65,536.
 abbrev pub key_of : ℕ → ℕ → ℕ
 key_of i j = i * 65_536 + j
 

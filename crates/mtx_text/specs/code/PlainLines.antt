@@ -86,7 +86,7 @@ pub record LeadingDigits (text : List ℕ) (d : Digits) : Type 0 where
   pub digits : list_all is_ascii_digit (take d.len text) ≡ true
   pub value : d.len ≤ 18 → d.size ≡ min (digits_value 10 (take d.len text)) 1_000_000_000_000_000_000
 
--- The line begins with `len` digits, none or more, and `size` is their number, or the cap where
+-- The line begins with `len` digits, none or more, and `size` is their number, or the cap if
 -- that is less.
 pub record CappedTo (line : List ℕ) (len size : ℕ) : Type 0 where
   pub within : len ≤ length line
@@ -100,7 +100,7 @@ pub record FewDigits (text : List ℕ) (len : ℕ) : Type 0 where
   pub few : len ≤ 5
   pub digits : list_all is_ascii_digit (take len text) ≡ true
 
--- A text's first `len` bytes are digits, and `size` is their number, where they are at most 18.
+-- A text's first `len` bytes are digits, and `size` is their number, if they are at most 18.
 --   of "12 7/" with 2 and 12
 pub record NumberTo (text : List ℕ) (len size : ℕ) : Type 0 where
   pub digits : list_all is_ascii_digit (take len text) ≡ true

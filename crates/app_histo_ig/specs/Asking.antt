@@ -9,7 +9,7 @@ pub record AskingState : Type 0 where
   pub ranks : ℕ
   -- for each own entry, in order, its column's owner and its column
   pub queries : List (ℕ × ℕ)
-  -- the sums of own columns, as words; that of column j stands at j div ranks
+  -- the sums of own columns, as words; that of column j is at j div ranks
   pub sums : List ℕ
   -- what was heard for each own entry
   pub answers : List ℕ

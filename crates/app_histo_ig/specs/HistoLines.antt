@@ -2,7 +2,7 @@
 use Rattle.std.specs.Prelude.{ℕ, zero, suc, List, [], ◌∷◌, ◌++◌, ◌+◌, ◌==◌, count_by, decimal}
 use Rattle.bale_items.specs.declared.triple.Triple.{Triple}
 
--- How many entries stand in a column.
+-- How many entries are in a column.
 -- in_column j entries = the number of entries whose column is j
 -- in_column 2 [(0,0), (0,2), (1,2), (2,2)] = 3
 abbrev pub in_column : ℕ → List Triple → ℕ

@@ -18,17 +18,17 @@ pub record HistoState : Type 0 where
   pub cols : ℕ
   -- the columns of the rank's entries, in order
   pub columns : List ℕ
-  -- the counts of own columns; that of column j stands at j div ranks
+  -- the counts of own columns; that of column j is at j div ranks
   pub counts : List ℕ
 
--- each entry stands in a column, and there is a place for each own column
+-- each entry is in a column, and there is a place for each own column
 pub record IsHisto (s : HistoState) : Type 0 where
   pub own : s.rank < s.ranks
   pub wide : s.cols < 2 ^ 32
   pub named : All (λ j. j < s.cols) s.columns
   pub places : length s.counts ≡ places_for s.ranks s.cols
 
--- an entry of column j, on its way to the column's owner
+-- an entry of column j, in transit to the column's owner
 abbrev pub counted_item : ℕ → Item
 counted_item j = record { a = j; b = 1; c = 0 }
 

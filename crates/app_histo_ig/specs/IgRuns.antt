@@ -7,7 +7,7 @@ use Rattle.sparse_rows.specs.Owners.{own_entries, places_for, column_owner}
 use Rattle.app_histo_ig.specs.Igs.{IgState, ig_rules, value_item}
 
 -- A rank as ig begins: its entries, 0 for each column that it owns, and the values of its entries
--- on their way.
+-- in transit.
 abbrev pub ig_begins : ℕ → Sparse → ℕ → IgState
 ig_begins ranks m rank =
     record {

@@ -20,16 +20,16 @@ pub record IgState : Type 0 where
   pub cols : ℕ
   -- the rank's entries, in order: the number of each in the matrix, and its column
   pub own : List (ℕ × ℕ)
-  -- the sums of own columns, as words; that of column j stands at j div ranks
+  -- the sums of own columns, as words; that of column j is at j div ranks
   pub sums : List ℕ
   -- the queries that came, by sender
   pub queries : List (List Item)
   -- what is sent in this round
   pub outgoing : List (ℕ × Item)
-  -- the sums of the own entries' columns, as words; that of entry number e stands at e div ranks
+  -- the sums of the own entries' columns, as words; that of entry number e is at e div ranks
   pub answers : List ℕ
 
--- round 0: the value of an entry, on its way to its column's owner
+-- round 0: the value of an entry, in transit to its column's owner
 abbrev pub value_item : Numbered → Item
 value_item e = record { a = e.1.j; b = twos_complement e.1.v; c = 0 }
 
@@ -67,7 +67,7 @@ may_ig (cols ∷ []) ranks round to from x =
     nat_lt from ranks && nat_lt to ranks && (nat_lt 1 round || (nat_lt x.a cols && x.a % ranks == to)) && is_item x
 may_ig shape ranks round to from x = false
 
--- each own entry stands in a column, there is a place for each own column, and what is sent fits
+-- each own entry is in a column, there is a place for each own column, and what is sent fits
 pub record IsIg (s : IgState) : Type 0 where
   pub own_rank : s.rank < s.ranks
   pub wide : s.cols < 2 ^ 32

@@ -16,7 +16,7 @@ pub record SumsState : Type 0 where
   pub cols : ℕ
   -- the values of the rank's entries, in order, each with its column's owner
   pub values : List (ℕ × Item)
-  -- the sums of own columns, as words; that of column j stands at j div ranks
+  -- the sums of own columns, as words; that of column j is at j div ranks
   pub sums : List ℕ
 
 -- each value fits its column's owner, and there is a place for each own column

@@ -7,7 +7,7 @@ use Rattle.sparse_rows.specs.Owners.{own_entries, column_owner, places_for}
 use Rattle.app_histo_ig.specs.Igs.{value_item}
 use Rattle.app_histo_ig.specs.Sums.{SumsState, sums_rules}
 
--- A rank as it begins: the values of its entries on their way, and 0 for each column that it owns.
+-- A rank as it begins: the values of its entries in transit, and 0 for each column that it owns.
 abbrev pub sums_begins : ℕ → Sparse → ℕ → SumsState
 sums_begins ranks m rank =
     record {

@@ -11,7 +11,7 @@ use bale_types::{Failed, Out, Sink};
 use mtx_text::{EntryLine, Kind, Matrix};
 use round_program::Progs;
 
-/// A rank that keeps a word for each of its entries: that of entry number `e` stands at `e div
+/// A rank that keeps a word for each of its entries: that of entry number `e` is at `e div
 /// ranks`.
 pub trait Answered: Drop {
     ghost words: { Self → List ℕ };

@@ -39,7 +39,7 @@ impl Model for Histo {
 }
 
 impl Histo {
-    /// A rank whose entries stand in `columns`, each below `cols`.
+    /// A rank whose entries are in `columns`, each below `cols`.
     pub(crate) fn new(
         rank: u32,
         ranks: u32,
@@ -76,7 +76,7 @@ impl Histo {
         self.cols
     }
 
-    /// The counts of own columns; that of column `j` stands at `j div ranks`.
+    /// The counts of own columns; that of column `j` is at `j div ranks`.
     pub fn counts(&self) -> &[u64]
         ensures { result.now ≡ self.now.counts }
     {

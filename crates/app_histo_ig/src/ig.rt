@@ -33,7 +33,7 @@ pub struct Ig {
     queries: Vec<Vec<Item>>,
     /// in round 2, how many they are
     asked: u64,
-    /// the sum of each own entry's column; that of entry number `e` stands at `e div ranks`
+    /// the sum of each own entry's column; that of entry number `e` is at `e div ranks`
     answers: Vec<u64>,
 }
 

@@ -30,7 +30,7 @@ pub(crate) fn note(queries: &mut Vec<Vec<Item>>, from: usize, item: Item) -> Res
 }
 
 /// Takes the answer `b` of entry number `a` in, if there is a place for it and no greater one
-/// stands there.
+/// is there.
 #[inline(always)]
 pub(crate) fn raise(answers: &mut [u64], ranks: u32, item: Item)
     requires { 0 < ranks }

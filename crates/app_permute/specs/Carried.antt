@@ -1,4 +1,4 @@
--- Cells on their way from rank to rank.
+-- Cells in transit from rank to rank.
 use Rattle.std.specs.Prelude.{ℕ, ◌%◌, ◌==◌, ◌&&◌, nat_lt, Bool}
 use Rattle.bale_items.specs.declared.Item.{Item}
 use Rattle.bale_items.specs.declared.triple.Triple.{Triple}

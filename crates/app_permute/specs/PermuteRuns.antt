@@ -14,7 +14,7 @@ use Rattle.app_permute.specs.Permutes.{PermuteState, permute_rules}
 abbrev pub own_numbers : ℕ → ℕ → List ℕ → List ℕ
 own_numbers ranks rank p = map (λ e. e.1) (dealt (λ e. e.0 % ranks) rank (enumerate_from 0 p))
 
--- A rank as permute begins: its entries on their way to the owners of their rows, and the new
+-- A rank as permute begins: its entries in transit to the owners of their rows, and the new
 -- numbers of what it owns.
 abbrev pub permute_begins : ℕ → Sparse → List ℕ → List ℕ → ℕ → PermuteState
 permute_begins ranks m p q rank =

@@ -21,7 +21,7 @@ pub record PermuteState : Type 0 where
   -- the matrix's rows and columns
   pub rows : ℕ
   pub cols : ℕ
-  -- the new numbers of own rows and of own columns; that of number x stands at x div ranks
+  -- the new numbers of own rows and of own columns; that of number x is at x div ranks
   pub new_rows : List ℕ
   pub new_cols : List ℕ
   -- what is sent in this round

@@ -8,7 +8,7 @@ use Rattle.app_permute.specs.Carried.{cell_item}
 use Rattle.app_permute.specs.Reorderings.{over_diagonal}
 use Rattle.app_permute.specs.Transposes.{TransposeState, transpose_rules}
 
--- A rank as transpose begins: its entries, turned, on their way to the owners of their columns.
+-- A rank as transpose begins: its entries, turned, in transit to the owners of their columns.
 abbrev pub transpose_begins : ℕ → Sparse → ℕ → TransposeState
 transpose_begins ranks m rank =
     record {

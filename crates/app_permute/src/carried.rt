@@ -1,4 +1,4 @@
-//! Cells on their way from rank to rank, as items.
+//! Cells in transit from rank to rank, as items.
 
 ghost use Rattle.std.specs.Prelude.{◌≡◌, ◌<◌, ◌^◌, OnOk, is_ok, if◌then◌else◌};
 ghost use Rattle.std.specs.List.{All};

@@ -27,7 +27,7 @@ pub struct Permute {
     rows: u32,
     /// the matrix's columns
     cols: u32,
-    /// the new numbers of own rows; that of row `i` stands at `i div ranks`
+    /// the new numbers of own rows; that of row `i` is at `i div ranks`
     new_rows: Vec<u32>,
     /// the new numbers of own columns
     new_cols: Vec<u32>,

@@ -44,7 +44,7 @@ pub(crate) fn emission_of(round: u64, ranks: u32, cells: &[Triple], i: u64) -> (
     to_owner(round, ranks, cells[i as usize])
 }
 
-/// A cell on its way: to the owner of its column in round 1, and else to that of its row.
+/// A cell in transit: to the owner of its column in round 1, and else to that of its row.
 #[inline(always)]
 fn to_owner(round: u64, ranks: u32, cell: Triple) -> (u32, Item)
     requires some { 0 < ranks }

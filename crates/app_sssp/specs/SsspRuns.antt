@@ -17,7 +17,7 @@ pub record IsGraph (m : Sparse) : Type 0 where
   pub square : m.cols ≡ m.rows
   pub weights : no_negative m.entries ≡ true
 
--- An entry on its way to the owner of its row.
+-- An entry in transit to the owner of its row.
 abbrev pub edge_item : Numbered → Item
 edge_item e = record { a = e.1.i; b = e.1.j; c = twos_complement e.1.v }
 
@@ -27,7 +27,7 @@ vertices_begin ranks rows source rank =
     if source % ranks == rank then improved_at (source / ranks) 0 (replicate (places_for ranks rows) unreached_vertex)
     else replicate (places_for ranks rows) unreached_vertex
 
--- A rank as sssp begins: its entries on their way, and no edges.
+-- A rank as sssp begins: its entries in transit, and no edges.
 abbrev pub sssp_begins : ℕ → Sparse → ℕ → ℕ → SsspState
 sssp_begins ranks m source rank =
     record {

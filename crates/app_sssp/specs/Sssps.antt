@@ -38,7 +38,7 @@ may_sssp (rows ∷ []) ranks round to from x =
     && is_item x
 may_sssp shape ranks round to from x = false
 
--- an entry on its way to the owner of its row
+-- an entry in transit to the owner of its row
 abbrev pub edge_came : Item → Triple
 edge_came x = record { i = x.a; j = x.b; v = from_twos_complement x.c }
 

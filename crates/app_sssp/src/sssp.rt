@@ -147,7 +147,7 @@ impl Sssp {
         self.rows
     }
 
-    /// The own vertices; vertex `i` stands at `i div ranks`.
+    /// The own vertices; vertex `i` is at `i div ranks`.
     pub fn vertices(&self) -> &Vertices
         ensures { result.now ≡ self.now.vertices }
     {

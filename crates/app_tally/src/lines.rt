@@ -146,7 +146,7 @@ fn cut_lines(alloc: Global, text: &[u8]) -> Result<Cut, NoMemory>
     Ok(Cut::Lines(spans))
 }
 
-/// What stands behind the first `at` bytes.
+/// What follows the first `at` bytes.
 fn behind(text: &[u8], at: usize) -> &[u8]
     requires { at ≤ length text.now }
     ensures { result.now ≡ drop at text.now }
@@ -159,7 +159,7 @@ fn are_bytes(text: &[u8])
     ensures { All (λ b. b < 256) text.now }
 {}
 
-/// How many bytes stand before the first LF.
+/// How many bytes come before the first LF.
 fn piece_len(text: &[u8]) -> usize
     ensures within { result ≤ length text.now }
     ensures before { (k : ℕ) → k < result → slice_index text.now k ≢ 10 }

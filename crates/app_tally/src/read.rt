@@ -12,7 +12,7 @@ use std::alloc::Global;
 /// The lines of the text that a source still has to give.
 ///
 /// The source is read to its end, or until one byte past the limit was taken; then the text is cut.
-/// What the source has left stands behind what was read, whatever the answer.
+/// What the source has left follows what was read, whatever the answer.
 ///
 /// # Errors
 ///

@@ -10,7 +10,7 @@ use bale_items::NoMemory;
 use std::alloc::Global;
 use std::marker::Model;
 
-/// Bytes that stand before a string at most.
+/// Bytes that come before a string at most.
 const MOST_BEFORE: usize = 4_294_967_295;
 
 /// Where a string lies.

@@ -1,6 +1,6 @@
 //! Small programs in the canonical run by hand, and what the applications are made of. Worked
 //! examples of the applications are runs of the program (checks/worked_runs).
-//! It has tests alone: they stand above the crates that they run, so that proving one does not
+//! It has tests alone: they are above the crates that they run, so that proving one does not
 //! prove the other again.
 #![tactic(auto)]
 

@@ -7,7 +7,7 @@ use Rattle.round_program.specs.Canonical.{HaveEnded}
 use Rattle.sparse_rows.specs.Owners.{Numbered, own_entries, row_owner, column_owner, places_for}
 use Rattle.app_topo.specs.Topos.{TopoState, topo_rules}
 
--- An entry on its way to the owner of its row, and to the owner of its column.
+-- An entry in transit to the owner of its row, and to the owner of its column.
 abbrev pub for_row : Numbered → Item
 for_row e = record { a = e.1.i; b = e.1.j; c = 0 }
 
@@ -17,7 +17,7 @@ for_column e = record { a = e.1.j; b = e.1.i; c = 1 }
 abbrev pub first_sent : ℕ → Numbered → List (ℕ × Item)
 first_sent ranks e = (row_owner ranks e, for_row e) ∷ (column_owner ranks e, for_column e) ∷ []
 
--- A rank as topo begins: its entries on their way, and 0 for each row and column that it owns.
+-- A rank as topo begins: its entries in transit, and 0 for each row and column that it owns.
 abbrev pub topo_begins : ℕ → Sparse → ℕ → TopoState
 topo_begins ranks m rank =
     record {

@@ -13,7 +13,7 @@ use Rattle.round_program.specs.Rules.{Rules}
 use Rattle.round_program.specs.Laws.{is_item}
 use Rattle.sparse_rows.specs.Owners.{places_for}
 
--- one rank's part; row or column number x stands at x div ranks in a list of own rows or columns
+-- one rank's part; row or column number x is at x div ranks in a list of own rows or columns
 pub record TopoState : Type 0 where
   pub rank : ℕ
   pub ranks : ℕ

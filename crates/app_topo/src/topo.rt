@@ -22,7 +22,7 @@ use std::marker::Model;
 use std::mem;
 
 /// One rank's part of topo. Row `i` belongs to rank `i mod ranks` and column `j` to rank `j mod
-/// ranks`; what a rank keeps of its row or column number `x` stands at place `x div ranks`.
+/// ranks`; what a rank keeps of its row or column number `x` is at place `x div ranks`.
 ///
 /// In round 0 each entry goes to the owner of its row, which counts it and adds up its column, and
 /// to the owner of its column, which keeps its row. Then a row that has one entry left in columns
@@ -41,7 +41,7 @@ pub struct Topo {
     sums: Vec<u64>,
     /// the entries of own columns as column and row, in order
     columns: Vec<Triple>,
-    /// where the entries of each own column stand there
+    /// where the entries of each own column are there
     spans: Vec<Span>,
     /// how many rows claimed each own column
     counts: Vec<u64>,

@@ -1,4 +1,4 @@
--- What the two top calls stand on: what is known of an answer before it is told, and how it is
+-- What the two top calls depend on: what is known of an answer before it is told, and how it is
 -- told.
 use Rattle.std.specs.Prelude.{◌≡◌, ◌≢◌, ◌⊎◌, ◌≤◌, ℕ, Bool, true, false, List, [], Option, None, Some, Result, Err, drop}
 use Rattle.std.specs.Prelude.{OnOk, OnErr, IfOk, IfErr}

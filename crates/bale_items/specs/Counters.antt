@@ -2,7 +2,7 @@
 -- parcels, of hears.
 use Rattle.std.specs.Prelude.{◌≡◌, ◌<◌, ◌^◌, ◌-◌, ◌⊎◌, ◌+◌, ℕ, min}
 
--- a count rose in a call, or it stands at its type's last value
+-- a count rose in a call, or it is at its type's last value
 -- RoseOrFull old new = old < new, or new = 2^64 - 1
 -- from 3 to 4; from 2^64 - 1 to itself
 abbrev pub RoseOrFull : ℕ → ℕ → Type 0

@@ -1,4 +1,4 @@
-//! Items, the tags that they carry on their way, and the two together.
+//! Items, the tags that they carry in transit, and the two together.
 
 /// What an application sends: three words, whose meaning is the application's own.
 #[repr(C)]

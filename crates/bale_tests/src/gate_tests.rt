@@ -3,8 +3,8 @@ use crate::rig::{ONE, Watch, ample, make};
 use std::sync::atomic::Ordering;
 use std::test::Fail;
 
-/// And rank 1: a body that turns one rank after the other waits in vain at one of them, whichever
-/// it turns first.
+/// And rank 1: a body that turns one rank after the other waits without success at one of them,
+/// whichever it turns first.
 /// `ig` by biconvey is two runs: the columns are summed, and then asked for.
 #[test]
 fn gate_holds_rank_0(rt: HostRuntime) -> Result<(), Fail> {

@@ -2,7 +2,7 @@
 //! sinks at each call, a gate that holds a rank, and the rounds that a run tells. Its worked runs
 //! are made by the program itself (checks/worked_runs), since each text here is one more to be
 //! compared with all types of the program.
-//! It has tests alone: they stand above the crates that they run, so that proving one does not
+//! It has tests alone: they are above the crates that they run, so that proving one does not
 //! prove the other again.
 #![tactic(auto)]
 

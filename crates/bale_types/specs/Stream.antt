@@ -83,7 +83,7 @@ pub record IsBehind (limit : ℕ) (text rest : List ℕ) : Type 0 where
   pub few : length text ≤ length rest + limit
 
 -- a reader takes at most so many bytes of a source, if that tells them
--- behind: what is left stands behind what was taken
+-- behind: what is left follows what was taken
 -- told: and the source still tells it
 pub record TakesUpTo (limit : ℕ) (left left' : Option (List ℕ)) : Type 0 where
   pub behind : (text rest : List ℕ) → left ≡ Some text → left' ≡ Some rest → IsBehind limit text rest

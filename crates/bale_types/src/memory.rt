@@ -46,7 +46,7 @@ impl Model for MemSource {
 
 impl MemSource {
     /// A source over a copy of `text`. A call gives as many bytes as `most`, its buffer and what is
-    /// left allow; exactly the calls whose numbers, from 1, stand in `fails` fail.
+    /// left allow; exactly the calls whose numbers, from 1, are in `fails` fail.
     ///
     /// # Errors
     ///
@@ -150,7 +150,7 @@ impl Model for MemSink {
 
 impl MemSink {
     /// An empty sink with `room` bytes taken beforehand. A call takes as many bytes as `most`, the
-    /// piece and the room that is left allow; exactly the calls whose numbers, from 1, stand in
+    /// piece and the room that is left allow; exactly the calls whose numbers, from 1, are in
     /// `fails`, and those that come when `room` bytes are held, fail.
     ///
     /// # Errors

@@ -69,7 +69,7 @@ task_in application.Topo gs = Some task.Topo
 task_in application.Sssp gs = search_of (value_in (codes "source") gs) (value_in (codes "delta") gs)
 task_in application.Tally gs = Some task.Tally
 
--- How the items travel, and what stands in the place of a text: transport, slots, steady, buffer,
+-- How the items travel, and what is in the place of a text: transport, slots, steady, buffer,
 -- drive, generated matrix.
 unfoldable pub travel_of : TaskName → Option (List ℕ) → Option (List ℕ) → Option (List ℕ) → Option (List ℕ)
     → Option (List ℕ) → Option (List ℕ) → Option Travel

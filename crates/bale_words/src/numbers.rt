@@ -99,7 +99,7 @@ pub(crate) fn numbers_between(
     Ok(Numbers { list })
 }
 
-/// What stands before the first separator, and what stands behind it if there is one.
+/// What precedes the first separator, and what follows it if there is one.
 #[tactic(auto, using(crate::proofs::Parts::none_more))]
 pub(crate) fn first_part(separator: u8, text: &[u8]) -> (&[u8], Option<&[u8]>)
     ensures parts { slice_split (λ b. b == separator) text.now ≡ result.0.now ∷ text_parts separator

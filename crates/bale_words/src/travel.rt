@@ -2,11 +2,11 @@
 
 use crate::command::{Driving, Generated, Transport};
 
-/// How the items of a run travel, and what stands in the place of a text.
+/// How the items of a run travel, and what is in the place of a text.
 #[derive(Clone, Copy, PartialEq, Eq, Debug)]
 pub struct Travel {
     pub transport: Transport,
-    /// how many parcels of a link may be on their way: 1, 2, 4 or 8
+    /// how many parcels of a link may be in transit: 1, 2, 4 or 8
     pub slots: u32,
     /// whether a rank sends what it has whenever it advances
     pub steady: bool,

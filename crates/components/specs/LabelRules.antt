@@ -37,7 +37,7 @@ pub record IsLabels (s : LabelState) : Type 0 where
   pub linked : All (IsVertexLink (length s.labels.cells)) s.links
   pub sent : All (IsVertexLink (length s.labels.cells)) s.active
 
--- the label of a link's beginning, for its end, on its way to the end's owner
+-- the label of a link's beginning, for its end, in transit to the end's owner
 abbrev pub label_item : List ℕ → Link → Item
 label_item before l = record { a = l.to; b = slice_index_or before l.from 0; c = 0 }
 

@@ -98,7 +98,7 @@ pub record WereAsked {P : Type 0} {cap : ℕ} {M : Type 0} (G : Ghosts P cap M) 
       → Ends ((in_of old l).parcel.untaken ++ flat_map (λ p. p.entries) more) (in_of new l).parcel.untaken
 
 -- What the links out show of the posts, if all of them had memory.
--- each: one that is due still was looked at in vain.
+-- each: one that is due still was looked at without success.
 -- full, ending, closing: if nothing was sent on a link it is crowded if its parcel was full, or
 -- if its hop has reached its end and it isn't closed.
 -- stopped: where entries are left in an inbox below the last hop, the first one is held up at its

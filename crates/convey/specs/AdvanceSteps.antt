@@ -76,7 +76,7 @@ pub record WasAsked (st : State) (l : ℕ) (log log' : List Shipped) (noted note
   pub idle : Wants st l → log' ≡ log → is_idle ≡ true
   pub once : length log' ≤ length log + 1
 
--- One parcel more stands in a link's log, of these entries.
+-- One parcel more is in a link's log, of these entries.
 pub record OneMore (entries : List Entry) (log log' : List Shipped) : Type 0 where
   pub parcel : Shipped
   pub is : log' ≡ log ++ parcel ∷ []
@@ -124,7 +124,7 @@ pub record MovesOn (old new : State) (done : Bool) (sent sent' got got' : Logs) 
   pub not_at_once : old.done ≡ false → IsOver new → ⊥
 
 -- What they leave if all posts had memory.
--- served: a link out that is still due was looked at in vain.
+-- served: a link out that is still due was looked at without success.
 -- full: so was one on which nothing was sent though its parcel was full.
 -- stopped: where entries are left in an inbox of an earlier hop, the first one is held up at its
 -- next link.

@@ -57,7 +57,7 @@ pub record GivesNext (st : State) (from : ℕ) (item : Item) : Type 0 where
   pub step : IsStepOf (Pull from item) st (pulled_from st (lowest_unread st))
   pub kept : KeepsAgreement st (pulled_from st (lowest_unread st))
 
--- How many entries stand in the open parcel toward a rank.
+-- How many entries are in the open parcel toward a rank.
 abbrev pub standing_toward : State → ℕ → ℕ
 standing_toward st to = length (out_of st (hop_link st.dims st.rank to 1)).parcel.untaken
 

@@ -14,11 +14,11 @@ use Rattle.convey.specs.Conveyors.{AgreesWith}
 use Rattle.convey.specs.Arrived.{HasArrived}
 use Rattle.convey.specs.Due.{Wants, IsOver, NextIs}
 
--- A link with parcels on their way: posted, and not collected.
+-- A link with parcels in transit: posted, and not collected.
 abbrev pub IsBusy : Logs → Logs → ℕ → Type 0
 IsBusy sent got l = length (got l) < length (sent l)
 
--- Of a rank's links out there is one with parcels on their way.
+-- Of a rank's links out there is one with parcels in transit.
 pub record HasBusy (dims : List ℕ) (r : ℕ) (sent got : Logs) : Type 0 where
   pub link : ℕ
   pub below : link < links dims

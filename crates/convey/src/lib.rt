@@ -9,7 +9,7 @@
 //! |---|---|---|
 //! | | `Conveyor::new` | Dormant, epoch 0 |
 //! | Dormant | `begin` | Working |
-//! | Working, not done | `push` | the item stands in an open parcel, or that is `Full` and nothing changed |
+//! | Working, not done | `push` | the item is in an open parcel, or that is `Full` and nothing changed |
 //! | all but Dormant | `pull` | the next item with its sender, or none is unread |
 //! | all but Dormant | `unread`, `batch`, `sender_of`, `pull_all` | all items of one inbox at once, as so many pulls would give them |
 //! | any | `unpull` | the item of the latest call is unread again, if that was a pull that gave one |

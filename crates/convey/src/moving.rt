@@ -23,7 +23,7 @@ use port_bank::Port;
 /// to move, and one in Cleanup nothing left to post.
 ///
 /// # Errors
-/// `NoMemory` comes only from the port's post. What was done before it stands.
+/// `NoMemory` comes only from the port's post. What was done before it stays done.
 pub(crate) fn move_on<const CAP: usize, const HOPS: usize, P: Port<CAP>>(
     state: &mut RankState<CAP, HOPS>,
     spare: &mut Spare<CAP>,

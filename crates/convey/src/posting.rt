@@ -20,7 +20,7 @@ use port_bank::{Port, Posted};
 /// goes round.
 ///
 /// # Errors
-/// `NoMemory` comes only from the port's post. What was posted before it stands.
+/// `NoMemory` comes only from the port's post. What was posted before it stays posted.
 pub(crate) fn post_all<const CAP: usize, const HOPS: usize, P: Port<CAP>>(
     state: &mut RankState<CAP, HOPS>,
     spare: &mut Parcel<CAP>,

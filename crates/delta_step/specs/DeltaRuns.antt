@@ -8,7 +8,7 @@ use Rattle.app_sssp.specs.SsspRuns.{IsGraph, edge_item, vertices_begin}
 use Rattle.delta_step.specs.declared.phase.Phase.TheVariants.{First}
 use Rattle.delta_step.specs.Deltas.{DeltaState, delta_rules}
 
--- A rank as delta-stepping begins: its entries on their way, no edges, and the source pending.
+-- A rank as delta-stepping begins: its entries in transit, no edges, and the source pending.
 abbrev pub delta_begins : ℕ → Sparse → ℕ → ℕ → ℕ → DeltaState
 delta_begins ranks m source width rank =
     record {

@@ -24,7 +24,7 @@ pub record DeltaState : Type 0 where
   pub round : ℕ
   -- the number of vertices
   pub rows : ℕ
-  -- how many weights a bucket has: weight x stands in bucket x div width; an edge is light if it
+  -- how many weights a bucket has: weight x is in bucket x div width; an edge is light if it
   -- weighs at most as much
   pub width : ℕ
   pub phase : Phase

@@ -136,7 +136,7 @@ impl Delta {
         self.rows
     }
 
-    /// The own vertices; vertex `i` stands at `i div ranks`.
+    /// The own vertices; vertex `i` is at `i div ranks`.
     pub fn vertices(&self) -> &Vertices
         ensures { result.now ≡ self.now.vertices }
     {

@@ -6,7 +6,7 @@ use rank_group::Via;
 use std::sync::atomic::Ordering;
 use std::test::Fail;
 
-/// Whether both turns were announced, and neither waited in vain.
+/// Whether both turns were announced, and neither waited without success.
 fn both_went(watch: &Watch) -> bool {
     watch.announced.load(Ordering::SeqCst)
         && watch.let_go.load(Ordering::SeqCst)

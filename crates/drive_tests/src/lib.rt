@@ -1,6 +1,6 @@
 //! The drives on small programs: ranks in turn and on threads, by both transports, what their gates
 //! hold, and refused absorbs.
-//! It has tests alone: they stand above the crates that they run, so that proving one does not
+//! It has tests alone: they are above the crates that they run, so that proving one does not
 //! prove the other again.
 #![tactic(auto)]
 

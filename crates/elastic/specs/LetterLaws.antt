@@ -15,7 +15,7 @@ pub record SameLetters {S : Type 0} (R : LetterRules S) (s t : S) : Type 0 where
   pub most : R.most t ≡ R.most s
   pub letters : R.letters t ≡ R.letters s
 
--- What stands after a call that found no memory: the rank, and what it sends.
+-- What follows a call that found no memory: the rank, and what it sends.
 pub record StillSends {S : Type 0} (R : LetterRules S) (s t : S) : Type 0 where
   pub rank : R.rank t ≡ R.rank s
   pub ranks : R.ranks t ≡ R.ranks s

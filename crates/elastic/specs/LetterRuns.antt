@@ -32,7 +32,7 @@ letters_upto R s lists (suc n) = absorb_letters R (letters_upto R s lists n) n (
 abbrev pub letters_absorbed : {S : Type 0} → LetterRules S → List S → List S
 letters_absorbed R ss = map (λ s. letters_upto R s (letters_by R ss (R.rank s)) (length ss)) ss
 
--- The sum of the programs' votes. It stands at 2^64 - 1 once it would pass it.
+-- The sum of the programs' votes. It saturates at 2^64 - 1.
 abbrev pub letter_votes : {S : Type 0} → LetterRules S → List S → ℕ
 letter_votes R ss = min (sum_by R.vote ss) (2 ^ 64 - 1)
 

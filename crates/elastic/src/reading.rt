@@ -104,7 +104,7 @@ fn read_letter(letter: &mut Vec<u8>, items: &[Item]) -> Result<(), NoMemory>
     }
 }
 
-/// Appends the letter that an item begins and further items go on with, if nothing stands before
+/// Appends the letter that an item begins and further items go on with, if nothing comes before
 /// it.
 fn append_letter(letter: &mut Vec<u8>, first: Item, rest: &[Item]) -> Result<(), NoMemory>
     requires { letter.old.items ≡ [] }

@@ -61,7 +61,7 @@ fn next_item(bytes: &[u8]) -> Item
     }
 }
 
-/// What stands behind the first `len` bytes, and nothing if there are no more.
+/// What follows the first `len` bytes, and nothing if there are no more.
 fn behind(bytes: &[u8], len: usize) -> &[u8]
     ensures { result.now ≡ drop len bytes.now }
 {

@@ -36,7 +36,7 @@ cycle_after n AllDone = n
 -- A link whose parcel of this round may be due, against its log.
 -- ended: it has ended as many epochs as there were, and the current one if and only if it is
 -- through with it.
--- by_last: if it is through, nothing stands after the parcel marked last.
+-- by_last: if it is through, nothing comes after the parcel marked last.
 -- each_round: else the current segment has one parcel for each round, but for that which is due.
 -- until: if it is through, that segment has one for each round up to that in which it ended,
 -- which is this one or an earlier one.

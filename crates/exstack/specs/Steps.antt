@@ -21,20 +21,20 @@ was_moved old new = old && not new
 abbrev pub latest : List Shipped → Shipped
 latest log = slice_index_or log (length log - 1) (record { entries = []; last = false; epoch = 0 })
 
--- A link out in a round: if its parcel was posted it stands at the end of the log, and nothing
+-- A link out in a round: if its parcel was posted it is at the end of the log, and nothing
 -- else changes.
 pub record WasPostedInRound (last : Bool) (epoch : ℕ) (old new : StackOut) (log log' : List Shipped) : Type 0 where
   pub link : new ≡ (if was_moved old.due new.due then gone last else old)
   pub sent : log' ≡ (if was_moved old.due new.due then log ++ parcel_of last epoch old ∷ [] else log)
 
--- A link in in a round: if a parcel was collected it stands at the end of the log, and nothing
+-- A link in in a round: if a parcel was collected it is at the end of the log, and nothing
 -- else changes.
 pub record WasCollected (exchange : Bool) (old new : StackIn) (log log' : List Shipped) : Type 0 where
   pub link : new ≡ (if was_moved old.due new.due then came exchange (latest log') else old)
   pub got : log' ≡ (if was_moved old.due new.due then log ++ latest log' ∷ [] else log)
 
--- A link whose parcel is still due was asked in vain: the port looked for room, or listened, in
--- this call, and the link is crowded, or idle.
+-- A link whose parcel is still due was asked without success: the port looked for room, or
+-- listened, in this call, and the link is crowded, or idle.
 pub record InVain (count count' : ℕ) (stuck : Bool) : Type 0 where
   pub rose : RoseOrFull count count'
   pub in_vain : stuck ≡ true
@@ -91,7 +91,7 @@ pub record MadeRound (last exchange : Bool) (old new : Stack) (sent sent' got go
 -- What a round asks of its port if it has memory: its posts, and then its collects.
 -- looked, crowded: for a link out whose parcel is due still the port looked for room in this call,
 -- and the link is crowded, unless something was got on it meanwhile.
--- asked: on a link in whose parcel is due still it listened in vain.
+-- asked: on a link in whose parcel is due still it listened without success.
 pub record AsksOnce {P : Type 0} {cap : ℕ} {M : Type 0} (G : Ghosts P cap M) (begun new : Stack)
     (port port' : P) : Type 0 where
   pub looked : (b : ℕ) → b < begun.ranks → (stack_out_at new b).due ≡ true

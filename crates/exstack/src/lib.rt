@@ -10,7 +10,7 @@
 //! |---|---|---|
 //! | | `Exstack::new` | Start, epoch 0 |
 //! | Start, Full, Proceeding | `poll_proceed` | `GoOn`: Filling; `AllDone`: AllDone; `NotYet`: Proceeding |
-//! | Filling, not done | `push` | the item stands in a buffer, or the headroom was 0 and nothing changed |
+//! | Filling, not done | `push` | the item is in a buffer, or the headroom was 0 and nothing changed |
 //! | Filling, Exchanging | `poll_exchange` | `Ready`: Full; `NotYet`: Exchanging |
 //! | any | `pop` | the next item with its sender, or none is unread |
 //! | any | `next_sender`, `batch` | the lowest sender with unread items; those items, as a slice |

@@ -21,7 +21,7 @@ use std::marker::Model;
 /// A link out. Contracts see the entries that wait on it; none of them has a tag.
 #[derive(Drop)]
 pub struct OutLink<const CAP: usize> {
-    /// What is pushed next stands at its end. Its marks are set just before it is posted.
+    /// What is pushed next is at its end. Its marks are set just before it is posted.
     parcel: Parcel<CAP>,
     /// Whether the last parcel of this epoch was posted.
     closed: bool,

@@ -24,8 +24,8 @@ impl<const CAP: usize> Exstack<CAP> {
     /// epoch.
     ///
     /// # Errors
-    /// `NoMemory` comes only from the port's post. What was posted before it stands, and the poll
-    /// may be made again.
+    /// `NoMemory` comes only from the port's post. What was posted before it stays posted, and the
+    /// poll may be made again.
     pub fn poll_proceed<P: Port<CAP>>(
         &mut self,
         port: &mut P,
@@ -78,8 +78,8 @@ impl<const CAP: usize> Exstack<CAP> {
     /// none is in progress one begins.
     ///
     /// # Errors
-    /// `NoMemory` comes only from the port's post. What was posted before it stands, and the poll
-    /// may be made again.
+    /// `NoMemory` comes only from the port's post. What was posted before it stays posted, and the
+    /// poll may be made again.
     pub fn poll_exchange<P: Port<CAP>>(&mut self, port: &mut P) -> Result<Poll, NoMemory>
         requires may { may_exchange self.old.stage ≡ true }
         requires at_port { IsStackAtPort P.Port self.old port.old }

@@ -80,7 +80,7 @@ pub fn resume_all<const CAP: usize>(links: &mut Vec<InLink<CAP>>)
 /// Posts once on each link out on which a parcel is due, in ascending order.
 ///
 /// # Errors
-/// `NoMemory` comes only from the port's post. What was posted before it stands.
+/// `NoMemory` comes only from the port's post. What was posted before it stays posted.
 pub fn post_all<const CAP: usize, P: Port<CAP>>(
     outs: &mut Vec<OutLink<CAP>>,
     port: &mut P,

@@ -34,7 +34,7 @@ abbrev pub way_out : List ℕ → ℕ → ℕ → ℕ
 way_out dims d h = links_before dims h + coord dims d h
 
 -- The items of a pair that a rank holds between hop h and hop h + 1: first those that were passed
--- on and stand in the open parcel, then those that wait in the inbox.
+-- on and are in the open parcel, then those that wait in the inbox.
 abbrev pub held_by : List ℕ → List Out → List In → ℕ → ℕ → ℕ → List Item
 held_by dims outs ins s d h =
     items_of_pair dims s d (h + 1) (slice_index_or outs (way_out dims d (h + 1)) no_out).parcel.untaken
@@ -50,7 +50,7 @@ IsStopped dims cap h outs x = (e : Entry) → slice_get x.parcel.untaken 0 ≡ S
     length (slice_index_or outs (links_before dims (h + 1) + digit e.tag (h + 1)) no_out).parcel.untaken ≡ cap
 
 -- What a relay passed on of one link in, number i of hop h, for the pairs that pass through: for a
--- pair that comes over that link, what was passed on stands in the open parcel of its next link, in
+-- pair that comes over that link, what was passed on is in the open parcel of its next link, in
 -- order, and the rest waits; the open parcels of other pairs got nothing of theirs.
 pub record PassesOn (dims : List ℕ) (r h i : ℕ) (outs outs' : List Out) (x x' : In) : Type 0 where
   pub mine : (s d : ℕ) → PassesThrough dims r s d h → way_in dims s h ≡ i →
@@ -63,7 +63,7 @@ pub record PassesOn (dims : List ℕ) (r h i : ℕ) (outs outs' : List Out) (x x
       ≡ items_of_pair dims s d (h + 1) (slice_index_or outs (way_out dims d (h + 1)) no_out).parcel.untaken
 
 -- Of the links out, those of other hops than h are as before, and those of hop h are open or closed
--- as before, and what stood in their parcels still stands there first.
+-- as before, and what was in their parcels still is there first.
 pub record AddsToHop (dims : List ℕ) (h : ℕ) (outs outs' : List Out) : Type 0 where
   pub count : length outs' ≡ length outs
   pub others : (o : ℕ) → hop_to dims o ≢ h → slice_index_or outs' o no_out ≡ slice_index_or outs o no_out
@@ -124,8 +124,8 @@ pub record Links : Type 0 where
   pub ins : List In
 
 -- The links after n links in, from number i on and in ascending order, had their entries passed on:
--- what a lower link passed on stands in an open parcel before what a higher one did, and a link
--- stops only against what stood there after the lower ones.
+-- what a lower link passed on is in an open parcel before what a higher one did, and a link
+-- stops only against what was there after the lower ones.
 unfoldable pub after_relay : List ℕ → ℕ → ℕ → ℕ → ℕ → Links → Links
 after_relay dims r cap zero i ls = ls
 after_relay dims r cap (suc n) i ls =

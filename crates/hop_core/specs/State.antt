@@ -116,7 +116,7 @@ after_unpull st (Some i) =
 
 -- What a push leaves: the item, with its first tag, is the last entry of the open parcel toward the
 -- rank's first stop.
--- On the grid 2 rank 0's item for rank 1 stands at the end of open parcel number 1.
+-- On the grid 2 rank 0's item for rank 1 is at the end of open parcel number 1.
 abbrev pub with_pushed : Item → ℕ → State → State
 with_pushed item to st =
     let o = coord st.dims to 1 in

@@ -1,4 +1,4 @@
-//! An open parcel on its way out of a rank's state, until it is known whether it was sent.
+//! An open parcel that is taken out of a rank's state, until it is known whether it was sent.
 
 ghost use Rattle.std.specs.Prelude.{◌≡◌, slice_set, false, None};
 ghost use Rattle.item_buffer.specs.Contents.{blank};

@@ -18,7 +18,7 @@ pub enum Phase {
 /// What became of an item that was pushed.
 #[derive(Clone, Copy, PartialEq, Eq, Debug)]
 pub enum Pushed {
-    /// It stands in the open parcel of its first link.
+    /// It is in the open parcel of its first link.
     Accepted,
     /// That parcel is full, and nothing changed.
     Full,

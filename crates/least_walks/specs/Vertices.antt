@@ -24,7 +24,7 @@ improve w v = if is_better w v.weight then record { weight = Some w; improved = 
 abbrev pub improved_at : ℕ → ℕ → List Vertex → List Vertex
 improved_at place w vs = changed_at vs place unreached_vertex (improve w)
 
--- The places of the improved vertices, ascending, of vertices of which the first stands at place k.
+-- The places of the improved vertices, ascending, of vertices of which the first is at place k.
 abbrev pub marked_from : ℕ → List Vertex → List ℕ
 marked_from k [] = []
 marked_from k (v ∷ vs) = if v.improved then k ∷ marked_from (suc k) vs else marked_from (suc k) vs
@@ -38,8 +38,8 @@ marked_places vs = marked_from 0 vs
 abbrev pub calm : Vertex → Vertex
 calm v = record { weight = v.weight; improved = false }
 
--- A weight stands in a bucket: divided by the bucket's width it gives the bucket's number.
--- with width 3, weights 6, 7 and 8 stand in bucket 2
+-- A weight is in a bucket: divided by the bucket's width it gives the bucket's number.
+-- with width 3, weights 6, 7 and 8 are in bucket 2
 abbrev pub weight_in : ℕ → ℕ → Option ℕ → Bool
 weight_in width bucket None = false
 weight_in width bucket (Some m) = m / width == bucket
@@ -48,7 +48,7 @@ abbrev pub in_bucket : ℕ → ℕ → Vertex → Bool
 in_bucket width bucket v = weight_in width bucket v.weight
 
 -- The places of the improved vertices that pass a test, ascending, of vertices of which the first
--- stands at place k.
+-- is at place k.
 abbrev pub picked_from : (Vertex → Bool) → ℕ → List Vertex → List ℕ
 picked_from test k [] = []
 picked_from test k (v ∷ vs) =

@@ -63,7 +63,7 @@ impl Table {
     }
 
     /// The edges of so many places with weights from `low` to `high`, in the order of the entries.
-    /// It is fast if the entries of each vertex stand together.
+    /// It is fast if the entries of each vertex are together.
     ///
     /// # Errors
     ///

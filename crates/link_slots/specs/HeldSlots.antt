@@ -10,7 +10,7 @@ module _ {T : Type 0} where
   abbrev pub Has : List (ℕ × T) → ℕ → T → Type 0
   Has c k p = (i : ℕ) × (get_elem? c i ≡ some (k, p))
 
-  -- No slot stands in the list twice.
+  -- No slot is in the list twice.
   abbrev pub NoTwice : List (ℕ × T) → Type 0
   NoTwice c = (i j : ℕ) (x y : ℕ × T) → get_elem? c i ≡ some x → get_elem? c j ≡ some y → x.0 ≡ y.0 → i ≡ j
 

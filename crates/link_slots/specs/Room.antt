@@ -17,7 +17,7 @@ pub record IsFullFor (o : OutLog Contents) (i : InLog Contents) : Type 0 where
 -- In a lawful bank whose sender knows that of a link, every slot of the link is taken: as many
 -- parcels as it has slots were posted and not collected.
 -- Example: with 2 slots, rank 0 posted three parcels, of which rank 1 took one before rank 0
--- looked: a fourth finds no room, since parcels 1 and 2 are on their way.
+-- looked: a fourth finds no room, since parcels 1 and 2 are in transit.
 abbrev pub NoRoomLaw : ℕ → Type 0
 NoRoomLaw cap = (shape : Shape) (s : State Contents Knowing) (l : ℕ) → (bank : IsLawful cap shape s)
     → l < links shape.dims

@@ -135,5 +135,5 @@ fn note_collect(calls: &mut Snapshot<Calls>, link: u32)
     *calls = Snapshot::of(&all);
 }
 
-// Callers stand on it: no call on a slot port takes memory.
+// Callers depend on it: no call on a slot port takes memory.
 const _: () = prove!(!<<SlotPort<'static, 1> as Port<1>>::Memory as Memory>::GROWS);

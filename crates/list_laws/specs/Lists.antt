@@ -1,7 +1,7 @@
 -- What holds at each place of a list; fronts of lists; functions that differ at one number.
 use Rattle.std.specs.Prelude.{◌≡◌, ℕ, ◌<◌, ◌==◌, List, ◌++◌, length, slice_index_or, slice_set, if◌then◌else◌}
 
--- A fact of each place, counted from 0, and of the element that stands there.
+-- A fact of each place, counted from 0, and of the element that is there.
 -- EachAt P xs is P 0 x0, P 1 x1, .. for the list x0, x1, ..
 -- The list 0, 1, 2 has EachAt (λ k x. x ≡ k).
 abbrev pub EachAt : {X : Type 0} → (ℕ → X → Type 0) → List X → Type 0

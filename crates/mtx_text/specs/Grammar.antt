@@ -171,7 +171,7 @@ cell_by read form sizes words = do
   v ← value_within (read three.2)
   Ok (record { i = place.0; j = place.1; v = v })
 
--- Whether an entry stands at row i and column j.
+-- Whether an entry is at row i and column j.
 abbrev pub has_place : ℕ → ℕ → List Triple → Bool
 has_place i j entries = list_any (λ t. t.i == i && t.j == j) entries
 

@@ -2,7 +2,7 @@
 use Rattle.std.specs.Prelude.{ℕ, ◌+◌, ◌==◌, ◌||◌, Bool, true, false, List, [], ◌∷◌, length, map, nat_lt, if◌then◌else◌}
 use Rattle.std.specs.List.{filter, onto_first, slice_split}
 
--- The pieces of a text: it is cut at LF bytes, and what stands after the last LF is a piece if
+-- The pieces of a text: it is cut at LF bytes, and what follows the last LF is a piece if
 -- it isn't empty.
 --   pieces (piece ++ LF ∷ rest) = piece ∷ pieces rest
 --   "1 2/3" has the pieces "1 2" and "3", "1 2/" has one, the empty text has none.
@@ -24,7 +24,7 @@ without_cr (b ∷ c ∷ bs) = b ∷ without_cr (c ∷ bs)
 abbrev pub lines_of : List ℕ → List (List ℕ)
 lines_of text = map without_cr (pieces text)
 
--- What stands between words.
+-- What is between words.
 --   space or tab, and no other byte
 --   VT, FF, NUL and a CR in mid-line are bytes of words.
 abbrev pub is_blank : ℕ → Bool

@@ -32,7 +32,7 @@ pub record IsEntry (m : Sparse) (t : Triple) : Type 0 where
   pub limit : nat_abs t.v ≤ 1_000_000_000_000
   pub one : m.kind ≡ Pattern → t.v ≡ pos 1
 
--- Two triples that stand at one place.
+-- Two triples that are at one place.
 pub record SamePlace (s t : Triple) : Type 0 where
   pub row : s.i ≡ t.i
   pub col : s.j ≡ t.j

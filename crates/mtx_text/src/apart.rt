@@ -2,7 +2,7 @@
 //!
 //! A walk over the entries of a row marks each column that it meets with the row's own stamp: a
 //! column that bears the stamp already came twice. If the entries stand row by row, one walk
-//! goes over them all as they stand; else the entries of each row are chained first.
+//! goes over them all in place; else the entries of each row are chained first.
 ghost use Rattle.std.specs.Prelude.{◌≡◌, ◌<◌, true, replicate, vec_len, Ok};
 ghost use Rattle.std.specs.List.{All, AllPairs};
 ghost use Rattle.mtx_text.specs.Sparse.{SamePlace};

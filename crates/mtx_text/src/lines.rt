@@ -6,7 +6,7 @@ ghost use Rattle.mtx_text.specs.code.PlainLines.{CountsAt, IsFirstKept, NoneCoun
 
 use crate::words::trimmed;
 
-/// A line that counts, and what stands behind it.
+/// A line that counts, and what follows it.
 #[derive(Clone, Copy)]
 pub(crate) struct Kept<'a> {
     /// Its number in the text, from 1.
@@ -58,7 +58,7 @@ pub(crate) fn first_kept(text: &[u8], number: u64, len: usize, next: usize) -> K
     }
 }
 
-/// What stands behind the byte at an index.
+/// What follows the byte at an index.
 #[inline(always)]
 pub(crate) fn behind(at: usize, text: &[u8]) -> &[u8]
     requires { at < length text.now }
@@ -67,7 +67,7 @@ pub(crate) fn behind(at: usize, text: &[u8]) -> &[u8]
     &text[at + 1..]
 }
 
-/// What stands behind a text's first `len` bytes.
+/// What follows a text's first `len` bytes.
 #[inline(always)]
 pub(crate) fn rest_after(len: usize, text: &[u8]) -> &[u8]
     requires { len ≤ length text.now }
@@ -98,7 +98,7 @@ pub(crate) fn cut_line(text: &[u8]) -> (&[u8], &[u8])
     (uncarried(piece), behind_first(rest))
 }
 
-/// What stands behind the first byte, and nothing if there is none.
+/// What follows the first byte, and nothing if there is none.
 fn behind_first(text: &[u8]) -> &[u8]
     ensures { result.now ≡ drop 1 text.now }
 {
@@ -108,7 +108,7 @@ fn behind_first(text: &[u8]) -> &[u8]
     }
 }
 
-/// How many bytes stand before the first LF.
+/// How many bytes come before the first LF.
 fn piece_len(text: &[u8]) -> usize
     ensures { CutsAt text.now result }
 {

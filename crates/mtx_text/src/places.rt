@@ -18,7 +18,7 @@ fn key(i: u32, j: u32) -> u64
     i as u64 * 65_536 + j as u64
 }
 
-/// Whether an entry stands at the place of `t`.
+/// Whether an entry is at the place of `t`.
 #[tactic(auto, using(crate::proofs::Keys::place_key))]
 pub(crate) fn is_taken(seen: &BTreeSet<u64>, t: Triple) -> bool
     requires { t.j < 65_536 }

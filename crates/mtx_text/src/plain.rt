@@ -17,7 +17,7 @@ const MOST_DIGITS: usize = 18;
 /// Digits of a number at most that is read at once: as many as an index has.
 const FEW_DIGITS: usize = 5;
 
-/// Bytes that a plain line has with what stands behind it, at least: so many that no look at one of
+/// Bytes that a plain line has with what follows it, at least: so many that no look at one of
 /// its first two numbers asks whether it is still within the text.
 const WINDOW: usize = 24;
 
@@ -37,7 +37,7 @@ struct Two {
     others: u64,
 }
 
-/// The first two words of a line, and what stands behind them and their spaces.
+/// The first two words of a line, and what follows them and their spaces.
 #[derive(Clone, Copy)]
 pub(crate) struct Front<'a> {
     two: Two,

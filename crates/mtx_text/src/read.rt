@@ -14,7 +14,7 @@ use std::alloc::Global;
 /// The matrix of the text that a source still has to give, or its first bad line.
 ///
 /// The source is read to its end, or until one byte past the limit was taken; then the text is
-/// parsed. What the source has left stands behind what was read, whatever the answer.
+/// parsed. What the source has left follows what was read, whatever the answer.
 ///
 /// # Errors
 ///

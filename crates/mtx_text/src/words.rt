@@ -13,7 +13,7 @@ pub(crate) struct Three<'a> {
     pub(crate) third: &'a [u8],
 }
 
-/// What stands between words.
+/// What is between words.
 #[inline(always)]
 pub(crate) fn is_blank(b: u8) -> bool
     ensures { result ≡ is_blank b }
@@ -35,7 +35,7 @@ pub(crate) fn trimmed(line: &[u8]) -> &[u8]
     &line[line.len()..]
 }
 
-/// How many bytes stand before the first blank.
+/// How many bytes come before the first blank.
 fn word_len(line: &[u8]) -> usize
     ensures { WordTo line.now result }
 {

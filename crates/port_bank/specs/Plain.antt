@@ -116,9 +116,9 @@ pub record IsBank (cap : ℕ) (b : Bank) : Type 0 where
   pub each_link : (l : ℕ) → l < links b.dims → LinkLaw cap b.slots (sent_of b l) (got_of b l)
   pub each_rank : (r : ℕ) → r < ranks b.dims → RelayLaw b.dims r (sent_of b) (got_of b)
 
--- The rings of a bank have what is on its way on each link: what was sent there is what was got,
+-- The rings of a bank have what is in transit on each link: what was sent there is what was got,
 -- and then that.
--- Example: sent [p, q, r] and got [p] leave [q, r] on their way.
+-- Example: sent [p, q, r] and got [p] leave [q, r] in transit.
 pub record HaveRings (channels : List Channel) (rings : List (List Shipped)) : Type 0 where
   pub number : length rings ≡ length channels
   pub each : (l : ℕ) → l < length channels

@@ -10,15 +10,15 @@ use Rattle.item_buffer.specs.Contents.{Contents, Shipped, as_shipped, as_arrived
 abbrev pub turned_from : {X : Type 0} → ℕ → List X → List X
 turned_from n xs = drop n xs ++ take n xs
 
--- The parcels on their way: those of the first places from place `first` on, as many as wait.
+-- The parcels in transit: those of the first places from place `first` on, as many as wait.
 -- Of a, b, c with first 2 and 2 that wait: c, a.
 abbrev pub in_transit : ℕ → ℕ → List Contents → List Shipped
 in_transit first waiting places = map as_shipped (take waiting (turned_from first places))
 
 -- What the places of a link keep, for parcels of capacity cap.
 -- begins: the place of the next collect is one of them.
--- within: no more parcels are on their way than there are places.
--- fresh: of a parcel on its way no entry is taken.
+-- within: no more parcels are in transit than there are places.
+-- fresh: of a parcel in transit no entry is taken.
 -- empty: in every other place is an empty parcel.
 -- Example: of three places with first 2 and 2 that wait, place 1 has the empty one.
 pub record IsRing (cap first waiting : ℕ) (places : List Contents) : Type 0 where

@@ -9,7 +9,7 @@ pub trait Memory {
     ghost GROWS: { Bool };
 }
 
-/// A parcel that is posted takes memory if more of its link are on their way than ever before.
+/// A parcel that is posted takes memory if more of its link are in transit than ever before.
 pub struct Growing;
 
 impl Memory for Growing {

@@ -24,7 +24,7 @@ use route_tensor::Grid;
 use std::alloc::Global;
 use std::marker::Model;
 
-/// The links of a grid, with the parcels of capacity `CAP` that are on their way on each.
+/// The links of a grid, with the parcels of capacity `CAP` that are in transit on each.
 #[derive(Drop)]
 pub struct PlainBank<const CAP: usize> {
     grid: Grid,
@@ -32,7 +32,7 @@ pub struct PlainBank<const CAP: usize> {
     slots: u32,
     /// By the number of the link.
     links: Vec<PlainLink>,
-    /// By the number of the link: the places of the parcels on their way.
+    /// By the number of the link: the places of the parcels in transit.
     rings: Vec<Ring<CAP>>,
 }
 

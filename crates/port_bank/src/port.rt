@@ -20,7 +20,7 @@ use item_buffer::Parcel;
 /// What became of a parcel that was posted.
 #[derive(Clone, Copy, PartialEq, Eq, Debug)]
 pub enum Posted {
-    /// It is on its way, and the parcel at hand is empty.
+    /// It is in transit, and the parcel at hand is empty.
     Sent,
     /// As many parcels as the link has slots were not collected yet.
     NoRoom,
@@ -111,7 +111,7 @@ pub trait Port<const CAP: usize>: Drop {
         requires law { RelayLaw (dims self.old) (rank self.old) (with_parcel (sent self.old) link (as_shipped p.old))
             (got self.old) }
 
-        // Sent: the parcel stands at the end of the link's log, and one slot was free for it.
+        // Sent: the parcel is at the end of the link's log, and one slot was free for it.
         ensures sent { result ≡ Ok Posted.Sent → sent self.new ≡ with_parcel (sent self.old) link (as_shipped p.old) }
         ensures emptied { result ≡ Ok Posted.Sent → p.new ≡ blank p.old.epoch }
         ensures room { result ≡ Ok Posted.Sent → length (sent self.old link) < freed self.new link + slots self.old }

@@ -1,4 +1,4 @@
-//! The places of a link: each has a parcel, which is on its way or empty.
+//! The places of a link: each has a parcel, which is in transit or empty.
 ghost use Rattle.std.specs.Prelude.{◌≡◌, ◌+◌, ◌<◌, ◌≤◌, ◌⊎◌, ◌++◌, [], ◌∷◌, length, IfOk, OnOk, OnErr};
 ghost use Rattle.item_buffer.specs.Capacity.{IsCap};
 ghost use Rattle.item_buffer.specs.Contents.{as_shipped, as_arrived, blank};
@@ -10,16 +10,16 @@ use std::alloc::Global;
 use std::marker::Model;
 use std::mem;
 
-/// The parcels on their way, in the order in which they were posted. Contracts see their list.
+/// The parcels in transit, in the order in which they were posted. Contracts see their list.
 ///
 /// A parcel that is posted, or collected, is exchanged for an empty one; none is copied.
 #[derive(Drop)]
 pub(crate) struct Ring<const CAP: usize> {
-    /// As many as parcels were ever on their way at once.
+    /// As many as parcels were ever in transit at once.
     places: Vec<Parcel<CAP>>,
     /// The place of the next collect. The places of the parcels after it follow, round the list.
     first: usize,
-    /// How many parcels are on their way.
+    /// How many parcels are in transit.
     waiting: usize,
 }
 
@@ -48,14 +48,14 @@ impl<const CAP: usize> Ring<CAP> {
         }
     }
 
-    /// The number of parcels on their way.
+    /// The number of parcels in transit.
     pub(crate) fn len(&self) -> usize
         ensures { result ≡ length self.now }
     {
         self.waiting
     }
 
-    /// Sends the parcel on its way, and leaves an empty one of the same epoch at hand.
+    /// Sends the parcel, and leaves an empty one of the same epoch at hand.
     ///
     /// # Errors
     /// `NoMemory` changes nothing.
@@ -88,7 +88,7 @@ impl<const CAP: usize> Ring<CAP> {
     }
 }
 
-/// Adds a place if every place has a parcel on its way. Answers the place of the next collect.
+/// Adds a place if every place has a parcel in transit. Answers the place of the next collect.
 ///
 /// # Errors
 /// `NoMemory` changes nothing.
@@ -110,7 +110,7 @@ fn make_room<const CAP: usize>(
     add_place(places, first, waiting)
 }
 
-/// Turns the places, each of which has a parcel on its way, until the next one to collect is in
+/// Turns the places, each of which has a parcel in transit, until the next one to collect is in
 /// front, and adds one behind them. It is rarely called, so it is kept out of line.
 ///
 /// # Errors

@@ -37,7 +37,7 @@ pub record IsMoment (old new now : Sides) : Type 0 where
   pub until : OnlyGrow now new
   pub order : ((l : ℕ) → now.replying l ≡ old.replying l) ⊎ ((l : ℕ) → now.asked l ≡ new.asked l)
 
--- Rank r of a grid stands between two turns, over its own lists.
+-- Rank r of a grid is between two turns, over its own lists.
 pub record StandsAt {S : Type 0} (T : Talk S) (dims : List ℕ) (r : ℕ) (start : S) (n : BiState S)
     (own : Sides) : Type 0 where
   pub same_dims : n.queries.dims ≡ dims

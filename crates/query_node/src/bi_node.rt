@@ -104,7 +104,7 @@ impl<A: Asker, const CAP: usize, const HOPS: usize> BiNode<A, CAP, HOPS> {
         ensures steps { steps.new ≡ steps.old + 1 }
 
         // Between its two advances, when the queries' port is as the turn leaves it and the
-        // replies' port as the turn found it, the rank is one that stands between two turns: so
+        // replies' port as the turn found it, the rank is one that is between two turns: so
         // what holds of those moments holds of this one.
         ensures between { (mid : BiState A) × ((start : A) → IsBiNode A.talk start self.old (P.sent queries.old)
             (P.got queries.old) (R.sent replies.old) (R.got replies.old)

@@ -17,7 +17,7 @@ pub fn replies_law<A: Asker>()
 {}
 
 /// The laws of all ranks of an exchange, over any two banks whose links keep their law. Whenever
-/// each rank stands between two turns, or between the two advances of one, what a rank heard of
+/// each rank is between two turns, or between the two advances of one, what a rank heard of
 /// another is a prefix of that one's answers to its queries, matched by order alone. Once all ranks
 /// are complete, each has heard, for each of its queries, the answer of the rank asked.
 pub fn askers_law<A: Asker>()

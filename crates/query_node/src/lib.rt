@@ -11,7 +11,7 @@
 //! | `BiNode::new` | a rank that hasn't turned |
 //! | `BiNode::turn` | one turn, which never waits: asks, advances, answers, advances, hears; `Ended` if and only if both ways are complete |
 //! | `replies_law` | the replies theorem, over any two lawful banks |
-//! | `askers_law` | what all ranks have heard, whenever each stands between turns or between a turn's two advances, and at the end |
+//! | `askers_law` | what all ranks have heard, whenever each is between turns or between a turn's two advances, and at the end |
 //! | `steps_law` | what each has got, at every step within turns |
 //!
 //! round_program's `specs/Replies` says what a rank hears, with no word on how it travels;

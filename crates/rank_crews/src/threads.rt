@@ -136,7 +136,7 @@ fn run_in<
 }
 
 /// Starts a thread for each of the first workers, as many as `threads` says. It takes them from the
-/// end, so the children stand in reverse order.
+/// end, so the children are in reverse order.
 fn start_all<
     's,
     E,
@@ -197,7 +197,7 @@ fn place<
 }
 
 /// The ranks of all workers, once the run of each is over. It takes the children from the end, so
-/// what stood in reverse order is in order.
+/// what was in reverse order is in order.
 fn take_ranks<'s, A: Seated, J: GateLog>(
     children: Vec<Child<'s, A, J>>,
     back: Vec<Assignment<A>>,

@@ -20,7 +20,7 @@ pub record BankShape : Type 0 where
   pub slots : ℕ
   pub by_slots : Bool
 
--- What a program votes, on its way; of no program there is no item.
+-- What a program votes, in transit; of no program there is no item.
 abbrev pub vote_sent : {S : Type 0} → Rules S → Option S → List Item
 vote_sent R None = []
 vote_sent R (Some s) = vote_item (R.vote s) ∷ []

@@ -19,7 +19,7 @@ use Rattle.rank_handles.specs.Codes.{code_of}
 use Rattle.rank_handles.specs.Answers.{while_working, once_begun, push_answer, pull_result}
 use Rattle.rank_handles.specs.Seated.{Seated, part}
 
--- One step for each of the first n items, with the rank that stands at the same place.
+-- One step for each of the first n items, with the rank that is at the same place.
 -- steps_of Push 2 (x, y, z) (3, 0, 1) is Push 3 x, Push 0 y.
 unfoldable pub steps_of : (ℕ → Item → Step) → ℕ → List BaleItem → List ℕ → List Step
 steps_of make zero items to = []

@@ -53,7 +53,7 @@ pub fn make_rank(alloc: Global, part: &mut Part, rank: u32) -> Result<Box<Part>,
         Answer::Good => (),
         wrong => return Err(wrong),
     }
-    // The seat of a rank is given out once, so nothing that can fail for memory stands after it.
+    // The seat of a rank is given out once, so nothing that can fail for memory comes after it.
     let Ok(mut room) = Box::new(alloc, Part::Empty) else {
         return Err(Answer::NoMemory);
     };

@@ -15,7 +15,7 @@ use convey::{Conveyor, Phase, Pushed};
 
 /// Whether every number is one of so many ranks. It doesn't end at the first that is none, so that
 /// several are compared at once: a call of many items that finds no room soon looks at the others
-/// in vain.
+/// without success.
 pub(crate) fn are_ranks(ranks: u32, to: &[u32]) -> bool
     ensures { result ≡ all_ranks ranks to.now }
 {

@@ -23,7 +23,7 @@ came_on st number = from_link (record { dims = st.dims; rank = st.rank }) number
 abbrev pub from_sender : ℕ → List Entry → List (ℕ × Item)
 from_sender sender entries = map (λ e. (sender, e.item)) entries
 
--- A sum of votes after further votes came. It stands at 2^64 - 1 once it would pass it.
+-- A sum of votes after further votes came. It saturates at 2^64 - 1.
 -- After votes of 2 and 1 the sum 4 is 7.
 abbrev pub sum_after : ℕ → List (ℕ × Item) → ℕ
 sum_after sum came = fold (λ n e. min (n + e.1.a) (2 ^ 64 - 1)) sum came

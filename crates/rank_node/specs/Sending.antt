@@ -27,6 +27,6 @@ is_voting (Votes v p) = true
 abbrev pub epoch_of : ℕ → Bool → ℕ
 epoch_of round voting = if voting then 2 * round + 1 else 2 * round
 
--- The vote of a rank whose program is spoiled makes the sum stand at its end.
+-- The vote of a rank whose program is spoiled makes the sum saturate.
 abbrev pub spoiled_vote : ℕ
 spoiled_vote = 2 ^ 64 - 1

@@ -15,7 +15,7 @@ use round_program::{Arrivals, Program};
 /// What a node has made of the items that came, besides the state of its program.
 #[derive(Clone, Copy, PartialEq, Eq, Debug)]
 pub struct Taken {
-    /// The sum of the votes that came. It stands at 2^64 - 1 once it would pass it.
+    /// The sum of the votes that came. It saturates at 2^64 - 1.
     pub sum: u64,
     /// The program found no memory: what comes for it is dropped.
     pub spoiled: bool,
@@ -99,7 +99,7 @@ fn take_unread<Q: Program, const CAP: usize, const HOPS: usize>(
     }
 }
 
-/// Sums or absorbs items that came. It is not inlined: what programs make of a batch would stand in
+/// Sums or absorbs items that came. It is not inlined: what programs make of a batch would be in
 /// each drive.
 #[inline(never)]
 pub(crate) fn take_each<Q: Program, I: Arrivals>(

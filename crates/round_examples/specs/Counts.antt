@@ -22,7 +22,7 @@ pub record IsCount (s : CountState) : Type 0 where
   pub columns : length s.counts < 2 ^ 32
   pub named : All (λ j. j < length s.counts) s.names
 
--- a column that is named, on its way to its owner
+-- a column that is named, in transit to its owner
 abbrev pub named_item : ℕ → Item
 named_item j = record { a = j; b = 1; c = 0 }
 

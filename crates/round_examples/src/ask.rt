@@ -148,7 +148,7 @@ fn note(queries: &mut Vec<Vec<Item>>, from: usize, item: Item) -> Result<(), NoM
     queries[from].push(item).map_err(|_| NoMemory)
 }
 
-/// Takes a value in, if there is a place for it and no greater value stands there.
+/// Takes a value in, if there is a place for it and no greater value is there.
 fn raise(answers: &mut Vec<u64>, at: u64, value: u64)
     ensures { answers.new.items ≡ changed_at answers.old.items at 0 (λ v. max v value) }
 {

@@ -31,7 +31,7 @@ impl Model for Lookup {
 }
 
 impl Lookup {
-    /// A rank that asks `queries`, whose replies will stand in `heard`.
+    /// A rank that asks `queries`, whose replies will be in `heard`.
     pub fn new(
         rank: u32,
         ranks: u32,

@@ -42,7 +42,7 @@ absorb_upto R s lists (suc n) = absorb_all R (absorb_upto R s lists n) n (lists 
 abbrev pub absorbed_round : {S : Type 0} → Rules S → List S → List S
 absorbed_round R ss = map (λ s. absorb_upto R s (emitted_by R ss (R.rank s)) (length ss)) ss
 
--- The sum of the programs' votes. It stands at 2^64 - 1 once it would pass it.
+-- The sum of the programs' votes. It saturates at 2^64 - 1.
 -- Programs that vote 0, 2 and 1 have the sum 3.
 abbrev pub vote_sum : {S : Type 0} → Rules S → List S → ℕ
 vote_sum R ss = min (sum_by R.vote ss) (2 ^ 64 - 1)

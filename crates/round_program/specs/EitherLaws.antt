@@ -110,7 +110,7 @@ either_laws A B la lb =
       most_below = most_below A B la lb;
     }
 
--- The left program is a case of either: 0 stands before its shape.
+-- The left program is a case of either: 0 comes before its shape.
 pub left_is_case : {S T : Type 0} (A : Rules S) (B : Rules T) → Injects A (either_rules A B) Left (λ l. 0 ∷ l)
 left_is_case A B =
     record {
@@ -128,7 +128,7 @@ left_is_case A B =
       ended = λ s votes. refl;
     }
 
--- The right program is a case of either: 1 stands before its shape.
+-- The right program is a case of either: 1 comes before its shape.
 pub right_is_case : {S T : Type 0} (A : Rules S) (B : Rules T) → Injects B (either_rules A B) Right (λ l. 1 ∷ l)
 right_is_case A B =
     record {

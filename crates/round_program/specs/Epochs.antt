@@ -16,11 +16,11 @@ pub record PairLists : Type 0 where
   -- pulled e f: what this rank pulled from f in epoch e
   pub pulled : ℕ → ℕ → List Item
 
--- A vote on its way: the item (vote,0,0).
+-- A vote in transit: the item (vote,0,0).
 abbrev pub vote_item : ℕ → Item
 vote_item v = record { a = v; b = 0; c = 0 }
 
--- The sum of the votes that a rank pulled in round m. It stands at 2^64 - 1 once it would pass it.
+-- The sum of the votes that a rank pulled in round m. It saturates at 2^64 - 1.
 -- Votes 0, 2 and 1 are heard as 3; with a spoiled vote among them it is 2^64 - 1.
 abbrev pub heard : ℕ → PairLists → ℕ → ℕ
 heard p l m = min (total p (λ f. sum_by (λ x. x.a) (l.pulled (2 * m + 1) f))) (2 ^ 64 - 1)

@@ -1,4 +1,4 @@
-//! What holds of every program that meets the laws: the theorems that a drive stands on.
+//! What holds of every program that meets the laws: the theorems that a drive depends on.
 
 ghost use Rattle.round_program.specs.Orders.{OneMorePull, EveryOrder, EveryOrderIsCanonical};
 ghost use Rattle.std.specs.Prelude.{ℕ, List, ◌∷◌};

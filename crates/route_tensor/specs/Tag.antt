@@ -56,14 +56,14 @@ rank_of (n ∷ ns) (c ∷ cs) = c + n * rank_of ns cs
 abbrev pub tag_rank : List ℕ → Tag → ℕ
 tag_rank dims tag = rank_of dims (tag.d1 ∷ tag.d2 ∷ tag.d3 ∷ [])
 
--- The sender of an entry on the link (h,a,b): its coordinates below h stand in the tag, the others
+-- The sender of an entry on the link (h,a,b): its coordinates below h are in the tag, the others
 -- are a's.
 -- In the grid 2x2x2, with the tag (1,0,1) on (2,0,2), it is 1.
 abbrev pub sender_of : List ℕ → Tag → ℕ → ℕ → ℕ
 sender_of dims tag h a = place dims a (tag_rank dims tag) (h - 1)
 
 -- The destination of an entry on the link (h,a,b): its coordinates up to h are b's, the others
--- stand in the tag.
+-- are in the tag.
 -- In the grid 2x2x2, with the tag (1,0,1) on (2,0,2), it is 6.
 abbrev pub destination_of : List ℕ → Tag → ℕ → ℕ → ℕ
 destination_of dims tag h b = place dims (tag_rank dims tag) b h

@@ -30,7 +30,7 @@ column_owner ranks e = e.1.j % ranks
 abbrev pub own_entries : ℕ → ℕ → List Triple → List Numbered
 own_entries ranks rank entries = dealt (entry_owner ranks) rank (with_numbers entries)
 
--- How many places a rank keeps for its rows or columns: number x stands at x div ranks.
+-- How many places a rank keeps for its rows or columns: number x is at x div ranks.
 -- 7 columns on 2 ranks: 4 places on each.
 abbrev pub places_for : ℕ → ℕ → ℕ
 places_for ranks count = count / ranks + 1

@@ -4,7 +4,7 @@ use Rattle.std.specs.List.{enumerate_from}
 use Rattle.bale_items.specs.declared.triple.Triple.{Triple}
 use Rattle.sparse_rows.specs.Deals.{hands}
 
--- The parts of n ranks: entry number e stands in the part of rank e mod n, in order.
+-- The parts of n ranks: entry number e is in the part of rank e mod n, in order.
 -- parts_of n entries = the hands of (0, entry 0), (1, entry 1), .. with the owner e mod n
 -- 4 entries on 2 ranks: entries 0 and 2, and entries 1 and 3, each with its number.
 abbrev pub parts_of : ℕ → List Triple → List (List (ℕ × Triple))

@@ -3,7 +3,7 @@
 //!
 //! | Call | For | Answer |
 //! |---|---|---|
-//! | [`split`] | a matrix dealt out to ranks | entry number `e` stands in the part of rank `e mod P` |
+//! | [`split`] | a matrix dealt out to ranks | entry number `e` is in the part of rank `e mod P` |
 //! | [`Parts::len`], [`Parts::entry`], [`Parts::get`] | a rank's part | its entries with their numbers |
 //! | [`join`] | the cells of all ranks | the matrix that has them, by row and then column |
 //! | [`is_permutation`] | a list of new numbers | whether it has each number below `n` once |

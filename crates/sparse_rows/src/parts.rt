@@ -30,7 +30,7 @@ impl<'a> Model for Parts<'a> {
     ghost invariant = { λ p. (1 ≤ p.ranks) × (p.ranks ≤ 64) × (length p.entries.now ≤ 524_288) };
 }
 
-/// The parts of a matrix on `ranks` ranks, from 1 to 64: entry number `e` stands in the part of
+/// The parts of a matrix on `ranks` ranks, from 1 to 64: entry number `e` is in the part of
 /// rank `e mod ranks`, in order.
 ///
 /// # Errors

@@ -1,6 +1,6 @@
 //! Texts and what they are made of: sources and sinks, and Matrix Market texts with their matrices
 //! or bad lines, written, made of cells and of seeds.
-//! It has tests alone: they stand above the crates that they run, so that proving one does not
+//! It has tests alone: they are above the crates that they run, so that proving one does not
 //! prove the others again.
 #![tactic(auto)]
 

@@ -20,7 +20,7 @@ const SENT: [(u32, Item, u32); 4] = [
     (3, Item { a: 2, b: 1, c: 0 }, 2),
 ];
 
-/// More sweeps than the items need on their way.
+/// More sweeps than the items need to arrive.
 const SWEEPS: u32 = 16;
 
 /// An item that was pulled: the epoch, its sender, itself, and the rank that pulled it.

@@ -1,6 +1,6 @@
 //! Parcels, routes and links by hand, and conveyors and exstacks by worked calls: links and
 //! conveyors over the plain bank and over slots.
-//! It has tests alone: they stand above the crates that they run, so that proving one does not
+//! It has tests alone: they are above the crates that they run, so that proving one does not
 //! prove the other again.
 #![tactic(auto)]
 

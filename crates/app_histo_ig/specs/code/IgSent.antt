@@ -14,7 +14,7 @@ own_entry e = record { number = e.0; column = e.1.j; value = twos_complement e.1
 abbrev pub number_and_column : Own → ℕ × ℕ
 number_and_column o = (o.number, o.column)
 
--- round 0, or the round of sums alone: its value, on its way to its column's owner
+-- round 0, or the round of sums alone: its value, in transit to its column's owner
 abbrev pub to_add : ℕ → Own → ℕ × Item
 to_add ranks o = (o.column % ranks, record { a = o.column; b = o.value; c = 0 })
 

@@ -5,7 +5,7 @@ use Rattle.std.proofs.lemmas.List.{get_or_past, length-set, set_comm}
 use Rattle.round_program.specs.Talks.{TalkLaws}
 use Rattle.app_histo_ig.specs.Asking.{ig_talk}
 
--- what stands at a place is a word, and so is the 0 past the end
+-- what is at a place is a word, and so is the 0 past the end
 pub is_word_at : (sums : List ℕ) (i : ℕ) → All (λ v. v < 2 ^ 64) sums → get_or sums i 0 < 2 ^ 64
 is_word_at sums i h = elim (cases_lt i (length sums)) [
   | inl low ↦ h i 0 low

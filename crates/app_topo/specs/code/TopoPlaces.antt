@@ -3,7 +3,7 @@ use Rattle.std.specs.Prelude.{ℕ, ◌≡◌, ◌<◌, ◌≤◌, ◌/◌, ◌^�
 use Rattle.bale_items.specs.declared.triple.Triple.{Triple}
 use Rattle.sparse_rows.specs.Owners.{places_for}
 
--- a row's number stands among the numbers of a rank
+-- a row's number is among the numbers of a rank
 -- small: the row fits into 32 bits
 pub record IsPlaced (ranks row : ℕ) (numbers : List ℕ) : Type 0 where
   pub some : 0 < ranks

@@ -141,8 +141,8 @@ fn find_parcel<const CAP: usize>(
 
 /// Collects the link's next parcel for the empty one at hand, if one is found.
 ///
-/// Most collects in vain are of a link that isn't marked and for which no hear is due: that is told
-/// if the call stands, by what the seat counts, and the rest is a call.
+/// Most collects that find nothing are of a link that isn't marked and for which no hear is due.
+/// The seat's counts show that here; anything else is a call.
 #[inline]
 pub(crate) fn collect_on<const CAP: usize>(
     top: &Top<CAP>,

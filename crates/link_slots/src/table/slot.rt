@@ -1,4 +1,4 @@
-//! A slot of the bank's table: the place of one parcel on its way.
+//! A slot of the bank's table: the place of one parcel in transit.
 ghost use Rattle.std.specs.Prelude.{◌≡◌, ◌<◌, IfOk};
 ghost use Rattle.item_buffer.specs.Capacity.{IsCap};
 ghost use Rattle.item_buffer.specs.Contents.{blank};

@@ -14,7 +14,7 @@ pub record WordTo (line : List ℕ) (k : ℕ) : Type 0 where
   pub before : (j : ℕ) → j < k → is_blank (get_or line j 0) ≡ false
   pub found : k < length line → is_blank (get_or line k 0) ≡ true
 
--- A text's first line, and what stands behind it.
+-- A text's first line, and what follows it.
 pub record CutsLine (text line rest : List ℕ) : Type 0 where
   pub lines : lines_of text ≡ line ∷ lines_of rest
   pub shorter : length rest < length text

@@ -7,7 +7,7 @@ use Rattle.std.specs.Char.{is_ascii_digit}
 abbrev pub is_no_digit : ℕ → Bool
 is_no_digit b = not (is_ascii_digit b)
 
--- What stands in a word above the bits of sixteen bytes: the topmost bit is set, so that no word is
+-- What is in a word above the bits of sixteen bytes: the topmost bit is set, so that no word is
 -- 0.
 abbrev pub above : List Bool
 above = replicate 47 false ++ true ∷ []

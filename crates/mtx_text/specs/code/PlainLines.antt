@@ -18,7 +18,7 @@ use Rattle.mtx_text.specs.Grammar.{fields_of}
 use Rattle.mtx_text.specs.Integers.{integer_of}
 use Rattle.mtx_text.specs.code.Capped.{capped, read_three}
 
--- The text's first line is its first `len` bytes, and the others are those of what stands behind
+-- The text's first line is its first `len` bytes, and the others are those of what follows
 -- its first `next` bytes.
 --   of "1 2/3/" with 3 and 4, or with CR before its first LF with 3 and 5: the line "1 2", and then
 --   the lines of "3/"
@@ -33,7 +33,7 @@ pub record CountsAt (text : List ℕ) (len next : ℕ) : Type 0 where
   pub counts : is_skipped (words_of (take len text)) ≡ false
 
 -- The first line that counts of a text whose first line has a number, as it was cut off, with what
--- stands behind it.
+-- follows it.
 -- kept: it is the first of the lines that count, and those behind it are the others
 -- left, room, shorter: as many lines, and at most as many bytes, are left as stood behind it
 --   of "%/3 3/1/" from line 2: line 3, "3 3", and "1/"
@@ -122,7 +122,7 @@ pub record ReadsOne (text : List ℕ) (old new : Digits) : Type 0 where
   pub more : new.len ≡ old.len + 1
   pub read : IsReadDigits text new
 
--- Two runs of few digits, each with another byte behind it, stood in front of `rest`; `others` are
+-- Two runs of few digits, each with another byte behind it, precede `rest`; `others` are
 -- the bits of its first bytes that are no digits, as far as sixteen bytes of the text go.
 --   of "1 22 7/" the rest is "7/", whose second byte is no digit
 pub record IsFew (two : Two) (rest : List ℕ) : Type 0 where

@@ -12,7 +12,7 @@ use Rattle.port_bank.specs.declared.port.Collected.{Collected}
 use Rattle.port_bank.specs.declared.port.Collected.TheVariants.{Got, Nothing}
 use Rattle.port_bank.specs.Plain.{Bank, Channel, channel_after_post, channel_after_refusal, channel_after_look, channel_after_collect, sent_of, got_of}
 
--- A post: p stands at the link's end if there was room below the number of slots. Each look for
+-- A post: p is at the link's end if there was room below the number of slots. Each look for
 -- room is counted.
 pub record PostedOn (slots : ℕ) (old new : Channel) (p : Shipped) (r : Result Posted NoMemory) : Type 0 where
   pub sent : r ≡ Ok Sent → new ≡ channel_after_post old p

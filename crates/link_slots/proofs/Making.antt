@@ -31,7 +31,7 @@ use Rattle.link_slots.proofs.Wires.{wired}
 
 not_slots : (n : ℕ) → 8 < n → is_slot_count n ≡ false
 not_slots n h = let a = ne_eqb 1 n (λ e. omega arith) in let b = ne_eqb 2 n (λ e. omega arith) in let c = ne_eqb 4 n (λ e. omega arith) in let d = ne_eqb 8 n (λ e. omega arith) in
-    λ k. ((a k) || (b k) || (c k) || (d k) || false)
+    λ k. ((a k) || ((b k) || ((c k) || ((d k) || false))))
 
 pub slots_range : (n : ℕ) → IsSlots n → (0 < n) × (n ≤ 8)
 unfolding IsSlots

@@ -1,4 +1,4 @@
--- One of the two ways of all ranks: their conveyors over one bank.
+-- One direction of an exchange, queries or replies: the conveyors of all ranks over one bank.
 use Rattle.std.specs.Prelude.{◌≡◌, ℕ, ◌+◌, ◌<◌, ◌≤◌, Bool, false, List, [], ◌++◌, length, Option, Some, None}
 use Rattle.std.specs.Prelude.{slice_get}
 use Rattle.item_buffer.specs.Contents.{Shipped}
@@ -13,7 +13,7 @@ use Rattle.hop_core.specs.State.{State}
 use Rattle.convey.specs.Buffers.{in_of}
 use Rattle.rank_group.specs.BankLogs.{parcel_entries, AreBankLogs, OwnLogsGrow, moved}
 
--- Of a rank that there is, its conveyor.
+-- A rank's conveyor; for a rank that doesn't exist, an empty one.
 abbrev pub conveyor_in : Option State → State
 conveyor_in None =
     record {
@@ -31,7 +31,7 @@ conveyor_in None =
     }
 conveyor_in (Some c) = c
 
--- How many entries lie in the inbox of a link.
+-- How many entries are in the inbox of a link.
 abbrev pub bi_inbox : List ℕ → List State → ℕ → ℕ
 bi_inbox dims cs l = length (in_of (conveyor_in (slice_get cs (reader_at dims l))) l).parcel.untaken
 
@@ -39,7 +39,7 @@ bi_inbox dims cs l = length (in_of (conveyor_in (slice_get cs (reader_at dims l)
 abbrev pub bi_moves : List ℕ → List State → Logs → Logs → ℕ
 bi_moves dims cs sent got = moved dims sent got (bi_inbox dims cs)
 
--- All conveyors over a bank with these logs.
+-- The conveyors of all ranks, over a bank with these logs.
 pub record AreConveyorsOver (dims : List ℕ) (cap slots : ℕ) (steady : Bool) (cs : List State) (sent got : Logs) : Type 0 where
   pub lawful : AreBankLogs dims cap slots sent got
   pub all : length cs ≡ ranks dims
@@ -47,7 +47,7 @@ pub record AreConveyorsOver (dims : List ℕ) (cap slots : ℕ) (steady : Bool) 
   pub shape : (l : ℕ) → IsConveyorShape steady cap (sent l)
   pub inboxes : (l : ℕ) → l < links dims → bi_inbox dims cs l ≤ length (parcel_entries (got l))
 
--- What the turn of rank r leaves of its conveyor.
+-- What a turn of rank r does to its conveyor in this direction.
 pub record AfterBiAdvance (dims : List ℕ) (cap r : ℕ) (c c' : State) (sent got sent' got' : Logs) : Type 0 where
   pub own : OwnLogsGrow dims r sent got sent' got'
   pub steady : c'.steady ≡ c.steady

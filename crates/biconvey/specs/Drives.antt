@@ -1,4 +1,4 @@
--- An exchange of queries and replies by all ranks, as it begins and ends.
+-- An exchange of queries and replies by all ranks: its start and its result.
 use Rattle.std.specs.Prelude.{◌≡◌, ℕ, ◌<◌, Bool, List, [], length, map, Option, Some, None, slice_get}
 use Rattle.bale_items.specs.declared.item.Item.{Item}
 use Rattle.route_tensor.specs.Grid.{ranks}
@@ -18,8 +18,7 @@ pub record AreAskers {S : Type 0} (T : Talk S) (p : ℕ) (askers : List S) : Typ
   pub size : length askers ≡ p
   pub each : (r : ℕ) (s : S) → slice_get askers r ≡ Some s → (T.rank s ≡ r) × (T.ranks s ≡ p)
 
--- The queries of the pair (s,d), and the replies of (d,s), of some askers; none if there is no
--- such rank.
+-- The queries of the pair (s,d), and the replies of (d,s); none if there is no such rank.
 abbrev pub queries_of : {S : Type 0} → Talk S → Option S → ℕ → List Item
 queries_of T None d = []
 queries_of T (Some s) d = queries_to T s d
@@ -34,15 +33,16 @@ queries_by T askers s d = queries_of T (slice_get askers s) d
 abbrev pub replies_by : {S : Type 0} → Talk S → List S → ℕ → ℕ → List Item
 replies_by T askers d s = answers_of T (slice_get askers d) s (queries_by T askers s d)
 
--- A closed round tells one way of an exchange, in which each rank s had some items for each rank d.
--- What holds of every closed round is not said again: ClosedRound's ranks and epochs tell it
+-- A transcript records one direction of an exchange, in which rank s sends rank d the items `items
+-- s d`.
+-- What holds of every transcript isn't repeated here: see `ClosedRound::ranks` and `epochs`
 -- (IsRound).
--- bank: it was made as asked.
--- ended, by_last: each link ended one epoch, and nothing came after it. collected: all parcels
--- were.
--- pushed: each rank pushed toward each what it had for it. all_came: each pulled what was pushed
--- toward it.
--- shape: each parcel is filled as conveyors fill it, steady or not.
+-- bank: the bank had the given shape.
+-- ended, by_last: each link ended one epoch, and nothing followed it. collected: every parcel was
+-- collected.
+-- pushed_all: each rank pushed toward each rank what it had for it. all_came: each rank pulled all
+-- that was pushed toward it.
+-- shape: each parcel was filled as conveyors fill it, steady or not.
 pub record RecordsOneWay (made : BankShape) (steady : Bool) (items : ℕ → ℕ → List Item) (round : Round) : Type 0 where
   pub bank : record { dims = round.dims; cap = round.cap; slots = round.slots; by_slots = round.by_slots } ≡ made
   pub ended : (l : ℕ) → l < links round.dims → lasts (logs_of round.sent l) ≡ 1
@@ -52,14 +52,14 @@ pub record RecordsOneWay (made : BankShape) (steady : Bool) (items : ℕ → ℕ
   pub all_came : (e s d : ℕ) → s < ranks round.dims → d < ranks round.dims → pulled_items round e d s ≡ pushed_items round e s d
   pub shape : (l : ℕ) → l < links round.dims → IsConveyorShape steady round.cap (logs_of round.sent l)
 
--- Two closed rounds tell both ways.
+-- Two transcripts record both directions.
 pub record RecordsExchange {S : Type 0} (T : Talk S) (askers : List S) (made : BankShape) (steady : Bool)
     (queries replies : Round) : Type 0 where
   pub asking : RecordsOneWay made steady (queries_by T askers) queries
   pub replying : RecordsOneWay made steady (replies_by T askers) replies
 
--- A rank that hasn't turned, and may push: on its ports nothing was sent or got, and nothing is
--- unread.
+-- A rank before its first turn, which may push: nothing was sent or collected on its ports, and
+-- nothing is unread.
 pub record IsFreshBiRank {S : Type 0} (T : Talk S) (dims : List ℕ) (steady : Bool) (r : ℕ) (n : BiState S) : Type 0 where
   pub same_dims : n.queries.dims ≡ dims
   pub same_rank : n.queries.rank ≡ r
@@ -68,7 +68,7 @@ pub record IsFreshBiRank {S : Type 0} (T : Talk S) (dims : List ℕ) (steady : B
   pub node : IsBiNode T n.asker n (λ l. []) (λ l. []) (λ l. []) (λ l. [])
   pub unread : (l : ℕ) → ((in_of n.queries l).parcel.untaken ≡ []) × ((in_of n.replies l).parcel.untaken ≡ [])
 
--- Ranks that haven't turned, one for each asker, in order.
+-- Ranks before their first turn, one for each asker, in order.
 abbrev pub askers_of : {S : Type 0} → List (BiState S) → List S
 askers_of ns = map (λ n. n.asker) ns
 

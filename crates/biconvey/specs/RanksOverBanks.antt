@@ -1,4 +1,4 @@
--- All ranks over two plain banks, and what a sweep over them leaves.
+-- All ranks over two plain banks, and what a sweep over them does.
 use Rattle.std.specs.Prelude.{◌≡◌, ℕ, ◌+◌, ◌*◌, ◌<◌, ◌≤◌, ◌&&◌, Bool, List, length, map, Some, slice_get}
 use Rattle.std.specs.List.{sum_by}
 use Rattle.route_tensor.specs.Grid.{ranks}
@@ -13,11 +13,11 @@ use Rattle.query_node.specs.Still.{Known, IsStuckBoth}
 use Rattle.query_node.specs.Ranks.{sides_at, HasBiRank}
 use Rattle.biconvey.specs.ConveyorsOverBank.{bi_moves, AreConveyorsOver, AfterBiAdvance}
 
--- The lists of a plain bank of queries and one of replies.
+-- The logs of a plain bank of queries and of one of replies.
 abbrev pub sides_of : Bank → Bank → Sides
 sides_of q r = record { asking = sent_of q; asked = got_of q; replying = sent_of r; replied = got_of r }
 
--- Two banks of one grid, capacity and number of slots.
+-- Two banks of the same grid, capacity and number of slots.
 pub record AreBanks (cap : ℕ) (dims : List ℕ) (slots : ℕ) (q r : Bank) : Type 0 where
   pub queries : IsBank cap q
   pub replies : IsBank cap r
@@ -26,7 +26,7 @@ pub record AreBanks (cap : ℕ) (dims : List ℕ) (slots : ℕ) (q r : Bank) : T
   pub queries_slots : q.slots ≡ slots
   pub replies_slots : r.slots ≡ slots
 
--- What the ports of rank r know of its links.
+-- What is true of the links of rank r, by the logs of all ranks.
 abbrev pub known_at : List ℕ → ℕ → ℕ → Sides → Known
 known_at dims slots r s = record {
   crowded = crowded_in dims slots r s.asking s.asked;
@@ -35,11 +35,11 @@ known_at dims slots r s = record {
   replies_idle = idle_in dims r s.replying s.replied;
 }
 
--- Whether both ways of a rank are complete.
+-- Whether a rank's queries and replies are both complete.
 abbrev pub is_over : {S : Type 0} → BiState S → Bool
 is_over n = is_complete n.queries.phase && is_complete n.replies.phase
 
--- What the turn of rank r leaves.
+-- What a turn of rank r does.
 pub record AfterBiRank {S : Type 0} (T : Talk S) (dims : List ℕ) (cap slots r : ℕ) (n n' : BiState S)
     (s s' : Sides) : Type 0 where
   pub queries : AfterBiAdvance dims cap r n.queries n'.queries s.asking s.asked s'.asking s'.asked
@@ -48,7 +48,7 @@ pub record AfterBiRank {S : Type 0} (T : Talk S) (dims : List ℕ) (cap slots r 
   pub stuck : (start : S) → HasBiRank T dims r start n s → s' ≡ s
       → IsStuckBoth n n' (sides_at dims r s) (sides_at dims r s') (known_at dims slots r s')
 
--- A rank at rest: its turn moved no parcel, and no entry out of an inbox.
+-- A rank is blocked: its last turn moved no parcel, and took no entry out of an inbox.
 pub record IsBlockedBiRank {S : Type 0} (T : Talk S) (dims : List ℕ) (slots r : ℕ) (n : BiState S) (s : Sides) : Type 0 where
   pub before : BiState S
   pub start : S
@@ -68,19 +68,19 @@ pub record BiRanksOnBanks {S : Type 0} (T : Talk S) (dims : List ℕ) (cap slots
   pub some_cap : 0 < cap
   pub each : (r : ℕ) (n : BiState S) → slice_get ns r ≡ Some n → HasBiRank T dims r (starts r) n s
 
--- Between two states of the banks no link of either way got more parcels than there were turns.
+-- Between two moments no link carried more parcels than there were turns.
 abbrev pub PostedWithin : List ℕ → Sides → ℕ → Sides → ℕ → Type 0
 PostedWithin dims s steps s' steps' = (l : ℕ) → l < links dims
     → (length (s'.asking l) + steps ≤ length (s.asking l) + steps')
     × (length (s'.replying l) + steps ≤ length (s.replying l) + steps')
 
--- What moved on both ways.
+-- How much has moved in both directions.
 abbrev pub all_moves : {S : Type 0} → List ℕ → List (BiState S) → Sides → ℕ
 all_moves dims ns s =
     bi_moves dims (map (λ n. n.queries) ns) s.asking s.asked + bi_moves dims (map (λ n. n.replies) ns) s.replying s.replied
 
--- What the turns of the first i ranks of an order leave of all ranks.
--- rests: if nothing moved, each rank that was turned is at rest.
+-- What the turns of the first i ranks of a sweep do to all ranks.
+-- rests: if nothing moved, each rank that was turned is blocked.
 pub record AfterSomeBiTurns {S : Type 0} (T : Talk S) (dims : List ℕ) (cap slots : ℕ) (steady : Bool) (starts : ℕ → S)
     (order : List ℕ) (i : ℕ) (ns0 : List (BiState S)) (s0 : Sides) (ns : List (BiState S)) (s : Sides) : Type 0 where
   pub world : BiRanksOnBanks T dims cap slots steady starts ns s
@@ -92,8 +92,9 @@ pub record AfterSomeBiTurns {S : Type 0} (T : Talk S) (dims : List ℕ) (cap slo
 abbrev pub queries_in : {S : Type 0} → Talk S → List (BiState S) → ℕ
 queries_in T ns = sum_by (λ n. length (T.queries n.asker)) ns
 
--- How many turns an exchange of so many queries takes at most: each sweep but the last moves
--- something on one of the ways, and a parcel or an entry moves at most so often.
+-- An upper bound on the turns of an exchange of this many queries. Each sweep but the last moves
+-- something in one of the directions, and a parcel or an entry moves only a bounded number of
+-- times.
 -- For two ranks in one hop and three queries it is 2 * 2 * (3 * 4 + 2 * 4 + 1) = 84.
 abbrev pub bi_turns_of : List ℕ → ℕ → ℕ
 bi_turns_of dims queries = 2 * (ranks dims * (queries * (3 * length dims + 1) + 2 * links dims + 1))

@@ -1,4 +1,4 @@
--- Ranks that sit at two slot banks, one of queries and one of replies.
+-- Ranks that run on threads, each with a seat at two slot banks: one of queries, one of replies.
 use Rattle.std.specs.Prelude.{◌≡◌, ℕ, ◌<◌, ◌≤◌, Bool, true, List, slice_get, Some}
 use Rattle.port_bank.specs.Shapes.{IsConveyorShape}
 use Rattle.link_slots.specs.SeatView.{Identity, Manning, posted_on, collected_from}
@@ -7,26 +7,26 @@ use Rattle.rank_group.specs.TurnNotes.{HasSame}
 use Rattle.query_node.specs.States.{BiState, IsBiNode}
 use Rattle.biconvey.specs.RanksOverBanks.{is_over}
 
--- A rank, its seat at the bank of queries and its seat at that of replies, and how many turns it
--- made.
+-- A rank, its seat at the bank of queries, its seat at the bank of replies, and the number of turns
+-- that it has made.
 pub record BiSeatedState (S : Type 0) : Type 0 where
   pub node : BiState S
   pub queries : Manning
   pub replies : Manning
   pub turns : ℕ
 
--- the bank of a seat
+-- The bank that a seat belongs to.
 abbrev pub bank_at : Manning → Identity
 bank_at seat = record { id = seat.id; shape = seat.shape }
 
--- The seat's rank and its bank's grid, of a conveyor at a rank of a grid.
+-- A conveyor's rank and grid are those of its seat.
 pub record IsSeatOf (rank : ℕ) (dims : List ℕ) (seat : Manning) : Type 0 where
   pub same_dims : dims ≡ seat.shape.dims
   pub same_rank : rank ≡ seat.rank
 
--- By its seats' lists it is a rank of an exchange, which began in the state `start`; its parcels
--- are filled as conveyors fill them.
--- some: if both its ways are complete it was turned.
+-- By the logs of its own seats, a rank takes part in some exchange, which it began in the state
+-- `start`; its parcels are filled as conveyors fill them.
+-- some: if its queries and its replies are both complete, it was turned.
 pub record IsBiRankAtSeats {S : Type 0} (T : Talk S) (cap : ℕ) (steady : Bool) (start : S) (x : BiSeatedState S) : Type 0 where
   pub queries : IsSeatOf x.node.queries.rank x.node.queries.dims x.queries
   pub replies : IsSeatOf x.node.replies.rank x.node.replies.dims x.replies
@@ -37,7 +37,7 @@ pub record IsBiRankAtSeats {S : Type 0} (T : Talk S) (cap : ℕ) (steady : Bool)
   pub replies_shape : (l : ℕ) → IsConveyorShape steady cap (posted_on x.replies l)
   pub some : is_over x.node ≡ true → 0 < x.turns
 
--- The same, of some exchange.
+-- The same, for some `start` and `steady`.
 pub record HasSomeBiRun {S : Type 0} (T : Talk S) (cap : ℕ) (x : BiSeatedState S) : Type 0 where
   pub steady : Bool
   pub start : S
@@ -48,9 +48,10 @@ pub record SameSeat (old new : Manning) : Type 0 where
   pub bank : bank_at new ≡ bank_at old
   pub number : new.rank ≡ old.rank
 
--- Turns took a rank from x to y: it sits where it sat, and is still on the way of its exchange.
--- heard: `notified` holds of each of them, by the rank's number and its own, counted from 0 over the
--- whole exchange.
+-- What some turns of a rank do, from x to y: it keeps its seats, and still takes part in the
+-- exchange.
+-- heard: the gate was notified of each of these turns, by the rank's number and the turn's, counted
+-- from 0 over the whole exchange.
 pub record TookBiTurns {S : Type 0} (T : Talk S) (cap : ℕ) (notified : ℕ → ℕ → Bool) (x y : BiSeatedState S) : Type 0 where
   pub queries : SameSeat x.queries y.queries
   pub replies : SameSeat x.replies y.replies
@@ -58,7 +59,7 @@ pub record TookBiTurns {S : Type 0} (T : Talk S) (cap : ℕ) (notified : ℕ →
   pub heard : (n : ℕ) → x.turns ≤ n → n < y.turns → notified x.queries.rank n ≡ true
   pub kept : (steady : Bool) (start : S) → IsBiRankAtSeats T cap steady start x → IsBiRankAtSeats T cap steady start y
 
--- A rank that hasn't turned sits at the banks q and p with the number r.
+-- A rank before its first turn, with seats of number r at the banks q and p.
 pub record IsSeatedBiRank {S : Type 0} (T : Talk S) (cap : ℕ) (steady : Bool) (q p : Identity) (r : ℕ)
     (x : BiSeatedState S) : Type 0 where
   pub queries_bank : bank_at x.queries ≡ q
@@ -67,13 +68,13 @@ pub record IsSeatedBiRank {S : Type 0} (T : Talk S) (cap : ℕ) (steady : Bool) 
   pub none : x.turns ≡ 0
   pub way : IsBiRankAtSeats T cap steady x.node.asker x
 
--- Ranks that haven't turned sit at these banks in order.
+-- Ranks before their first turn, with seats at these banks in order.
 abbrev pub AreSeatedBiRanks : {S : Type 0} → Talk S → ℕ → Bool → Identity → Identity → List (BiSeatedState S) → Type 0
 AreSeatedBiRanks {S} T cap steady q p xs = (r : ℕ) (x : BiSeatedState S) → slice_get xs r ≡ Some x
     → IsSeatedBiRank T cap steady q p r x
 
--- Turns from x to y made no progress: no parcel of queries or of replies was posted or collected,
--- no query was pushed, and the ways were not completed.
+-- Turns from x to y made no progress: no parcel of queries or replies was posted or collected, no
+-- query was pushed, and neither direction was completed.
 pub record AskerMadeNoProgress {S : Type 0} (x y : BiSeatedState S) : Type 0 where
   pub queries : HasSame x.queries y.queries
   pub replies : HasSame x.replies y.replies

@@ -1,4 +1,4 @@
--- Turns of all ranks of an exchange of queries and replies on one thread, one after the other.
+-- A run of an exchange of queries and replies on one thread, turn by turn.
 use Rattle.std.specs.Prelude.{◌≡◌, ◌≢◌, ℕ, ◌+◌, Bool, List, length, slice_get, Some}
 use Rattle.port_bank.specs.Plain.{empty_bank}
 use Rattle.rank_group.specs.Turns.{InSweeps}
@@ -7,14 +7,13 @@ use Rattle.query_node.specs.States.{BiState, Sides}
 use Rattle.biconvey.specs.Drives.{AreFreshBiRanks, askers_of}
 use Rattle.biconvey.specs.RanksOverBanks.{AfterBiRank, sides_of}
 
--- All ranks, the logs of all links of both banks and the number of turns made so far, at one
--- moment.
+-- All ranks, the logs of all links of both banks, and the number of turns so far, at one moment.
 pub record AskingScene (S : Type 0) : Type 0 where
   pub ranks : List (BiState S)
   pub sides : Sides
   pub turns : ℕ
 
--- Between two moments rank r was turned, and no other, and its turn was counted.
+-- From moment a to moment b rank r made one turn, which was counted, and no other rank did.
 pub record IsAskingTurn {S : Type 0} (T : Talk S) (dims : List ℕ) (cap slots r : ℕ) (a b : AskingScene S) : Type 0 where
   pub all : length b.ranks ≡ length a.ranks
   pub others : (k : ℕ) → k ≢ r → slice_get b.ranks k ≡ slice_get a.ranks k
@@ -22,9 +21,9 @@ pub record IsAskingTurn {S : Type 0} (T : Talk S) (dims : List ℕ) (cap slots r
       → AfterBiRank T dims cap slots r n n' a.sides b.sides
   pub counted : b.turns ≡ a.turns + 1
 
--- An exchange of the askers `starts`, over two plain banks with so many slots, made sweeps in one
--- order and no other turn, from the turn with the number `before` to that with the number `after`,
--- and left the askers `ends`.
+-- The askers `starts` were run over two plain banks, with this many slots a link, in sweeps of one
+-- order and no other turn. The turns are counted from `before` to `after`; the askers ended as
+-- `ends`.
 pub record AskedInSweeps {S : Type 0} (T : Talk S) (dims : List ℕ) (cap slots : ℕ) (steady : Bool)
     (starts : List S) (order : List ℕ) (before after : ℕ) (ends : List S) : Type 0 where
   pub sweeps : ℕ

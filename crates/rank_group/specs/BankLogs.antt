@@ -17,8 +17,8 @@ use Rattle.port_bank.specs.Relay.{RelayLaw}
 abbrev pub parcel_entries : List Shipped → List Entry
 parcel_entries log = flat_map (λ p. p.entries) log
 
--- The logs of a bank with so many slots: each link keeps its law, each rank relays what it got, and
--- beyond the last link there is none.
+-- The logs of a bank with this many slots a link: each link keeps its law, each rank relays only
+-- what it got, and beyond the last link there is nothing.
 pub record AreBankLogs (dims : List ℕ) (cap slots : ℕ) (sent got : Logs) : Type 0 where
   pub grid : IsGrid dims
   pub links_keep : (l : ℕ) → l < links dims → LinkLaw cap slots (sent l) (got l)

@@ -1,4 +1,4 @@
--- How items travel if a caller says nothing else, and what a drive promises.
+-- How items travel by default, and what a drive with these settings guarantees.
 use Rattle.std.specs.Prelude.{ℕ, ◌≡◌, false, List, length}
 use Rattle.std.specs.List.{range_with_len}
 use Rattle.item_buffer.specs.Capacity.{IsCap}
@@ -21,18 +21,19 @@ count_of Two = 2
 count_of Four = 4
 count_of Eight = 8
 
--- By conveyors that aren't steady, over links of two slots.
+-- Over conveyors that aren't steady, and links of two slots.
 abbrev pub usual : Settings
 usual = record { via = Convey; slots = Two; steady = false }
 
--- What is asked of a run that is driven on one thread.
+-- What a drive on one thread requires of a run.
 pub record MayDrive {S : Type 0} (R : Rules S) (cap hops : ℕ) (dims : List ℕ) (settings : Settings)
     (starts : List S) : Type 0 where
   pub is_cap : IsCap cap
   pub is_hops : length dims ≡ hops
   pub run : MayRun R dims settings.via starts
 
--- What a run with these settings leaves on one thread, which turns the ranks in their own order.
+-- The result of a run with these settings on one thread, in which each sweep turns the ranks in
+-- ascending order.
 pub record HasDriven {S : Type 0} (R : Rules S) (cap : ℕ) (dims : List ℕ) (settings : Settings) (starts : List S)
     (run : Finished S) : Type 0 where
   pub finished : HasFinished R starts

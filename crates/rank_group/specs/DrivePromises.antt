@@ -1,4 +1,4 @@
--- What is asked of programs that are driven, and what a drive promises of their run.
+-- What drives require of programs, and what they guarantee of their run.
 use Rattle.std.specs.Prelude.{◌≡◌, ℕ, ◌+◌, ◌*◌, ◌<◌, ◌≤◌, Bool, true, List, [], ◌∷◌, length}
 use Rattle.route_tensor.specs.Grid.{ranks}
 use Rattle.route_tensor.specs.Link.{links}
@@ -16,42 +16,41 @@ use Rattle.rank_group.specs.Turns.{SweptBy}
 
 -- Programs that may be driven on a grid.
 pub record MayRun {S : Type 0} (R : Rules S) (dims : List ℕ) (via : Via) (starts : List S) : Type 0 where
-  -- Exstacks go over one hop.
+  -- Exstacks need a grid of one hop.
   pub one_hop : via ≡ Exstack → length dims ≡ 1
-  -- They begin one run in round 0, one for each rank, and it ends.
+  -- There is one program for each rank, they begin one run in round 0, and that run ends.
   pub begins : (shape : List ℕ) × (most : ℕ) × InRound R (ranks dims) 0 shape most starts × EndsWithin R starts most
 
--- What a drive leaves of a run of the programs `starts`, over a bank that was made as said.
+-- The result of driving the programs `starts` over a bank of the given shape.
 pub record HasFinished {S : Type 0} (R : Rules S) (starts : List S) (made : BankShape) (manner : Manner)
     (run : Finished S) : Type 0 where
-  -- The programs are as the canonical run leaves them.
+  -- The programs end as in the canonical run.
   pub ended : HaveEnded R starts run.progs
-  -- One closed round tells what was exchanged.
+  -- One transcript records what was exchanged.
   pub rounds : (c : ClosedRound) × (run.rounds ≡ c ∷ [])
       × ((n : ℕ) → HasRounds R starts n → RecordsRun R starts n made manner (round_inside c))
 
--- What it further leaves on one thread, which counts its turns from `before` to `after`.
+-- What a drive on one thread further guarantees. It counts its turns, from `before` to `after`.
 pub record HasSwept {S : Type 0} (R : Rules S) (starts : List S) (made : BankShape) (manner : Manner) (turned : List ℕ)
     (before after : ℕ) (run : Finished S) : Type 0 where
-  -- It made sweeps in the order given, and no other turn.
+  -- It made sweeps in the given order, and no other turn.
   pub order : SweptBy R made.dims made.cap made.slots manner starts turned before after run.progs
-  -- The closed round tells the logs that these turns left.
+  -- The transcript holds the logs that these turns left.
   pub exchanged : (c : ClosedRound) → run.rounds ≡ c ∷ [] → (l : ℕ)
       → (logs_of (round_inside c).sent l ≡ order.last.sent l) × (logs_of (round_inside c).got l ≡ order.last.got l)
-  -- Each rank made a turn in each epoch at least: one of its work and one of its votes in each
-  -- round.
+  -- Each rank made at least one turn in each epoch; each round has an epoch of work and one of
+  -- votes.
   pub fewest : (n : ℕ) → HasRounds R starts n → before + 2 * n * ranks made.dims ≤ after
-  -- No link has more parcels than the run had turns.
+  -- No link carried more parcels than the run had turns.
   pub posted : (c : ClosedRound) → run.rounds ≡ c ∷ [] → (l : ℕ) → l < links made.dims
       → length (logs_of (round_inside c).sent l) + before ≤ after
 
--- From `before` turns to `after` there are no more than a run of these programs takes at most.
+-- From `before` to `after` there are no more turns than the bound for these programs.
 abbrev pub WithinTurns : {S : Type 0} → Rules S → List S → Manner → List ℕ → ℕ → ℕ → Type 0
 WithinTurns R starts manner dims before after = (n : ℕ) → HasRounds R starts n
     → after ≤ before + turns_within R manner dims starts n
 
--- `notified` holds of the turns of each rank, by the rank's number and their own: in a run of n rounds,
--- which has 2 * n epochs, of
--- 2 * n turns at least.
+-- The gate was notified of the first 2 * n turns of each rank, in a run of n rounds, which has 2 *
+-- n epochs: `notified r m` for turn m of rank r.
 abbrev pub NotifiedOfTurns : {S : Type 0} → Rules S → List S → List ℕ → (ℕ → ℕ → Bool) → Type 0
 NotifiedOfTurns R starts dims notified = (n r m : ℕ) → HasRounds R starts n → r < ranks dims → m < 2 * n → notified r m ≡ true

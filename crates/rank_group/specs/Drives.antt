@@ -1,4 +1,4 @@
--- The ranks of a drive, as it begins and ends.
+-- The ranks of a drive before their first turn.
 use Rattle.std.specs.Prelude.{◌≡◌, ◌≤◌, ℕ, false, List, [], length, map, slice_get, Some}
 use Rattle.round_program.specs.Rules.{Rules}
 use Rattle.rank_node.specs.Movers.{Manner, mover_dims, mover_rank, epoch_in, manner_in, HasCap, NoneUnread}
@@ -6,12 +6,12 @@ use Rattle.rank_node.specs.Nodes.{IsNode}
 use Rattle.rank_node.specs.Cycles.{IsInCycle}
 use Rattle.rank_group.specs.Ranks.{RankState}
 
--- The programs of ranks.
+-- The programs of all ranks.
 abbrev pub progs_of : {S : Type 0} → List (RankState S) → List S
 progs_of rs = map (λ n. n.node.run.prog) rs
 
--- A rank that hasn't turned: on its port nothing was sent or got, and nothing is unread. Over an
--- exstack it is in cycle 0.
+-- A rank before its first turn: nothing was sent or collected on its port, and nothing is unread.
+-- Over an exstack it is in cycle 0.
 pub record IsFreshRank {S : Type 0} (R : Rules S) (dims : List ℕ) (cap : ℕ) (manner : Manner) (r : ℕ)
     (n : RankState S) : Type 0 where
   pub on : n.over ≡ false
@@ -25,7 +25,7 @@ pub record IsFreshRank {S : Type 0} (R : Rules S) (dims : List ℕ) (cap : ℕ) 
   pub cycle : (quota : ℕ → ℕ) → length (R.emissions n.node.run.prog) ≤ quota 0
       → IsInCycle R quota 0 n.node.run n.node.mover (λ l. []) (λ l. [])
 
--- Ranks that haven't turned, one for each program, in order.
+-- Ranks before their first turn, one for each program, in order.
 pub record AreFresh {S : Type 0} (R : Rules S) (dims : List ℕ) (cap : ℕ) (manner : Manner) (progs : List S)
     (rs : List (RankState S)) : Type 0 where
   pub programs : progs_of rs ≡ progs

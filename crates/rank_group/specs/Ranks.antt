@@ -1,4 +1,4 @@
--- The ranks of a run, each a node, and what a turn leaves of one.
+-- The ranks of a run, each with its node, and what a turn does to one of them.
 use Rattle.std.specs.Prelude.{◌≡◌, ◌⊎◌, ℕ, ◌+◌, ◌<◌, ◌≤◌, ◌==◌, Bool, true, false, List, ◌++◌, length, slice_get, Some}
 use Rattle.std.specs.Prelude.{if◌then◌else◌}
 use Rattle.std.specs.List.{All}
@@ -31,14 +31,14 @@ pub record RankState (S : Type 0) : Type 0 where
   pub node : NodeState S
   pub over : Bool
 
--- The orders in which a sweep may turn p ranks: each of them once.
+-- The orders in which a sweep may turn p ranks: each rank exactly once.
 pub record IsOrder (p : ℕ) (order : List ℕ) : Type 0 where
   pub size : length order ≡ p
   pub below : All (λ r. r < p) order
   pub each : (r : ℕ) → r < p → (i : ℕ) × (slice_get order i ≡ Some r)
 
--- Rank r over its own logs, of what it sent and of what it got; h m is the state of its program as
--- round m began.
+-- Rank r with the logs of what it sent and of what it got; h m is the state of its program at the
+-- start of round m.
 pub record IsRank {S : Type 0} (R : Rules S) (dims : List ℕ) (cap : ℕ) (manner : Manner) (r : ℕ) (h : ℕ → S)
     (n : RankState S) (sent got : Logs) : Type 0 where
   pub same_dims : mover_dims n.node.mover ≡ dims
@@ -49,15 +49,15 @@ pub record IsRank {S : Type 0} (R : Rules S) (dims : List ℕ) (cap : ℕ) (mann
   pub stopped : n.over ≡ true → HasStopped R h n.node sent got
   pub shape : (l : ℕ) → l < links dims → sender_at dims l ≡ r → IsLogShape manner cap (sent l)
 
--- The same over the logs of all ranks.
+-- The same, with the logs of all ranks.
 abbrev pub HasRank : {S : Type 0} → Rules S → List ℕ → ℕ → Manner → ℕ → (ℕ → S) → RankState S → Logs → Logs → Type 0
 HasRank R dims cap manner r h n sent got =
     IsRank R dims cap manner r h n (starting_at dims r sent) (ending_at dims r got)
 
--- The ranks of a run over the logs of all links, whatever bank these are of; h r m is the state of
--- rank r's program as round m began.
--- links_keep: each link keeps its law. each: each rank keeps to its own logs. begins: the programs
--- began in the states `starts`.
+-- All ranks of a run, with the logs of all links of any bank; h r m is the state of rank r's
+-- program at the start of round m.
+-- links_keep: each link keeps its law. each: each rank agrees with its own logs. begins: the
+-- programs began in the states `starts`.
 pub record AllRanks {S : Type 0} (R : Rules S) (dims : List ℕ) (cap slots : ℕ) (manner : Manner) (starts : List S)
     (h : ℕ → ℕ → S) (rs : List (RankState S)) (sent got : Logs) : Type 0 where
   pub grid : IsGrid dims
@@ -70,25 +70,25 @@ pub record AllRanks {S : Type 0} (R : Rules S) (dims : List ℕ) (cap slots : �
 abbrev pub progress : {S : Type 0} → RankState S → ℕ
 progress n = if n.over then epoch_in n.node.mover + 1 else epoch_in n.node.mover
 
--- Whether no slot is free on rank r's link l out, and whether nothing waits on its link l in, by
--- the logs of all ranks.
+-- Whether rank r's link l out has no free slot, and whether its link l in has nothing to collect,
+-- by the logs of all ranks.
 abbrev pub crowded_in : List ℕ → ℕ → ℕ → Logs → Logs → ℕ → Bool
 crowded_in dims slots r sent got l = length (starting_at dims r sent l) == length (got l) + slots
 
 abbrev pub idle_in : List ℕ → ℕ → Logs → Logs → ℕ → Bool
 idle_in dims r sent got l = length (ending_at dims r got l) == length (sent l)
 
--- What a turn within an epoch doesn't change of what carries a rank's items.
+-- What a turn within an epoch leaves as it was: the grid, the rank, the manner and the epoch.
 pub record SameMover (old new : MoverState) : Type 0 where
   pub dims : mover_dims new ≡ mover_dims old
   pub rank : mover_rank new ≡ mover_rank old
   pub manner : manner_in new ≡ manner_in old
   pub epoch : epoch_in new ≡ epoch_in old
 
--- How a turn of rank r's node goes on within its epoch.
--- waits: what it leaves undone has a cause.
--- cycle, onward, awaits: over an exstack it goes on in its cycles, leaves its stage for a later one,
--- and waits for a parcel of its round.
+-- How a turn of rank r's node continues its epoch.
+-- waits: what it left undone has a cause.
+-- cycle, onward, awaits: over an exstack it continues its cycles, moves its stage forward, and
+-- waits for a parcel of its round.
 pub record TurnsWithin {S : Type 0} (R : Rules S) (dims : List ℕ) (slots r : ℕ) (n n' : NodeState S)
     (sent got sent' got' : Logs) : Type 0 where
   pub waits : Waits R n.run n.mover n'.mover (starting_at dims r sent) (ending_at dims r got) (starting_at dims r sent')
@@ -99,9 +99,9 @@ pub record TurnsWithin {S : Type 0} (R : Rules S) (dims : List ℕ) (slots r : �
   pub onward : TurnsOnward n.mover n'.mover
   pub awaits : AwaitsSome n'.mover
 
--- What the turn of the node of rank r leaves.
+-- What a turn of rank r's node does.
 -- shape: its parcels are filled as its transport fills them. lies: an inbox holds at most what it
--- held and what came. kept: it is still a node of the same run.
+-- held and what came in. kept: it is still a node of the same run.
 pub record AfterTurn {S : Type 0} (R : Rules S) (dims : List ℕ) (cap slots r : ℕ) (turn : Turn) (n n' : NodeState S)
     (sent got sent' got' : Logs) : Type 0 where
   pub own : OwnLogsGrow dims r sent got sent' got'
@@ -119,20 +119,19 @@ pub record AfterTurn {S : Type 0} (R : Rules S) (dims : List ℕ) (cap slots r :
   pub going : turn ≡ Going → has_completed n'.mover ≡ false
   pub within : TurnsWithin R dims slots r n n' sent got sent' got'
 
--- A rank that a turn over a conveyor left in its epoch, having moved no parcel: its epoch isn't
--- over.
+-- A turn over a conveyor moved no parcel and didn't end the epoch: the rank is blocked.
 pub record IsBlockedConveyor (c c' : State) (sent got sent' got' : Logs) (is_crowded is_idle : ℕ → Bool) : Type 0 where
   pub stuck : IsStuck c c' sent got sent' got' is_crowded is_idle
   pub going : is_complete c'.phase ≡ false
   pub stays : c'.epoch ≡ c.epoch
 
--- And one over an exstack.
+-- A turn over an exstack didn't end the epoch: the rank is blocked.
 pub record IsBlockedStack (x x' : Stack) (got got' : Logs) (is_crowded is_idle : ℕ → Bool) : Type 0 where
   pub waits : WaitsFor x x' got got' is_crowded is_idle
   pub going : is_all_done x'.stage ≡ false
   pub stays : x'.epoch ≡ x.epoch
 
--- Either of them.
+-- The same over either transport.
 abbrev pub IsBlockedMover : MoverState → MoverState → Logs → Logs → Logs → Logs → (ℕ → Bool) → (ℕ → Bool) → Type 0
 IsBlockedMover (Conveying c) (Conveying c') sent got sent' got' is_crowded is_idle =
     IsBlockedConveyor c c' sent got sent' got' is_crowded is_idle
@@ -148,7 +147,7 @@ pub record IsUnturned {S : Type 0} (dims : List ℕ) (r : ℕ) (n n' : RankState
   pub same_sent : starting_at dims r sent' ≡ starting_at dims r sent
   pub same_got : ending_at dims r got' ≡ ending_at dims r got
 
--- A turn left rank r in its epoch, which isn't over.
+-- A turn left rank r in its epoch, which continues.
 pub record StaysIn {S : Type 0} (R : Rules S) (dims : List ℕ) (slots r : ℕ) (n n' : RankState S)
     (sent got sent' got' : Logs) : Type 0 where
   pub still : n'.over ≡ false
@@ -156,8 +155,8 @@ pub record StaysIn {S : Type 0} (R : Rules S) (dims : List ℕ) (slots r : ℕ) 
   pub going : has_completed n'.node.mover ≡ false
   pub within : TurnsWithin R dims slots r n.node n'.node sent got sent' got'
 
--- A turn ended the epoch of rank r: its next one began, or its run is over.
--- at_end: the node between the two.
+-- A turn ended the epoch of rank r: its next epoch began, or its run is over.
+-- at_end: the node at the end of the epoch, before the next one begins.
 pub record EndsEpoch {S : Type 0} (R : Rules S) (dims : List ℕ) (slots r : ℕ) (n n' : RankState S)
     (sent got sent' got' : Logs) : Type 0 where
   pub at_end : NodeState S
@@ -170,12 +169,11 @@ pub record EndsEpoch {S : Type 0} (R : Rules S) (dims : List ℕ) (slots r : ℕ
       → length (to_send R n'.node.run.prog n'.node.run.sends) ≤ quota (epoch_in n'.node.mover)
       → IsInCycle R quota 0 n'.node.run n'.node.mover (starting_at dims r sent') (ending_at dims r got')
 
--- What the turn of rank r leaves, with the step to its next epoch if one has ended.
--- lies: an inbox holds at most what it held and what came.
--- forward: its epochs only go on. left: if it is in the same epoch and no parcel moved, it is
--- blocked there.
--- unturned, turned: a rank whose run is over isn't turned, and one that goes on stays in its epoch
--- or ends it.
+-- What a turn of rank r does, including the step to its next epoch if one ended.
+-- lies: an inbox holds at most what it held and what came in.
+-- forward: its number of completed epochs never falls. left: if it is in the same epoch and no
+-- parcel moved, it is blocked.
+-- unturned, turned: a rank whose run is over isn't turned; any other stays in its epoch or ends it.
 pub record AfterRank {S : Type 0} (R : Rules S) (dims : List ℕ) (cap slots r : ℕ) (n n' : RankState S)
     (sent got sent' got' : Logs) : Type 0 where
   pub own : OwnLogsGrow dims r sent got sent' got'

@@ -1,4 +1,4 @@
--- All ranks of a drive over one plain bank, and what a sweep over them leaves.
+-- All ranks of a drive over one plain bank, and what a sweep over them does.
 use Rattle.std.specs.Prelude.{◌≡◌, ◌⊎◌, ⊤, true, ℕ, ◌+◌, ◌-◌, ◌^◌, ◌<◌, ◌≤◌, false, List, [], length, Option, Some}
 use Rattle.std.specs.Prelude.{if◌then◌else◌}
 use Rattle.std.specs.Prelude.{None, slice_get}
@@ -23,7 +23,7 @@ use Rattle.rank_group.specs.BankLogs.{parcel_entries, moved}
 use Rattle.rank_group.specs.Ranks.{RankState, AllRanks, IsBlockedConveyor, progress, crowded_in, idle_in}
 use Rattle.rank_group.specs.RoundProgress.{quota_of, most_rounds, MoverMadeHalves, KeepsCycle}
 
--- a rank that has none: no state of a conveyor
+-- The conveyor of a rank that doesn't exist.
 abbrev pub no_conveyor : State
 no_conveyor = record {
   dims = [];
@@ -47,11 +47,11 @@ abbrev pub progress_in : {S : Type 0} → Option (RankState S) → ℕ
 progress_in None = 0
 progress_in (Some n) = progress n
 
--- how many epochs all ranks have completed
+-- How many epochs all ranks have completed, added up.
 abbrev pub all_progress : {S : Type 0} → List ℕ → List (RankState S) → ℕ
 all_progress dims rs = total (ranks dims) (λ r. progress_in (slice_get rs r))
 
--- a history with the state in which a run has ended
+-- A rank's history, extended by the final state if its run is over.
 abbrev pub history_in : {S : Type 0} → (ℕ → S) → Option (RankState S) → ℕ → S
 history_in h None = h
 history_in h (Some n) = if n.over then with_next h (n.node.run.round + 1) n.node.run.prog else h
@@ -59,12 +59,12 @@ history_in h (Some n) = if n.over then with_next h (n.node.run.round + 1) n.node
 abbrev pub part_at : {S : Type 0} → List ℕ → List (RankState S) → Logs → Logs → ℕ → Part
 part_at dims rs sent got r = part_in (mover_in (slice_get rs r)) (starting_at dims r sent) (ending_at dims r got)
 
--- how many entries lie in the inbox of a link
+-- How many entries are in the inbox of a link.
 abbrev pub inbox : {S : Type 0} → List ℕ → List (RankState S) → ℕ → ℕ
 inbox dims rs l = lying (mover_in (slice_get rs (reader_at dims l))) l
 
--- all ranks over one plain bank
--- keeps: over exstacks each rank is in some cycle of its epoch
+-- All ranks over one plain bank.
+-- keeps: over exstacks each rank is in some cycle of its epoch.
 pub record RanksOnBank {S : Type 0} (R : Rules S) (dims : List ℕ) (cap slots : ℕ) (manner : Manner) (starts : List S)
     (h : ℕ → ℕ → S) (rs : List (RankState S)) (sent got : Logs) : Type 0 where
   pub ranked : AllRanks R dims cap slots manner starts h rs sent got
@@ -80,7 +80,7 @@ pub record RanksOnBank {S : Type 0} (R : Rules S) (dims : List ℕ) (cap slots :
 abbrev pub moves : {S : Type 0} → List ℕ → List (RankState S) → Logs → Logs → ℕ
 moves dims rs sent got = moved dims sent got (inbox dims rs)
 
--- a rank at rest over a conveyor, over lists that its turn didn't change
+-- A rank over a conveyor is blocked: its last turn left the logs as they were.
 pub record IsBlockedRank (dims : List ℕ) (slots r : ℕ) (c' : State) (sent got : Logs) : Type 0 where
   pub c : State
   pub same_dims : c.dims ≡ dims
@@ -91,25 +91,25 @@ pub record IsBlockedRank (dims : List ℕ) (slots r : ℕ) (c' : State) (sent go
   pub left : IsBlockedConveyor c c' (starting_at dims r sent) (ending_at dims r got) (starting_at dims r sent)
       (ending_at dims r got) (crowded_in dims slots r sent got) (idle_in dims r sent got)
 
--- of ranks over exstacks nothing is said
+-- Over exstacks this states nothing.
 abbrev pub BlocksMover : List ℕ → ℕ → ℕ → MoverState → Logs → Logs → Type 0
 BlocksMover dims slots r (Conveying c') sent got = IsBlockedRank dims slots r c' sent got
 BlocksMover dims slots r (Stacking cap x) sent got = ⊤
 
--- Every rank, in its cycle, has made j halves of rounds.
+-- Every rank, in its cycle, has made j half rounds.
 abbrev pub AllMadeHalves : {S : Type 0} → (ℕ → ℕ) → ℕ → (ℕ → ℕ) → List (RankState S) → Type 0
 AllMadeHalves {S} most j cycle rs = (r : ℕ) (x : RankState S) → slice_get rs r ≡ Some x
     → MoverMadeHalves most j x.over (cycle r) x.node.mover
 
--- What turns leave of the plain bank that they began with.
+-- What turns keep of the plain bank that they began with.
 pub record KeepsBank (cap : ℕ) (before after : Bank) : Type 0 where
-  -- It is lawful.
+  -- It keeps the laws of a bank.
   pub lawful : IsBank cap after
-  -- It has the same grid and as many slots.
+  -- It has the same grid and number of slots.
   pub same_dims : after.dims ≡ before.dims
   pub same_slots : after.slots ≡ before.slots
 
--- What a drive is given: programs that begin one run of n rounds, and links with some slots.
+-- The input of a drive: programs that begin one run of n rounds, and links with at least one slot.
 pub record DrivePlan {S : Type 0} (R : Rules S) (dims : List ℕ) (slots : ℕ) (starts : List S) (n : ℕ) : Type 0 where
   pub shape : List ℕ
   pub most : ℕ
@@ -118,11 +118,12 @@ pub record DrivePlan {S : Type 0} (R : Rules S) (dims : List ℕ) (slots : ℕ) 
   pub few : n < 2 ^ 62
   pub some : 0 < slots
 
--- What the turns of the first i ranks of an order leave of all ranks, which were in some cycles.
--- forward: no rank goes back. grown: what moved stays moved.
--- rests: if nothing moved, each rank that was turned and is in its epoch still is at rest.
--- made: over exstacks, if every rank had made j halves of rounds, each still has, and one that
--- was turned has made one more.
+-- What the turns of the first i ranks of a sweep do to all ranks, which began in the cycles
+-- `cycle0`.
+-- grown: what has moved never shrinks. forward: no rank goes back to an earlier epoch.
+-- rests: if nothing moved, each rank that was turned and is still in its epoch is blocked.
+-- made: over exstacks, if every rank had made j half rounds, each still has, and each rank that was
+-- turned has made one more.
 pub record AfterSomeTurns {S : Type 0} (R : Rules S) (dims : List ℕ) (cap slots : ℕ) (manner : Manner) (starts : List S)
     (order : List ℕ) (i : ℕ) (cycle0 : ℕ → ℕ) (rs0 : List (RankState S)) (sent0 got0 : Logs) (rs : List (RankState S))
     (sent got : Logs) : Type 0 where

@@ -1,5 +1,4 @@
--- The rest law of nodes: if a sweep of turns over conveyors moved nothing, the least epoch is
--- over.
+-- The rest law of nodes: if a sweep over conveyors moved nothing, the lowest epoch is over.
 use Rattle.std.specs.Prelude.{◌≡◌, ◌⊎◌, ℕ, ◌<◌, ◌≤◌, Bool, true, List}
 use Rattle.route_tensor.specs.Grid.{ranks, IsGrid}
 use Rattle.route_tensor.specs.Link.{links}
@@ -12,8 +11,8 @@ use Rattle.rank_node.specs.Nodes.{NodeState, IsNode}
 use Rattle.rank_node.specs.Moves.{Waits}
 use Rattle.rank_group.specs.Ranks.{crowded_in, idle_in}
 
--- Node n of rank r conveys its items over a bank with these lists; h m is the state of its program
--- as round m began.
+-- Node n of rank r moves its items over conveyors of a bank with these logs; h m is the state of
+-- its program at the start of round m.
 pub record Conveys {S : Type 0} (R : Rules S) (dims : List ℕ) (steady : Bool) (r : ℕ) (h : ℕ → S)
     (n : NodeState S) (sent got : Logs) : Type 0 where
   pub same_dims : mover_dims n.mover ≡ dims
@@ -21,10 +20,10 @@ pub record Conveys {S : Type 0} (R : Rules S) (dims : List ℕ) (steady : Bool) 
   pub manner : manner_in n.mover ≡ ByConveyor steady
   pub node : IsNode R h n (starting_at dims r sent) (ending_at dims r got)
 
--- A turn of rank r that had memory took its node from n to n' and moved nothing: the lists of the
--- bank are after it what they were before it.
+-- A turn of rank r took its node from n to n', didn't run out of memory, and moved nothing: the
+-- logs of the bank are as before.
 -- epoch: it is in the same epoch. kept: no inbox lost an item.
--- waits: what the turn says of what it waits for, if its port knows what is true of the bank.
+-- waits: what the turn waits for, given that its port knows the state of the bank.
 pub record MovesNothing {S : Type 0} (R : Rules S) (dims : List ℕ) (slots : ℕ) (steady : Bool) (r : ℕ)
     (h : ℕ → S) (n n' : NodeState S) (sent got : Logs) : Type 0 where
   pub conveyed : Conveys R dims steady r h n sent got
@@ -34,9 +33,9 @@ pub record MovesNothing {S : Type 0} (R : Rules S) (dims : List ℕ) (slots : �
       (starting_at dims r sent) (ending_at dims r got) (crowded_in dims slots r sent got)
       (idle_in dims r sent got)
 
--- A sweep over the nodes of all ranks in which no parcel was posted or collected, marked last or
--- not, and no item was taken out of an inbox. No rank is in an epoch before e.
--- turned: a rank in epoch e had completed it before, or it was turned.
+-- A sweep over the nodes of all ranks that posted or collected no parcel and took no item out of an
+-- inbox. No rank is in an epoch before e.
+-- turned: each rank in epoch e had completed it before, or was turned.
 -- The ranks may be in different epochs.
 pub record IsQuietSweep {S : Type 0} (R : Rules S) (dims : List ℕ) (cap slots e : ℕ) (steady : Bool)
     (h : ℕ → ℕ → S) (old new : ℕ → NodeState S) (sent got : Logs) : Type 0 where
@@ -49,7 +48,7 @@ pub record IsQuietSweep {S : Type 0} (R : Rules S) (dims : List ℕ) (cap slots 
       → (has_completed (new r).mover ≡ true)
       ⊎ MovesNothing R dims slots steady r (h r) (old r) (new r) sent got
 
--- After such a sweep each rank that is in the least epoch has completed it.
+-- After such a sweep each rank in the lowest epoch has completed it.
 abbrev pub NodesRestLaw : {S : Type 0} → Rules S → Type 0
 NodesRestLaw {S} R = (dims : List ℕ) (cap slots e : ℕ) (steady : Bool) (h : ℕ → ℕ → S)
     (old new : ℕ → NodeState S) (sent got : Logs)

@@ -1,4 +1,4 @@
--- What a run exchanged, as its closed rounds tell it.
+-- What a run exchanged, as its transcript records it.
 use Rattle.std.specs.Prelude.{◌≡◌, ℕ, zero, suc, ◌+◌, ◌*◌, ◌<◌, Bool, List, [], ◌∷◌, length, Option, Some, None}
 use Rattle.std.specs.Prelude.{slice_get}
 use Rattle.bale_items.specs.declared.item.Item.{Item}
@@ -12,31 +12,31 @@ use Rattle.round_program.specs.Epochs.{vote_item}
 use Rattle.rank_node.specs.Movers.{Manner, IsLogShape}
 use Rattle.rank_node.specs.Movers.Manner.{ByConveyor, ByExstack}
 
--- With what a bank was made: the grid, the capacity of a parcel, the slots of a link, and whether
--- it was a slot bank.
+-- The shape of a bank: the grid, the capacity of a parcel, the slots of a link, and whether it is a
+-- slot bank.
 pub record BankShape : Type 0 where
   pub dims : List ℕ
   pub cap : ℕ
   pub slots : ℕ
   pub by_slots : Bool
 
--- What a program votes, in transit; of no program there is no item.
+-- What a program votes, as an item; none if there is no program.
 abbrev pub vote_sent : {S : Type 0} → Rules S → Option S → List Item
 vote_sent R None = []
 vote_sent R (Some s) = vote_item (R.vote s) ∷ []
 
--- A closed round tells a run of n rounds that began in some states.
--- What holds of every closed round is not said again: ClosedRound's ranks and epochs tell it
+-- A transcript records a run of n rounds that began in the states `starts`.
+-- What holds of every transcript isn't repeated here: see `ClosedRound::ranks` and `epochs`
 -- (IsRound).
--- bank: it was made as asked.
--- ended, by_last: each link ended two epochs a round, and nothing came after them. collected: all
--- parcels were.
+-- bank: the bank had the given shape.
+-- ended, by_last: each link ended two epochs a round, and nothing followed them. collected: every
+-- parcel was collected.
 -- work: in epoch 2m each rank pushed toward each rank what it emits to it in round m of the
 -- canonical run.
 -- votes: in epoch 2m + 1 it pushed its one vote on round m.
--- all_came: each rank pulled what was pushed toward it.
--- shape: each parcel is filled as the transport fills it, conveyors steady or not. If they
--- aren't steady, an epoch's entries travel in few parcels (port_bank's few_parcels_law).
+-- all_came: each rank pulled all that was pushed toward it.
+-- shape: each parcel was filled as the transport fills it. Over conveyors that aren't steady an
+-- epoch's entries travel in few parcels (port_bank's few_parcels_law).
 -- With two ranks and six rounds there are 12 epochs; in each odd one each of the four pairs has one
 -- item.
 pub record RecordsRun {S : Type 0} (R : Rules S) (starts : List S) (n : ℕ) (made : BankShape) (manner : Manner)
@@ -52,18 +52,18 @@ pub record RecordsRun {S : Type 0} (R : Rules S) (starts : List S) (n : ℕ) (ma
   pub all_came : (e s d : ℕ) → s < ranks round.dims → d < ranks round.dims → pulled_items round e d s ≡ pushed_items round e s d
   pub shape : (l : ℕ) → l < links round.dims → IsLogShape manner round.cap (logs_of round.sent l)
 
--- How many turns an epoch takes at most in which so many items are sent.
--- Over conveyors each turn but P of them moves something, and a parcel or an entry moves at most so
--- often. Over exstacks two turns of every rank finish a round, and an epoch has at most 2 * items +
--- 1 of them.
--- one_rank: over conveyors turns_of (1) 4 is 1 * (4 * 4 + 2 * 1 + 1) = 19, and over exstacks 4 * 1
--- * (4 + 2) = 24.
+-- An upper bound on the turns of an epoch in which this many items are sent.
+-- Over conveyors each turn but P of them moves something, and a parcel or an entry moves only a
+-- bounded number of times. Over exstacks two turns of every rank finish a round, and an epoch has
+-- at most 2 * items + 1 rounds.
+-- For one rank and four items: over conveyors 1 * (4 * 4 + 2 * 1 + 1) = 19, over exstacks 4 * 1 *
+-- (4 + 2) = 24.
 abbrev pub turns_of : Manner → List ℕ → ℕ → ℕ
 turns_of (ByConveyor steady) dims items = ranks dims * (items * (3 * length dims + 1) + 2 * links dims + 1)
 turns_of ByExstack dims items = 4 * ranks dims * (items + 2)
 
--- How many turns the first n rounds of a run take at most: those of each round's work, and those of
--- its votes, one from each rank to each.
+-- An upper bound on the turns of the first n rounds of a run: those of each round's work, and those
+-- of its votes, one from each rank to each.
 -- For one rank, four entries and one round it is 19 + 7 = 26 over conveyors, and 24 + 12 = 36 over
 -- exstacks.
 abbrev pub turns_within : {S : Type 0} → Rules S → Manner → List ℕ → List S → ℕ → ℕ

@@ -1,4 +1,4 @@
--- The laws of what turns leave of a rank at two slot banks.
+-- Laws of turns of a rank with seats at two slot banks.
 use Rattle.std.proofs.Common.{◌≡◌, ℕ, Bool, true, refl, subst, ◌∙◌, arith, inl, inr}
 use Rattle.std.proofs.lemmas.Bool.{cases_lt}
 use Rattle.rank_crews.specs.Runs.{RanLaws}

@@ -1,4 +1,4 @@
--- If no parcel moves in some turns and none in further ones, none moves in both.
+-- If no parcel moves in some turns and none in the following ones, none moves in both together.
 use Rattle.std.proofs.Common.{refl, ◌∙◌}
 use Rattle.link_slots.specs.SeatView.{Manning}
 use Rattle.rank_crews.specs.Runs.{RanLaws}

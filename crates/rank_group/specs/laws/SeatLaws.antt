@@ -1,4 +1,4 @@
--- The laws of what turns leave of a rank at a slot bank.
+-- Laws of turns of a rank with a seat at a slot bank.
 use Rattle.std.proofs.Common.{◌≡◌, ℕ, Bool, true, refl, subst, ◌∙◌, arith, inl, inr}
 use Rattle.std.proofs.lemmas.Bool.{cases_lt}
 use Rattle.round_program.specs.Rules.{Rules}

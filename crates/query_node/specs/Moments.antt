@@ -1,4 +1,4 @@
--- A rank within a turn: what holds after each post and each collect that the turn makes.
+-- A rank within a turn: what holds after each post and each collect of the turn.
 use Rattle.std.specs.Prelude.{◌≡◌, ◌⊎◌, ℕ, ◌<◌, List}
 use Rattle.route_tensor.specs.Grid.{ranks}
 use Rattle.list_laws.specs.Lists.{IsPrefix}
@@ -9,7 +9,7 @@ use Rattle.query_node.specs.Banks.{IsLawfulBank, got_from}
 use Rattle.query_node.specs.States.{BiState, Sides, IsBiNode}
 use Rattle.query_node.specs.Ranks.{sides_at}
 
--- The lists of a port of queries and of a port of replies.
+-- The logs of a port of queries and of a port of replies.
 abbrev pub sides_of_ports : {P Q : Type 0} {cap : ℕ} {M N : Type 0} → Ghosts P cap M
     → Ghosts Q cap N → P → Q → Sides
 sides_of_ports G H queries replies =
@@ -20,16 +20,16 @@ sides_of_ports G H queries replies =
       replied = H.got replies;
     }
 
--- Each list is a prefix of what it is later.
+-- Each log is a prefix of the later one.
 pub record OnlyGrow (old new : Sides) : Type 0 where
   pub asking : (l : ℕ) → IsPrefix (old.asking l) (new.asking l)
   pub asked : (l : ℕ) → IsPrefix (old.asked l) (new.asked l)
   pub replying : (l : ℕ) → IsPrefix (old.replying l) (new.replying l)
   pub replied : (l : ℕ) → IsPrefix (old.replied l) (new.replied l)
 
--- A rank's own lists at a moment of a turn that takes them from `old` to `new`: some of its posts
--- and collects are made.
--- order: no reply is posted in it until all of its queries are collected.
+-- A rank's own logs at a moment of a turn that takes them from `old` to `new`: some of its posts
+-- and collects have been made.
+-- order: no reply is posted in the turn until all of its queries are collected.
 -- A turn that collects the query parcel p and then posts the reply parcel a has the moments [], [];
 -- [p], []; and [p], [a]. It has no moment [], [a].
 pub record IsMoment (old new now : Sides) : Type 0 where
@@ -37,7 +37,7 @@ pub record IsMoment (old new now : Sides) : Type 0 where
   pub until : OnlyGrow now new
   pub order : ((l : ℕ) → now.replying l ≡ old.replying l) ⊎ ((l : ℕ) → now.asked l ≡ new.asked l)
 
--- Rank r of a grid is between two turns, over its own lists.
+-- Rank r of a grid is between two turns, by its own logs.
 pub record StandsAt {S : Type 0} (T : Talk S) (dims : List ℕ) (r : ℕ) (start : S) (n : BiState S)
     (own : Sides) : Type 0 where
   pub same_dims : n.queries.dims ≡ dims
@@ -56,9 +56,9 @@ pub record IsUnderway {S : Type 0} (T : Talk S) (dims : List ℕ) (r : ℕ) (sta
   pub stands : StandsAt T dims r start after new
   pub moment : IsMoment old new now
 
--- The replies theorem at every step, over two lawful banks, with each rank at a moment of its own:
--- the replies that a rank got of another, and so those that it heard, are a prefix of that one's
--- answers to its queries.
+-- The replies theorem at every step, over two banks that keep the laws, with each rank at some
+-- moment of its own turn: the replies that a rank got of another, and so those that it heard, are a
+-- prefix of that rank's answers to its queries.
 abbrev pub StepLaw : {S : Type 0} → Talk S → Type 0
 StepLaw {S} T = (dims : List ℕ) (starts : ℕ → S) (s : Sides) → IsLawfulBank dims s.asking s.asked
     → IsLawfulBank dims s.replying s.replied

@@ -1,4 +1,4 @@
--- The ranks of an exchange of queries and replies, over any two lawful banks.
+-- The ranks of an exchange of queries and replies, over any two banks that keep the laws.
 use Rattle.std.specs.Prelude.{◌≡◌, ℕ, ◌<◌, List}
 use Rattle.bale_items.specs.declared.item.Item.{Item}
 use Rattle.route_tensor.specs.Grid.{ranks, IsGrid}
@@ -13,7 +13,7 @@ use Rattle.round_program.specs.Talks.{Talk}
 use Rattle.round_program.specs.Replies.{replies_of, heard_by, after_answers}
 use Rattle.query_node.specs.States.{BiState, Sides, IsBiNode}
 
--- Of these, those of the links that start at rank r, or end there.
+-- The logs of the links that start at rank r, or end there.
 abbrev pub sides_at : List ℕ → ℕ → Sides → Sides
 sides_at dims r s =
     record {
@@ -23,7 +23,7 @@ sides_at dims r s =
       replied = ending_at dims r s.replied;
     }
 
--- Rank r keeps to its own lists; it began in the state `start`.
+-- Rank r agrees with its own logs; it began in the state `start`.
 pub record HasBiRank {S : Type 0} (T : Talk S) (dims : List ℕ) (r : ℕ) (start : S) (n : BiState S)
     (s : Sides) : Type 0 where
   pub same_dims : n.queries.dims ≡ dims
@@ -31,7 +31,7 @@ pub record HasBiRank {S : Type 0} (T : Talk S) (dims : List ℕ) (r : ℕ) (star
   pub node : IsBiNode T start n (starting_at dims r s.asking) (ending_at dims r s.asked) (starting_at dims r s.replying)
       (ending_at dims r s.replied)
 
--- All ranks over two banks whose links keep their law; rank r began in the state `starts r`.
+-- All ranks over two banks whose links keep their laws; rank r began in the state `starts r`.
 pub record AllBiRanks {S : Type 0} (T : Talk S) (dims : List ℕ) (cap slots : ℕ) (starts : ℕ → S) (ns : ℕ → BiState S)
     (s : Sides) : Type 0 where
   pub grid : IsGrid dims
@@ -39,13 +39,14 @@ pub record AllBiRanks {S : Type 0} (T : Talk S) (dims : List ℕ) (cap slots : �
   pub replies_keep : (l : ℕ) → l < links dims → LinkLaw cap slots (s.replying l) (s.replied l)
   pub each : (r : ℕ) → r < ranks dims → HasBiRank T dims r (starts r) (ns r) s
 
--- What rank r pulled of the rank d: the replies that it heard.
+-- What rank r pulled of rank d: the replies that it heard.
 abbrev pub heard_of : {S : Type 0} → List ℕ → (ℕ → BiState S) → Sides → ℕ → ℕ → List Item
 heard_of dims ns s r d =
     (part_of (buffers_of (ns r).replies) (starting_at dims r s.replying) (ending_at dims r s.replied)).pulled 0 d
 
 -- Whenever no rank is within a turn, the replies that a rank heard of another are a prefix of that
--- one's answers to its queries, and it is as after hearing them, by order alone.
+-- rank's answers to its queries, and its state is the one after hearing them, matched by order
+-- alone.
 pub record HearsInOrder {S : Type 0} (T : Talk S) (dims : List ℕ) (starts : ℕ → S) (ns : ℕ → BiState S)
     (s : Sides) : Type 0 where
   pub begins : (r d : ℕ) → r < ranks dims → d < ranks dims → IsPrefix (heard_of dims ns s r d) (replies_of T starts d r)
@@ -55,8 +56,7 @@ abbrev pub OrderLaw : {S : Type 0} → Talk S → Type 0
 OrderLaw {S} T = (dims : List ℕ) (cap slots : ℕ) (starts : ℕ → S) (ns : ℕ → BiState S) (s : Sides)
     → AllBiRanks T dims cap slots starts ns s → HearsInOrder T dims starts ns s
 
--- Once all ranks are complete, each has heard, for each of its queries, the answer of the rank
--- asked.
+-- Once all ranks are complete, each has heard the answer to each of its queries.
 pub record AllComplete {S : Type 0} (dims : List ℕ) (ns : ℕ → BiState S) : Type 0 where
   pub queries : (r : ℕ) → r < ranks dims → (ns r).queries.phase ≡ Complete
   pub replies : (r : ℕ) → r < ranks dims → (ns r).replies.phase ≡ Complete

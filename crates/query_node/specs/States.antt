@@ -30,14 +30,14 @@ pub record BiState (S : Type 0) : Type 0 where
   pub queries : State
   pub replies : State
 
--- The lists of two banks: of queries what was sent and got, and of replies.
+-- The logs of two banks: what was sent and got of queries, and of replies.
 pub record Sides : Type 0 where
   pub asking : Logs
   pub asked : Logs
   pub replying : Logs
   pub replied : Logs
 
--- A conveyor in its first epoch, over a port with these lists.
+-- A conveyor in its first epoch, over a port with these logs.
 pub record IsRunning (c : State) (sent got : Logs) : Type 0 where
   pub first : c.epoch ≡ 0
   pub begun : c.phase ≢ Dormant
@@ -57,10 +57,10 @@ pub record IsFirst (dims : List ℕ) (rank : ℕ) (steady : Bool) (c : State) : 
   pub none_pushed : (e d : ℕ) → (part_of (buffers_of c) (λ l. []) (λ l. [])).pushed e d ≡ []
   pub none_pulled : (e d : ℕ) → (part_of (buffers_of c) (λ l. []) (λ l. [])).pulled e d ≡ []
 
--- A BiNode between two turns, of a rank that began in the state `start`, over a port of queries
--- (what it sent is asking, what it got is asked) and one of replies (replying, replied).
--- next_low, all_pushed, pushed: the first so many of its queries are pushed; all of them if it
--- is done asking.
+-- A BiNode between two turns, of a rank that began in the state `start`, over a port of queries (it
+-- sent `asking` and got `asked`) and one of replies (`replying`, `replied`).
+-- next_low, all_pushed, pushed: it has pushed a prefix of its queries; all of them if it is done
+-- asking.
 -- answered: it pushed its answers, in order, to the queries that it pulled, and nothing else.
 -- over: it is done replying only if the queries of all ranks are over.
 -- heard: it heard what came, matched by order alone. read: nothing that came is unheard.
@@ -82,14 +82,14 @@ pub record IsBiNode {S : Type 0} (T : Talk S) (start : S) (n : BiState S)
       (part_of (buffers_of n.replies) replying replied).pulled
   pub read : AllRead n.replies
 
--- A port is one of a conveyor's grid and rank.
+-- A port has a conveyor's grid and rank.
 pub record IsPortOf {P : Type 0} {cap : ℕ} {M : Type 0} (G : Ghosts P cap M) (c : State) (port : P) : Type 0 where
   pub same_dims : G.dims port ≡ c.dims
   pub same_rank : G.rank port ≡ c.rank
 
--- What a turn makes of one way, of queries or of replies: it advances once.
--- grows: its lists only grow, each by one parcel at most, and of the conveyor's shape.
--- lie: an inbox holds at most what it held and what came.
+-- What a turn does in one direction, for queries or for replies: it advances once.
+-- grows: its logs only grow, each by one parcel at most, with parcels of the conveyor's shape.
+-- lie: an inbox holds at most what it held and what came in.
 pub record AdvancesOnce {P : Type 0} {cap : ℕ} {M : Type 0} (G : Ghosts P cap M) (c c' : State)
     (port port' : P) : Type 0 where
   pub steady : c'.steady ≡ c.steady
@@ -99,24 +99,24 @@ pub record AdvancesOnce {P : Type 0} {cap : ℕ} {M : Type 0} (G : Ghosts P cap 
       → G.got port' l ≡ G.got port l ++ more
       → length (in_of c' l).parcel.untaken ≤ length (in_of c l).parcel.untaken + length (flat_map (λ p. p.entries) more)
 
--- What a turn that takes a rank from n to n' asks: it pushes the queries from number n.next on, up
+-- The queries of a turn that takes a rank from n to n': it pushes those from number n.next on, up
 -- to number n'.next.
--- at_push: the conveyor of queries after these pushes, before it advances, with no more in a parcel
--- than it holds.
--- pushes: if a query is left, the open parcel toward its receiver is full.
+-- at_push: the conveyor of queries after these pushes, before it advances; no parcel is over its
+-- capacity.
+-- pushes: if a query remains, the open parcel toward its receiver is full.
 pub record HasAsked {S : Type 0} (T : Talk S) (cap : ℕ) (n n' : BiState S) : Type 0 where
   pub at_push : State
   pub fits : HoldsAtMost cap at_push
   pub pushes : PushesQueries (asks_of T n.asker) cap n.next n'.next n.queries at_push
 
--- What it answers, over a port of queries whose lists go from asking and asked to asking' and
--- asked'.
--- at_pull: the conveyor of queries after it advanced, before any of them is pulled.
+-- The answers of a turn, over a port of queries whose logs grow from asking and asked to asking'
+-- and asked'.
+-- at_pull: the conveyor of queries after it advanced, before any query is pulled.
 -- agrees, epoch, pulled: it agrees with the port, and no query was pulled since the turn began.
--- at_push: the conveyor of replies after the answers are pushed, before it advances, with no more
--- in a parcel than it holds.
--- answers: queries are pulled, and their answers pushed, as many of these as of those.
--- all: no query that came is left unread, or the answer to the next one was refused.
+-- at_push: the conveyor of replies after the answers are pushed, before it advances; no parcel is
+-- over its capacity.
+-- answers: queries are pulled and their answers pushed, equally many.
+-- all: no query that came remains unread, or the answer to the next one was refused.
 pub record HasAnswered {S : Type 0} (T : Talk S) (cap : ℕ) (n n' : BiState S)
     (asking asked asking' asked' : Logs) : Type 0 where
   pub at_pull : State

@@ -1,4 +1,4 @@
--- What a turn leaves that moved no parcel, and why.
+-- A turn that moved no parcel, and why.
 use Rattle.std.specs.Prelude.{◌≡◌, ◌⊎◌, ℕ, Bool, true}
 use Rattle.hop_core.specs.declared.phase.Phase.TheVariants.{Complete}
 use Rattle.rank_node.specs.Movers.{AllRead}
@@ -12,7 +12,7 @@ pub record Known : Type 0 where
   pub replies_crowded : ℕ → Bool
   pub replies_idle : ℕ → Bool
 
--- A turn that moved no parcel on either way.
+-- A turn that moved no parcel in either direction.
 -- asked: the rank is done asking, or a query was refused, and a link out of the queries is crowded.
 -- answered: all queries that came are answered, or an answer was refused, and a link out of the
 -- replies is crowded.

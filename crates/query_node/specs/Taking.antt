@@ -1,4 +1,4 @@
--- What the small steps of a turn leave.
+-- What the parts of a turn do.
 use Rattle.std.specs.Prelude.{◌≡◌, ◌≢◌, ℕ, ◌<◌, ◌≤◌, ◌^◌, false, List, length, drop, slice_get, Some}
 use Rattle.std.specs.List.{All}
 use Rattle.bale_items.specs.declared.item.Item.{Item}
@@ -18,7 +18,7 @@ use Rattle.round_program.specs.Replies.{carrying, answers, heard_by, places_to}
 use Rattle.rank_node.specs.Pulls.{PushedOn, NoMore}
 
 -- Pushes of the items from number `from` on, until one is refused or all are pushed.
--- refused: the open parcel toward the receiver of the first item that is left is full.
+-- refused: the open parcel toward the receiver of the first remaining item is full.
 pub record PushesQueries (items : List (ℕ × Item)) (cap from next : ℕ) (c c' : State) : Type 0 where
   pub forward : from ≤ next
   pub low : next ≤ length items
@@ -29,7 +29,7 @@ pub record PushesQueries (items : List (ℕ × Item)) (cap from next : ℕ) (c c
   pub refused : (to : ℕ) (x : Item) → slice_get items next ≡ Some (to, x)
       → (to < ranks c'.dims) × (standing_toward c' to ≡ cap)
 
--- Queries may be pulled of q, and their answers pushed on r: q has begun, and r is at work, and
+-- Queries may be pulled of q, and their answers pushed on r: q has begun, and r is working and
 -- isn't done.
 pub record MayAnswer (q r : State) : Type 0 where
   pub begun : q.phase ≢ Dormant
@@ -42,7 +42,7 @@ abbrev pub IsAnswered : {S : Type 0} → Talk S → S → ℕ → Part → Part 
 IsAnswered T s p asked replied = (f : ℕ) → f < p
     → replied.pushed replied.epoch f ≡ answers T s f (asked.pulled asked.epoch f)
 
--- Pulls of queries and pushes of their answers, as many of these as of those.
+-- Pulls of queries and pushes of their answers, equally many.
 pub record AnswersOn {S : Type 0} (T : Talk S) (s : S) (p : ℕ) (asked asked' replied replied' : Part) : Type 0 where
   pub asked_epoch : asked'.epoch ≡ asked.epoch
   pub asked_pushed : asked'.pushed ≡ asked.pushed
@@ -50,7 +50,8 @@ pub record AnswersOn {S : Type 0} (T : Talk S) (s : S) (p : ℕ) (asked asked' r
   pub replied_pulled : replied'.pulled ≡ replied.pulled
   pub answered : IsAnswered T s p asked replied → IsAnswered T s p asked' replied'
 
--- The same of the conveyor of queries, which goes from q to q', and that of replies, from r to r'.
+-- The same of the conveyor of queries, which goes from q to q', and the conveyor of replies, from r
+-- to r'.
 pub record AnswersQueries {S : Type 0} (T : Talk S) (s : S) (q q' r r' : State) : Type 0 where
   pub same : q' ≡ record q { ins = q'.ins; pulled = q'.pulled }
   pub same_replies : r' ≡ record r { outs = r'.outs; pulled = r'.pulled }
@@ -61,8 +62,8 @@ pub record AnswersQueries {S : Type 0} (T : Talk S) (s : S) (q q' r r' : State) 
       → AnswersOn T s (ranks q.dims) (part_of (buffers_of q) asking asked) (part_of (buffers_of q') asking asked)
       (part_of (buffers_of r) replying replied) (part_of (buffers_of r') replying replied)
 
--- The answer to the next query to pull of q was refused: r, the conveyor of replies, holds as many
--- entries as it can in its open parcel toward the rank that asked, `to`.
+-- The answer to the next query of q was refused: in r, the conveyor of replies, the open parcel
+-- toward the rank that asked, `to`, is full.
 pub record RefusesAnswer (cap to : ℕ) (q r : State) : Type 0 where
   pub query : Item
   pub next : pull_from q (lowest_unread q) ≡ Some (to, query)
@@ -70,7 +71,7 @@ pub record RefusesAnswer (cap to : ℕ) (q r : State) : Type 0 where
   pub full : standing_toward r to ≡ cap
 
 -- What a rank that began in the state `start` has heard of p ranks: `came e d` are the replies of
--- rank d in epoch e, of which there is one, number 0.
+-- rank d in epoch e; the only epoch is 0.
 -- lines: for each rank the numbers of the queries to it that have no reply yet.
 -- small: a reply is a number of 64 bits.
 pub record HasHeard {S : Type 0} (T : Talk S) (start : S) (p : ℕ) (asker : S) (lines : List (List ℕ))

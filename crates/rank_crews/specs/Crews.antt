@@ -4,9 +4,8 @@ use Rattle.std.specs.List.{list_all}
 use Rattle.list_laws.specs.Lists.{EachAt}
 use Rattle.rank_crews.specs.Runs.{AllRan}
 
--- The ranks of crew k of `count`, if those at hand are the ranks from number r on: each whose
--- number leaves k when divided by count. The last of the list has the lowest number, and is turned
--- first.
+-- The ranks of crew k of `count`, among the ranks from number r on: those whose number is k modulo
+-- `count`. The last of the list has the lowest number, and is turned first.
 -- Of the ranks 0 to 4 in two crews, crew 1 has 3 and 1.
 abbrev pub crew_of : {S : Type 0} → ℕ → ℕ → ℕ → List S → List S
 crew_of count k r [] = []
@@ -17,7 +16,7 @@ pub record AreDealt {S : Type 0} (count r : ℕ) (ranks : List S) (crews : List 
   pub all : length crews ≡ count
   pub each : EachAt (λ k c. c ≡ crew_of count k r ranks) crews
 
--- And were then turned until their runs were over.
+-- They were then turned until their runs were over.
 pub record HaveRun {S : Type 0} (ran : S → S → Type 0) (over : S → Bool) (count r : ℕ) (ranks : List S)
     (crews : List (List S)) : Type 0 where
   pub all : length crews ≡ count

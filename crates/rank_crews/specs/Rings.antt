@@ -1,4 +1,4 @@
--- How a rank goes to its thread.
+-- How a rank is handed to its thread.
 use Rattle.std.specs.Prelude.{◌≡◌, [], ◌∷◌}
 use Rattle.rtrb.specs.declared.consumer.Consumer.{Consumer}
 use Rattle.rtrb.specs.Ring.{received, SameConsumer}

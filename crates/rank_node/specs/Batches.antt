@@ -1,4 +1,4 @@
--- What a node makes of a batch of items that came.
+-- How a node takes in a batch of items that came.
 use Rattle.std.specs.Prelude.{◌≡◌, ℕ, ◌+◌, ◌-◌, ◌^◌, length, min, Bool, true, false, List, map, if◌then◌else◌}
 use Rattle.std.specs.List.{fold}
 use Rattle.bale_items.specs.declared.item.Item.{Item}
@@ -10,7 +10,7 @@ use Rattle.hop_core.specs.State.{State, in_at}
 use Rattle.round_program.specs.Rules.{Rules}
 use Rattle.round_program.specs.Batches.{all_taken_in}
 
--- Entries of a link into a rank, by its number, as items each with its sender, which the tag tells.
+-- Entries of a rank's link in, by its number, as items, each with its sender, which its tag gives.
 abbrev pub from_link : Site → ℕ → List Entry → List (ℕ × Item)
 from_link site number entries =
     map (λ e. (sender_of site.dims e.tag (length site.dims) (neighbour site.dims site.rank number), e.item)) entries
@@ -28,9 +28,9 @@ from_sender sender entries = map (λ e. (sender, e.item)) entries
 abbrev pub sum_after : ℕ → List (ℕ × Item) → ℕ
 sum_after sum came = fold (λ n e. min (n + e.1.a) (2 ^ 64 - 1)) sum came
 
--- What a node makes of items that it pulled. In an epoch of votes it adds their first fields to its
+-- How a node takes in items that it pulled. In an epoch of votes it adds their first fields to its
 -- sum. In an epoch of work the program absorbs those that it may be sent, unless memory ran out
--- by then: a spoiled node drops what comes.
+-- before: a spoiled node drops what comes.
 pub record TakesEach {S : Type 0} (R : Rules S) (voting : Bool) (prog prog' : S) (came : List (ℕ × Item)) (sum sum' : ℕ)
     (spoiled spoiled' : Bool) : Type 0 where
   pub valid : R.valid prog

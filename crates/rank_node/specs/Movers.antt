@@ -1,4 +1,4 @@
--- What carries a rank's items, whichever transport it is.
+-- A rank's transport, conveyor or exstack.
 use Rattle.std.specs.Prelude.{◌≡◌, ◌≢◌, ℕ, ◌+◌, ◌<◌, ⊤, Bool, false, [], length, List}
 use Rattle.item_buffer.specs.Contents.{Shipped}
 use Rattle.route_tensor.specs.Link.{links}
@@ -24,7 +24,7 @@ use Rattle.rank_node.specs.declared.mover.Mover.TheVariants as mover
 use Rattle.rank_node.specs.declared.via.Via.{Via}
 use Rattle.rank_node.specs.declared.via.Via.TheVariants.{Convey, Exstack}
 
--- A rank's conveyor, or its exstack for parcels of so many entries.
+-- A rank's conveyor, or its exstack with its capacity of a parcel.
 pub data MoverState : Type 0 where
   Conveying : State → MoverState
   Stacking : ℕ → Stack → MoverState
@@ -43,7 +43,7 @@ abbrev pub manner_of : Via → Bool → Manner
 manner_of Convey steady = ByConveyor steady
 manner_of Exstack steady = ByExstack
 
--- The shape of a log that is filled in such a manner.
+-- The shape of a log that is filled in this manner.
 abbrev pub IsLogShape : Manner → ℕ → List Shipped → Type 0
 IsLogShape (ByConveyor steady) cap log = IsConveyorShape steady cap log
 IsLogShape ByExstack cap log = IsExstackShape log
@@ -69,17 +69,17 @@ abbrev pub has_completed : MoverState → Bool
 has_completed (Conveying c) = is_complete c.phase
 has_completed (Stacking cap x) = is_all_done x.stage
 
--- An exstack is one for parcels of so many entries.
+-- An exstack has this capacity.
 abbrev pub HasCap : ℕ → MoverState → Type 0
 HasCap cap (Conveying c) = ⊤
 HasCap cap (Stacking k x) = k ≡ cap
 
--- How many entries lie in a conveyor's inbox of a link.
+-- How many entries are in a conveyor's inbox of a link.
 abbrev pub lying : MoverState → ℕ → ℕ
 lying (Conveying c) l = length (in_of c l).parcel.untaken
 lying (Stacking cap x) l = 0
 
--- The rank's part of the exchange machine, over a port with these lists.
+-- The rank's part of the exchange machine, over a port with these logs.
 abbrev pub part_in : MoverState → Logs → Logs → Part
 part_in (Conveying c) sent got = conveyor_parts.part_of (buffers_of c) sent got
 part_in (Stacking cap x) sent got = exstack_parts.stack_part x sent got
@@ -89,7 +89,7 @@ abbrev pub AllRead : State → Type 0
 AllRead c = (l : ℕ) → l < links c.dims → reader_at c.dims l ≡ c.rank → hop_at c.dims l ≡ length c.dims
     → (in_of c l).parcel.untaken ≡ []
 
--- A conveyor between two turns, over a port with these lists.
+-- A conveyor between two turns, over a port with these logs.
 pub record IsConveying (c : State) (sent got : Logs) : Type 0 where
   pub begun : c.phase ≢ Dormant
   pub working : c.done ≡ false → c.phase ≡ Working
@@ -102,7 +102,7 @@ pub record IsStacking (cap : ℕ) (x : Stack) (sent got : Logs) : Type 0 where
   pub stack : IsStack cap x
   pub agrees : exstacks.StackAgrees x sent got
 
--- Either of them.
+-- The same of either transport.
 abbrev pub IsMoving : MoverState → Logs → Logs → Type 0
 IsMoving (Conveying c) sent got = IsConveying c sent got
 IsMoving (Stacking cap x) sent got = IsStacking cap x sent got
@@ -112,7 +112,7 @@ abbrev pub IsStarting : MoverState → Type 0
 IsStarting (Conveying c) = ⊤
 IsStarting (Stacking cap x) = x.stage ≡ Start
 
--- No inbox of a conveyor has an entry; the same entries as before lie in each.
+-- No inbox of a conveyor holds an entry; each holds the same entries as before.
 abbrev pub NoneUnread : MoverState → Type 0
 NoneUnread (Conveying c) = (l : ℕ) → (in_of c l).parcel.untaken ≡ []
 NoneUnread (Stacking cap x) = ⊤
@@ -123,7 +123,7 @@ SameUnread (Conveying c) (Stacking cap x) = ⊥
 SameUnread (Stacking cap x) (Conveying c) = ⊥
 SameUnread (Stacking cap x) (Stacking cap' x') = ⊤
 
--- A rank's mover that wasn't used, and has begun its first epoch.
+-- A rank's unused transport, which has begun its first epoch.
 pub record IsNew (dims : List ℕ) (rank : ℕ) (manner : Manner) (m : MoverState) : Type 0 where
   pub same_dims : mover_dims m ≡ dims
   pub same_rank : mover_rank m ≡ rank
@@ -136,7 +136,7 @@ pub record IsNew (dims : List ℕ) (rank : ℕ) (manner : Manner) (m : MoverStat
       → ((part_in m (λ l. []) (λ l. [])).pushed e d ≡ []) × ((part_in m (λ l. []) (λ l. [])).pulled e d ≡ [])
   pub unread : NoneUnread m
 
--- One that has gone on to the next epoch.
+-- The step of a transport to its next epoch.
 pub record GoesToNextEpoch (m m' : MoverState) : Type 0 where
   pub same_dims : mover_dims m' ≡ mover_dims m
   pub same_rank : mover_rank m' ≡ mover_rank m

@@ -1,4 +1,4 @@
--- What a turn leaves of a node, whatever carries its items.
+-- What a turn does to a node, over either transport.
 use Rattle.std.specs.Prelude.{◌≡◌, ℕ, ⊤, ◌+◌, ◌<◌, ◌≤◌, ◌==◌, Bool, true, false, List, ◌++◌, length}
 use Rattle.std.specs.List.{flat_map}
 use Rattle.item_buffer.specs.Contents.{Shipped}
@@ -23,7 +23,7 @@ use Rattle.rank_node.specs.Nodes.{NodeState, IsNode}
 use Rattle.rank_node.specs.Pulls.{Handed, Fills}
 use Rattle.rank_node.specs.Stuck.{IsStuck}
 
--- A node that may turn over a port of its own, whose programs began in these states.
+-- A node that may turn over its own port, in a run whose programs began in these states.
 pub record MayTurn {P : Type 0} {cap : ℕ} {M : Type 0} (G : Ghosts P cap M) {S : Type 0} (R : Rules S) (n : NodeState S)
     (port : P) : Type 0 where
   pub same_dims : G.dims port ≡ mover_dims n.mover
@@ -32,7 +32,7 @@ pub record MayTurn {P : Type 0} {cap : ℕ} {M : Type 0} (G : Ghosts P cap M) {S
   pub node : IsNode R first n (G.sent port) (G.got port)
 
 -- kept: it is a node again.
--- sent_grows .. one_got: the lists only grow, and each by one parcel at most.
+-- sent_grows .. one_got: the logs only grow, each by one parcel at most.
 -- shape: what was posted is filled as this transport fills parcels.
 pub record AfterMoves {S : Type 0} (R : Rules S) (cap : ℕ) (n n' : NodeState S)
     (sent got sent' got' : Logs) : Type 0 where
@@ -52,12 +52,12 @@ pub record AfterMoves {S : Type 0} (R : Rules S) (cap : ℕ) (n n' : NodeState S
   pub shape : (l : ℕ) → l < links (mover_dims n.mover) → sender_at (mover_dims n.mover) l ≡ mover_rank n.mover
       → IsLogShape (manner_in n.mover) cap (sent l) → IsLogShape (manner_in n.mover) cap (sent' l)
 
--- What a turn over a conveyor leaves besides.
--- lies: an inbox holds at most what it held and what came.
--- at_push: the conveyor as its pushes left it, before it advanced, with no more in a parcel than it
--- holds.
--- pushed: what they made of it. They go on until the open parcel toward the next
--- item's receiver is full, or until no item is left.
+-- What a turn over a conveyor further does.
+-- lies: an inbox holds at most what it held and what came in.
+-- at_push: the conveyor after the turn's pushes, before it advanced; no parcel is over its
+-- capacity.
+-- pushed: what the pushes did. They go on until the open parcel toward the next item's receiver is
+-- full, or no item remains.
 -- done: the rank is done if and only if all its items are pushed.
 pub record LeavesAfterAdvance {S : Type 0} (R : Rules S) (cap : ℕ) (run run' : Running S) (c c' : State)
     (got got' : Logs) : Type 0 where
@@ -68,23 +68,23 @@ pub record LeavesAfterAdvance {S : Type 0} (R : Rules S) (cap : ℕ) (run run' :
   pub pushed : Handed cap (to_send R run'.prog run'.sends) c at_push run.next run'.next
   pub done : c'.done ≡ (run'.next == length (to_send R run'.prog run'.sends))
 
--- What a turn over an exstack leaves besides.
--- pushed: while the buffers are filled, what its pushes made of the exstack before it polled. They
--- go on until the buffer toward the next item's receiver is full, or until no item is left.
+-- What a turn over an exstack further does.
+-- pushed: while the buffers are being filled, what its pushes did before it polled. They go on
+-- until the buffer toward the next item's receiver is full, or no item remains.
 -- unpushed: in other stages nothing is pushed.
 pub record LeavesAfterPoll {S : Type 0} (R : Rules S) (cap : ℕ) (run run' : Running S) (x : Stack) : Type 0 where
   pub pushed : x.stage ≡ Filling
       → (at_push : Stack) × Fills cap (to_send R run'.prog run'.sends) x at_push run.next run'.next
   pub unpushed : (x.stage ≡ Filling → ⊥) → run'.next ≡ run.next
 
--- If a parcel of its round is still to be posted, the link is crowded, unless this turn
--- collected a parcel from it; if one is still to be collected, the link is idle.
+-- If a parcel of its round remains to be posted, the link is crowded, unless this turn collected a
+-- parcel from it; if one remains to be collected, the link is idle.
 pub record WaitsFor (x x' : Stack) (got got' : Logs) (is_crowded is_idle : ℕ → Bool) : Type 0 where
   pub posts : (b : ℕ) → b < x.ranks → (stack_out_at x' b).due ≡ true → got' (stack_link_to x b) ≡ got (stack_link_to x b)
       → is_crowded (stack_link_to x b) ≡ true
   pub collects : (a : ℕ) → a < x.ranks → (stack_in_at x' a).due ≡ true → is_idle (stack_link_from x a) ≡ true
 
--- What pushes alone leave of an exstack's node.
+-- What pushes alone do to a node over an exstack.
 pub record AfterFill {S : Type 0} (R : Rules S) (cap : ℕ) (run run' : Running S) (x x' : Stack) : Type 0 where
   pub kept : (h : ℕ → S) (sent got : Logs) → IsNode R h (record { run = run; mover = Stacking cap x }) sent got
       → IsNode R h (record { run = run'; mover = Stacking cap x' }) sent got
@@ -92,22 +92,22 @@ pub record AfterFill {S : Type 0} (R : Rules S) (cap : ℕ) (run run' : Running 
   pub sends : run'.sends ≡ run.sends
   pub pushed : Fills cap (to_send R run'.prog run'.sends) x x' run.next run'.next
 
--- What a turn leaves of either.
+-- What a turn further does, over either transport.
 abbrev pub Leaves : {S : Type 0} → Rules S → ℕ → Running S → Running S → MoverState → MoverState → Logs → Logs → Type 0
 Leaves R cap run run' (Conveying c) (Conveying c') got got' = LeavesAfterAdvance R cap run run' c c' got got'
 Leaves R cap run run' (Conveying c) (Stacking k x) got got' = ⊥
 Leaves R cap run run' (Stacking k x) (Conveying c) got got' = ⊥
 Leaves R cap run run' (Stacking k x) (Stacking k' x') got got' = LeavesAfterPoll R cap run run' x
 
--- A link out whose parcel is left to be posted, since it is full or not empty on a steady conveyor,
--- is crowded.
+-- A link out whose parcel must be posted, since it is full or not empty on a steady conveyor, is
+-- crowded.
 abbrev pub DueIsCrowded : MoverState → (ℕ → Bool) → Type 0
 DueIsCrowded (Conveying c) is_crowded = (l : ℕ) → l < links c.dims → sender_at c.dims l ≡ c.rank
     → is_due c.cap c.steady false (out_of c l) ≡ true → is_crowded l ≡ true
 DueIsCrowded (Stacking cap x) is_crowded = ⊤
 
--- What a turn leaves undone that wanted no memory, and why: over a conveyor, if it moved no
--- parcel.
+-- What a turn that didn't run out of memory left undone, and why; over a conveyor, for a turn that
+-- moved no parcel.
 abbrev pub Waits : {S : Type 0} → Rules S → Running S → MoverState → MoverState → Logs → Logs → Logs → Logs → (ℕ → Bool)
     → (ℕ → Bool) → Type 0
 Waits {S} R run (Conveying c) (Conveying c') sent got sent' got' is_crowded is_idle =

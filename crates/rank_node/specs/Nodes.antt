@@ -1,4 +1,4 @@
--- A node: a program and what carries its rank's items, over many epochs.
+-- A node: a program and its rank's transport, over many epochs.
 use Rattle.std.specs.Prelude.{◌≡◌, ℕ, ◌<◌, ⊤, false, length}
 use Rattle.route_tensor.specs.Grid.{ranks}
 use Rattle.port_bank.specs.Logs.{Logs}
@@ -9,20 +9,20 @@ use Rattle.rank_node.specs.Movers.MoverState.{Conveying, Stacking}
 use Rattle.rank_node.specs.Sending.{is_voting, to_send}
 use Rattle.rank_node.specs.Runs.{Running, HasPassed, IsWithinEpoch}
 
--- What contracts see of a node: how far its run is, and what carries its rank's items.
+-- What contracts see of a node: how far its run has come, and its transport.
 pub record NodeState (S : Type 0) : Type 0 where
   pub run : Running S
   pub mover : MoverState
 
--- In a proceed round that a rank began before it was done something is left to push, as there was
--- when the round began.
+-- In a proceed round that a rank began before it was done, some item remains to be pushed, as when
+-- the round began.
 abbrev pub IsPaced : {S : Type 0} → Rules S → Running S → MoverState → Type 0
 IsPaced R run (Conveying c) = ⊤
 IsPaced R run (Stacking cap x) = x.stage ≡ Proceeding → x.done ≡ false
     → run.next < length (to_send R run.prog run.sends)
 
--- A node between two turns, over a port with these lists; h m is the state of its program as round
--- m began, or the state that it would have had with memory.
+-- A node between two turns, over a port with these logs; h m is the state of its program at the
+-- start of round m, or the state that it would have had if memory hadn't run out.
 pub record IsNode {S : Type 0} (R : Rules S) (h : ℕ → S) (n : NodeState S) (sent got : Logs) : Type 0 where
   pub moving : IsMoving n.mover sent got
   pub paced : IsPaced R n.run n.mover

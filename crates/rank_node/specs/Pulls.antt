@@ -1,4 +1,4 @@
--- What small steps of a turn leave.
+-- What the parts of a turn do.
 use Rattle.std.specs.Prelude.{◌≡◌, ◌≢◌, ℕ, ◌<◌, ◌≤◌, length, Bool, List, slice_get, Some}
 use Rattle.bale_items.specs.declared.item.Item.{Item}
 use Rattle.port_bank.specs.Machine.{Part}
@@ -19,7 +19,7 @@ use Rattle.rank_node.specs.declared.sends.Sends.{Sends}
 use Rattle.rank_node.specs.Sending.{is_voting}
 use Rattle.rank_node.specs.Runs.{IsPushed, HasTaken}
 
--- After pushes: more of the items are pushed, in the current epoch, and nothing else has changed.
+-- After pushes: more of the items are pushed, in the current epoch, and nothing else changed.
 pub record PushedOn (items : List (ℕ × Item)) (p next next' : ℕ) (part part' : Part) : Type 0 where
   pub epoch : part'.epoch ≡ part.epoch
   pub done : part'.done ≡ part.done
@@ -27,15 +27,15 @@ pub record PushedOn (items : List (ℕ × Item)) (p next next' : ℕ) (part part
   pub elsewhere : (e d : ℕ) → e ≢ part.epoch → part'.pushed e d ≡ part.pushed e d
   pub pushed : IsPushed items p next part → IsPushed items p next' part'
 
--- A link in has ended if it had.
+-- A link in that had ended still has.
 abbrev pub SameEnds : State → State → Type 0
 SameEnds old new = (l : ℕ) → (in_of new l).ended ≡ (in_of old l).ended
 
--- No inbox holds more than it did.
+-- No inbox holds more than before.
 abbrev pub NoMore : State → State → Type 0
 NoMore old new = (l : ℕ) → length (in_of new l).parcel.untaken ≤ length (in_of old l).parcel.untaken
 
--- What pulls leave of a conveyor, whose items are summed or absorbed.
+-- What pulls do to a conveyor; their items are summed or absorbed.
 pub record Takes {S : Type 0} (R : Rules S) (voting : Bool) (old c : State) (prog prog' : S) (sum sum' : ℕ)
     (spoiled spoiled' : Bool) : Type 0 where
   pub begun : c.phase ≢ Dormant
@@ -49,8 +49,8 @@ pub record Takes {S : Type 0} (R : Rules S) (voting : Bool) (old c : State) (pro
       → HasTaken R (ranks old.dims) rank h round sends next prog sum spoiled (part_of (buffers_of old) sent got)
       → HasTaken R (ranks old.dims) rank h round sends next prog' sum' spoiled' (part_of (buffers_of c) sent got)
 
--- What pushes leave of a conveyor: of the items from number `from` on those below `next` are
--- pushed. If one is left, the open parcel toward its receiver is as full as it can be.
+-- What pushes do to a conveyor: of the items from number `from` on those below `next` are pushed.
+-- If one remains, the open parcel toward its receiver is full.
 pub record Handed (cap : ℕ) (es : List (ℕ × Item)) (old c : State) (from next : ℕ) : Type 0 where
   pub forward : from ≤ next
   pub low : next ≤ length es
@@ -61,8 +61,8 @@ pub record Handed (cap : ℕ) (es : List (ℕ × Item)) (old c : State) (from ne
   pub refused : (to : ℕ) (x : Item) → slice_get es next ≡ Some (to, x) → standing_toward c to ≡ cap
   pub receiver : (to : ℕ) (x : Item) → slice_get es next ≡ Some (to, x) → to < ranks c.dims
 
--- What pushes leave of an exstack: of the items from number `from` on those below `next` are
--- pushed. If one is left, the buffer toward its receiver is full.
+-- What pushes do to an exstack: of the items from number `from` on those below `next` are pushed.
+-- If one remains, the buffer toward its receiver is full.
 pub record Fills (cap : ℕ) (es : List (ℕ × Item)) (old x : Stack) (from next : ℕ) : Type 0 where
   pub forward : from ≤ next
   pub low : next ≤ length es
@@ -73,7 +73,7 @@ pub record Fills (cap : ℕ) (es : List (ℕ × Item)) (old x : Stack) (from nex
   pub refused : (to : ℕ) (y : Item) → slice_get es next ≡ Some (to, y) → headroom_of cap (stack_out_at x to) ≡ 0
   pub none : next ≡ from → x.outs ≡ old.outs
 
--- What pops leave of an exstack, whose items are summed or absorbed.
+-- What pops do to an exstack; their items are summed or absorbed.
 pub record Pops {S : Type 0} (R : Rules S) (voting : Bool) (old x : Stack) (prog prog' : S) (sum sum' : ℕ)
     (spoiled spoiled' : Bool) : Type 0 where
   pub same : x ≡ record old { ins = x.ins; popped = x.popped }

@@ -1,4 +1,4 @@
--- Pushes toward ranks, into a conveyor or into an exstack.
+-- Pushes into a conveyor or into an exstack.
 use Rattle.std.specs.Prelude.{◌≡◌, ℕ, ◌<◌, ◌≤◌, Bool, true, false, List, length, None}
 use Rattle.std.specs.List.{All}
 use Rattle.bale_items.specs.declared.item.Item.{Item}
@@ -20,16 +20,15 @@ pub record MayPush (c : State) (to : ℕ) : Type 0 where
   pub working : c.phase ≡ Working
   pub not_done : c.done ≡ false
 
--- Of these items those from number `from` on may be pushed into it: each is for a rank that there
--- is, and a rank that is done has none left.
+-- The items from number `from` on may be pushed into it: each is for an existing rank, and a rank
+-- that is done has none left.
 pub record MayPushOn (es : List (ℕ × Item)) (c : State) (from : ℕ) : Type 0 where
   pub low : from ≤ length es
   pub receivers : All (λ e. e.0 < ranks c.dims) es
   pub working : c.done ≡ false → c.phase ≡ Working
   pub all_pushed : c.done ≡ true → from ≡ length es
 
--- What a push into a conveyor leaves. One that was refused left the open parcel toward the rank as
--- full as it can be.
+-- What a push into a conveyor does. If it is refused, the open parcel toward the rank is full.
 pub record AfterConveyorPush (cap : ℕ) (old : State) (to : ℕ) (x : Item) (accepted : Bool) (c : State) : Type 0 where
   pub same : c ≡ record old { outs = c.outs; pulled = c.pulled }
   pub kept : conveyors.KeepsAgreement old c
@@ -43,14 +42,14 @@ pub record MayFill (x : Stack) (to : ℕ) : Type 0 where
   pub filling : x.stage ≡ Filling
   pub not_done : x.done ≡ false
 
--- And of these those from number `from` on.
+-- The items from number `from` on may be pushed into it.
 pub record MayFillOn (es : List (ℕ × Item)) (x : Stack) (from : ℕ) : Type 0 where
   pub low : from ≤ length es
   pub receivers : All (λ e. e.0 < ranks (stack_dims x)) es
   pub filling : x.stage ≡ Filling
   pub all_pushed : x.done ≡ true → from ≡ length es
 
--- What a push into an exstack leaves. One that was refused found the buffer toward the rank full.
+-- What a push into an exstack does. If it is refused, the buffer toward the rank is full.
 pub record FillsOne (cap : ℕ) (old : Stack) (to : ℕ) (y : Item) (accepted : Bool) (x : Stack) : Type 0 where
   pub kept : exstacks.StackKeepsAgreement old x
   pub pushed : accepted ≡ true → x ≡ pushed_on old y to

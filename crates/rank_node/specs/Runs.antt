@@ -1,4 +1,4 @@
--- What a rank has done in a run of many epochs, against its part of the exchange machine.
+-- What a rank has done in a run of many epochs, related to its part of the exchange machine.
 use Rattle.std.specs.Prelude.{◌≡◌, ℕ, zero, suc, ◌+◌, ◌-◌, ◌*◌, ◌^◌, ◌<◌, ◌≤◌, min, Bool, true, false, List, [], length, take}
 use Rattle.std.specs.Prelude.{if◌then◌else◌}
 use Rattle.bale_items.specs.declared.item.Item.{Item}
@@ -16,14 +16,14 @@ use Rattle.rank_node.specs.Sending.{to_send, is_voting, epoch_of, spoiled_vote}
 abbrev pub part_lists : Part → PairLists
 part_lists part = record { pushed = part.pushed; pulled = part.pulled }
 
--- The first so many of some items to send were pushed: toward each of p ranks, those that go to it.
+-- The first `next` of some items to send were pushed: toward each of p ranks, those that go to it.
 -- Of the items (1,x), (0,y), (1,z), of which two are pushed, rank 1 was sent [x] and rank 0 [y].
 abbrev pub IsPushed : List (ℕ × Item) → ℕ → ℕ → Part → Type 0
 IsPushed items p next part = (d : ℕ) → d < p → part.pushed part.epoch d ≡ items_of d (take next items)
 
 -- What a node keeps besides its conveyor: its program, the round, what it sends in this epoch and
--- how many of those items are pushed, the sum of the votes that came, and whether memory ran
--- out for its program.
+-- how many of those items are pushed, the sum of the votes that came, and whether memory ran out
+-- for its program.
 pub record Running (S : Type 0) : Type 0 where
   pub prog : S
   pub round : ℕ
@@ -32,7 +32,7 @@ pub record Running (S : Type 0) : Type 0 where
   pub sum : ℕ
   pub spoiled : Bool
 
--- the same, as the code keeps it
+-- The same, as the code keeps it.
 abbrev pub running : {S : Type 0} → Run S → Running S
 running r = record {
   prog = r.prog.value;
@@ -54,12 +54,12 @@ round_after b (suc m) = min (round_after b m + 1) (2 ^ 64 - 1)
 abbrev pub from_round : {S : Type 0} → ℕ → Rules S → Rules S
 from_round b R = record R { goes_on = λ shape m votes. R.goes_on shape (round_after b m) votes }
 
--- The epochs that are over for a rank of p ranks; h m is the state of its program as round m began,
--- or the state that it would have had with memory.
+-- The epochs that are over for a rank of p ranks; h m is the state of its program at the start of
+-- round m, or the state that it would have had if memory hadn't run out.
 -- epoch: round m works in epoch 2m and votes in epoch 2m + 1.
--- own: it knows of itself what the theorem over all rounds asks; goes: each round followed because
--- the program goes on.
--- few: a node has so many rounds at most.
+-- own: it knows of itself what the theorem over all rounds requires; goes: each round followed
+-- because the program goes on.
+-- few: a node has at most 2^63 rounds.
 -- emitted_front, one_vote: it pushed at most what its program emits, and at most one vote toward
 -- each rank.
 -- ahead: nothing was pushed or pulled in a later epoch.
@@ -78,15 +78,15 @@ pub record HasPassed {S : Type 0} (R : Rules S) (p rank : ℕ) (h : ℕ → S) (
   pub one_vote : (m d : ℕ) → d < p → 2 * m + 1 < part.epoch → length (part.pushed (2 * m + 1) d) ≤ 1
   pub ahead : (e d : ℕ) → part.epoch < e → (part.pushed e d ≡ []) × (part.pulled e d ≡ [])
 
--- The epoch that it is in.
--- next_low, all_pushed, pushed: the first so many of the items to send are pushed; all of them
--- if the rank is done.
--- nothing: it leaves out its emissions only if memory ran out.
--- works: unless memory ran out, the program is in the state that the pulls of the round make of
--- h m.
+-- The current epoch.
+-- next_low, all_pushed, pushed: a prefix of the items to send is pushed; all of them if the rank is
+-- done.
+-- nothing: it omits its emissions only if memory ran out.
+-- works: unless memory ran out, the program is in the state that the pulls of the round make of h
+-- m.
 -- vote: it votes what that state votes, and the greatest vote if memory ran out.
--- emitted_all: if it votes what its program votes, it has pushed all that the program emits in
--- the round.
+-- emitted_all: if it votes what its program votes, it has pushed all that the program emits in the
+-- round.
 -- hears: it has summed the votes that came.
 pub record IsWithinEpoch {S : Type 0} (R : Rules S) (p : ℕ) (h : ℕ → S) (run : Running S) (part : Part) : Type 0 where
   pub next_low : run.next ≤ length (to_send R run.prog run.sends)

@@ -1,4 +1,4 @@
--- What a turn over a conveyor leaves that moved no parcel, and why.
+-- A turn over a conveyor that moved no parcel, and why.
 use Rattle.std.specs.Prelude.{◌≡◌, ◌⊎◌, ℕ, ◌<◌, ◌≤◌, Bool, true, false, List, [], length, slice_get, Some}
 use Rattle.bale_items.specs.declared.item.Entry.{Entry}
 use Rattle.route_tensor.specs.Link.{links}
@@ -12,19 +12,19 @@ use Rattle.convey.specs.Conveyors.{AgreesWith}
 use Rattle.convey.specs.Arrived.{HasArrived}
 use Rattle.convey.specs.Due.{Wants, IsOver, NextIs}
 
--- Of a rank's links out there is one that is crowded.
+-- Some link out of a rank is crowded.
 pub record HasCrowded (dims : List ℕ) (rank : ℕ) (is_crowded : ℕ → Bool) : Type 0 where
   pub link : ℕ
   pub below : link < links dims
   pub sender : sender_at dims link ≡ rank
   pub crowded : is_crowded link ≡ true
 
--- A turn that moved no parcel on a conveyor took it from c to c'. `before` is the conveyor just
--- before the turn's advance, and `after` just after it: pushes fill open parcels before it, and
--- pulls empty inboxes of the last hop after it.
--- lies: of each inbox the end is left.
+-- A turn that moved no parcel took a conveyor from c to c'. `before` is the conveyor just before
+-- the turn's advance, and `after` just after it: pushes fill open parcels before it, and pulls
+-- empty inboxes of the last hop after it.
+-- lies: what remains of each inbox is its end.
 -- idle: if an inbox wanted a parcel, its link is idle.
--- stopped: where entries are left in an inbox below the last hop, the next link of the first one is
+-- stopped: if entries remain in an inbox below the last hop, the next link of the first one is
 -- crowded.
 -- closing: a link out that may be closed, and isn't, is crowded.
 -- over: if the epoch is over, the conveyor is complete.

@@ -1,4 +1,4 @@
--- The laws of what turns leave of the ranks of a crew are those of its ranks one by one.
+-- If the relation obeys the laws for single ranks, it does for lists of ranks.
 use Rattle.std.proofs.Common.{◌≡◌, slice_get, Some, refl, subst, ◌∙◌, arith}
 use Rattle.list_laws.proofs.Lists.{find, within, get_once}
 use Rattle.rank_crews.specs.Runs.{RanLaws, AllRan}

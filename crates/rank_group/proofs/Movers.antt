@@ -27,7 +27,7 @@ use Rattle.convey.proofs.OneRank.{OneRank, one_rank_of, starting-own, ending-own
 use Rattle.exstack.specs.declared.stage.Stage.{Stage}
 use Rattle.exstack.specs.declared.stage.Stage.TheVariants.{AllDone}
 use Rattle.exstack.specs.Links.{no_stack_out, no_stack_in}
-use Rattle.exstack.specs.State.{Stack}
+use Rattle.exstack.specs.State.{Stack, is_all_done}
 use Rattle.exstack.specs.State.{stack_dims}
 use Rattle.exstack.specs.State.{stack_out_at, stack_in_at, number, stack_link_to, stack_link_from, is_proceeding, is_exchanging}
 use Rattle.exstack.specs.Cycles.{items, entries_sent}

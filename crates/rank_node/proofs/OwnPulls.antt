@@ -30,7 +30,7 @@ use Rattle.convey.specs.Parts as conveyor_parts
 use Rattle.exstack.specs.declared.stage.Stage.{Stage}
 use Rattle.exstack.specs.declared.stage.Stage.TheVariants.{Start, Proceeding, Filling, Exchanging, Full, AllDone}
 use Rattle.exstack.specs.Links.{no_stack_in, no_stack_out}
-use Rattle.exstack.specs.State.{Stack, stack_out_at, stack_in_at, stack_link_to, may_read}
+use Rattle.exstack.specs.State.{Stack, stack_out_at, stack_in_at, stack_link_to, may_read, is_all_done}
 use Rattle.exstack.specs.Cycles.{odd_ones, entries_sent, entries_exchanged, items}
 use Rattle.exstack.specs.Agreement.{AgreesIn}
 use Rattle.exstack.specs.Parts as exstack_parts

@@ -103,8 +103,8 @@ ReportsBy false c s made transcripts = ReportsTable (IsTable c.task (ranks made.
 unfoldable pub ReportsCommand : Bool → Command → Subject → List ClosedRound → Type 0
 ReportsCommand serial c s transcripts = ReportsBy (by_asking c) c s (made_for serial c) transcripts
 
--- `notified` holds of the turns of each rank, by the rank's number and its own, counted from 0: of at
--- least as many as a link of the first transcript ended epochs.
+-- The gate was notified of as many turns of each rank as a link of the first transcript ended
+-- epochs: `notified r m` for turn m of rank r, counted from 0.
 -- For histo on 4 ranks, which has one round and so two epochs: of two turns of each rank.
 unfoldable pub NotifiedOfEpochs : List ℕ → (ℕ → ℕ → Bool) → List ClosedRound → Type 0
 NotifiedOfEpochs dims notified [] = Unit {0}

@@ -87,8 +87,8 @@ pub record TakesFromHop (dims : List ℕ) (h : ℕ) (ins ins' : List In) : Type 
 abbrev pub waiting : List In → ℕ
 waiting ins = sum_by (λ x. length x.parcel.untaken) ins
 
--- The next link of an entry that came to rank r on link in number i: the number of its link out, and
--- the entry with its next tag.
+-- The next link of an entry that came to rank r on link in number i: the number of its link out;
+-- and the entry with its next tag.
 abbrev pub next_out : List ℕ → ℕ → ℕ → Entry → ℕ
 next_out dims r i e = (passed_on (about dims r i) e.tag).out
 

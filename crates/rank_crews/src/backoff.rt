@@ -1,11 +1,10 @@
 //! When a worker without progress yields its processor, and when it calls the fallback.
-//!
-//! Time is measured in turns: each worker reports its own to a count that all share, so what the others
-//! turned while a worker had yielded is how long it was away. A worker spins for some 15
+//! Time is measured in turns: each worker reports its own to a shared count, so the turns that the
+//! others made while a worker had yielded are how long it was away. A worker spins for some 15
 //! microseconds before it yields. On an idle machine a yield takes a microsecond, so the others
 //! make most of their turns while it spins. If other work has the processor, a yield takes
-//! milliseconds, and they make nearly all of their turns while it is away, also if they have to
-//! share their processors as well.
+//! milliseconds, and the others make nearly all of their turns while it is away, even if they share
+//! their processors too.
 
 use crate::gate::Gate;
 use crate::seated::GateLog;

@@ -19,8 +19,8 @@ impl GateLog for Brand {
 /// A rank that sits at its ports and is polled until its run is over. Whoever polls it knows
 /// nothing of the other ranks.
 ///
-/// `ran notified x y` says that turns took a rank from x to y, and that `notified` holds of the rank and
-/// the number of each of them; `turns` counts all turns up to some moment.
+/// `ran notified x y` says that turns took a rank from x to y, and that `notified` holds of the
+/// rank and the number of each of them; `turns` counts all turns up to some moment.
 ///
 /// | Call | Needs | Answer |
 /// |---|---|---|

@@ -1,5 +1,5 @@
--- The logs of all links over one bank: what holds of them, how a rank's turn lets them grow, and how
--- much has moved.
+-- The logs of all links over one bank: what holds of them, how a rank's turn lets them grow, and
+-- how much has moved.
 use Rattle.std.specs.Prelude.{◌≡◌, ℕ, ◌+◌, ◌-◌, ◌<◌, ◌≤◌, List, [], length}
 use Rattle.std.specs.List.{flat_map}
 use Rattle.bale_items.specs.declared.item.Entry.{Entry}
@@ -35,8 +35,8 @@ pub record OwnLogsGrow (dims : List ℕ) (r : ℕ) (sent got sent' got' : Logs) 
   pub one_sent : (l : ℕ) → l < links dims → sender_at dims l ≡ r
       → length (starting_at dims r sent' l) ≤ length (starting_at dims r sent l) + 1
 
--- How much has moved over a link whose reader holds `inbox l` entries: parcels posted and collected,
--- and entries that the reader took.
+-- How much has moved over a link whose reader holds `inbox l` entries: parcels posted and
+-- collected, and entries that the reader took.
 -- With two parcels posted, one of them, of three entries, collected, and two of these still in the
 -- inbox, it is 2 + 1 + 1 = 4.
 abbrev pub moved_over : Logs → Logs → (ℕ → ℕ) → ℕ → ℕ

@@ -7,6 +7,7 @@ pub mod Shapes
 pub mod Round
 pub mod Port
 pub mod Frames
+pub mod PortCalls
 pub mod PassedParcels
 pub mod Ring
 pub mod Plain

@@ -7,7 +7,7 @@ use Rattle.item_buffer.specs.Contents.{Shipped}
 use Rattle.route_tensor.specs.Ends.{hop_at}
 use Rattle.route_tensor.specs.Tag.{IsFair}
 use Rattle.route_tensor.specs.Neighbour.{out_index, in_index}
-use Rattle.port_bank.specs.declared.port.Port.{Ghosts}
+use Rattle.port_bank.specs.Port.{PortView, is_crowded, is_idle}
 use Rattle.port_bank.specs.Logs.{Logs, lasts_in}
 use Rattle.port_bank.specs.Shapes.{IsFilled, IsConveyorShape}
 use Rattle.port_bank.specs.Flow.{hop_link}
@@ -120,11 +120,11 @@ new_agrees st n m outs ins epoch pulled =
 
 -- what moving on leaves, in the groups of an advance, where mid is the state before the phase
 -- settles
-module _ {P : Type 0} {cap : ℕ} {M : Type 0} (G : Ghosts P cap M) (old mid : State) (told : Bool) (p q : P)
-    (k : MovesOn old mid told (G.sent p) (G.sent q) (G.got p) (G.got q) (G.noted p) (G.noted q) (G.idle q)) where
-  pub lists_grow : old.cap ≡ cap → ListsGrow G old p q
+module _ (cap : ℕ) (old mid : State) (told : Bool) (p q : PortView)
+    (k : MovesOn old mid told p.sent q.sent p.got q.got p.noted q.noted (is_idle q)) where
+  pub lists_grow : old.cap ≡ cap → ListsGrow cap old p q
   lists_grow e =
-      let fills : (l : ℕ) (more : List Shipped) → G.sent q l ≡ G.sent p l ++ more → IsConveyorShape old.steady cap more = λ l more is.
+      let fills : (l : ℕ) (more : List Shipped) → q.sent l ≡ p.sent l ++ more → IsConveyorShape old.steady cap more = λ l more is.
       subst (λ n. IsConveyorShape old.steady n more) e (k.goes_on.fills l more is) in
       record {
         sent_grows = k.goes_on.sent_grows;
@@ -134,8 +134,8 @@ module _ {P : Type 0} {cap : ℕ} {M : Type 0} (G : Ghosts P cap M) (old mid : S
         fills = fills;
         shape = λ l before.
             let b = k.goes_on.sent_grows l in
-            subst (IsConveyorShape old.steady cap) (sym b.is) (All-append (λ (s : Shipped). s.last ≡ false → IsFilled old.steady cap s) (G.sent p l) b.rest before (fills l b.rest b.is));
+            subst (IsConveyorShape old.steady cap) (sym b.is) (All-append (λ (s : Shipped). s.last ≡ false → IsFilled old.steady cap s) (p.sent l) b.rest before (fills l b.rest b.is));
       }
 
-  pub were_asked : (phase : Phase) (pulled : Option ℕ) → WereAsked G old (record mid { phase = phase; pulled = pulled }) p q
+  pub were_asked : (phase : Phase) (pulled : Option ℕ) → WereAsked old (record mid { phase = phase; pulled = pulled }) p q
   were_asked phase pulled = record { left = k.left; unasked = k.unasked; rose = k.asked; idle = k.idle; lies = k.lies }

@@ -14,7 +14,7 @@ use Rattle.route_tensor.specs.Neighbour.{hop_to, neighbour, link_to, link_from, 
 use Rattle.route_tensor.proofs.Links.{link_below}
 use Rattle.route_tensor.proofs.Ends.{sender_at-link, reader_at-link}
 use Rattle.route_tensor.proofs.Neighbours.{to_neighbour, from_neighbour, out_index-link_to, in_index-link_from, out_stands, in_stands}
-use Rattle.port_bank.specs.declared.port.Port.{Ghosts}
+use Rattle.port_bank.specs.Port.{PortView, is_idle}
 use Rattle.port_bank.specs.Logs.{Logs}
 use Rattle.port_bank.proofs.Frames.{port_at_first, port_then, ins_at_first, ins_then, outs_at_first, outs_then}
 use Rattle.list_laws.specs.Lists.{IsPrefix}
@@ -119,31 +119,30 @@ stays_more sent sent' sent'' f f' f'' p q a b l same =
     b l (same ∙ sym before) ∙ a l before
 
 -- what posts leave, and what collects leave, one after another
-module _ {P : Type 0} {cap : ℕ} {M : Type 0} (G : Ghosts P cap M) where
-  pub posts_first : (st : State) (p : P) → IsReady (G.dims p) (G.rank p) st (G.sent p) (G.got p) → LeftByPosts G st st p p
-  posts_first st p is = record { ready = is; goes_on = goes_on_refl st (G.sent p) (G.got p); ins = refl; idle = λ l same. refl; same_ins = ins_at_first; same_port = port_at_first }
+pub posts_first : (st : State) (p : PortView) → IsReady p.dims p.rank st p.sent p.got → LeftByPosts st st p p
+posts_first st p is = record { ready = is; goes_on = goes_on_refl st p.sent p.got; ins = refl; idle = λ l same. refl; same_ins = ins_at_first; same_port = port_at_first }
 
-  pub posts_then : (a b c : State) (p q r : P) → LeftByPosts G a b p q → LeftByPosts G b c q r → LeftByPosts G a c p r
-  posts_then a b c p q r x y = record {
-    ready = ready_at (G.dims p) (G.dims q) (G.rank p) (G.rank q) c (G.sent r) (G.got r) x.same_port.dims x.same_port.rank y.ready;
-    goes_on = goes_on_trans a b c (G.sent p) (G.sent q) (G.sent r) (G.got p) (G.got q) (G.got r) x.goes_on y.goes_on;
-    ins = y.ins ∙ x.ins;
-    idle = stays_more (G.sent p) (G.sent q) (G.sent r) (G.idle p) (G.idle q) (G.idle r) x.goes_on.sent_grows y.goes_on.sent_grows x.idle y.idle;
-    same_ins = ins_then x.same_ins y.same_ins;
-    same_port = port_then x.same_port y.same_port;
-  }
+pub posts_then : (a b c : State) (p q r : PortView) → LeftByPosts a b p q → LeftByPosts b c q r → LeftByPosts a c p r
+posts_then a b c p q r x y = record {
+  ready = ready_at p.dims q.dims p.rank q.rank c r.sent r.got x.same_port.dims x.same_port.rank y.ready;
+  goes_on = goes_on_trans a b c p.sent q.sent r.sent p.got q.got r.got x.goes_on y.goes_on;
+  ins = y.ins ∙ x.ins;
+  idle = stays_more p.sent q.sent r.sent (is_idle p) (is_idle q) (is_idle r) x.goes_on.sent_grows y.goes_on.sent_grows x.idle y.idle;
+  same_ins = ins_then x.same_ins y.same_ins;
+  same_port = port_then x.same_port y.same_port;
+}
 
-  pub collects_first : (st : State) (p : P) → IsReady (G.dims p) (G.rank p) st (G.sent p) (G.got p) → LeftByCollects G st st p p
-  collects_first st p is = record { ready = is; goes_on = goes_on_refl st (G.sent p) (G.got p); outs = refl; same_outs = outs_at_first; same_port = port_at_first }
+pub collects_first : (st : State) (p : PortView) → IsReady p.dims p.rank st p.sent p.got → LeftByCollects st st p p
+collects_first st p is = record { ready = is; goes_on = goes_on_refl st p.sent p.got; outs = refl; same_outs = outs_at_first; same_port = port_at_first }
 
-  pub collects_then : (a b c : State) (p q r : P) → LeftByCollects G a b p q → LeftByCollects G b c q r → LeftByCollects G a c p r
-  collects_then a b c p q r x y = record {
-    ready = ready_at (G.dims p) (G.dims q) (G.rank p) (G.rank q) c (G.sent r) (G.got r) x.same_port.dims x.same_port.rank y.ready;
-    goes_on = goes_on_trans a b c (G.sent p) (G.sent q) (G.sent r) (G.got p) (G.got q) (G.got r) x.goes_on y.goes_on;
-    outs = y.outs ∙ x.outs;
-    same_outs = outs_then x.same_outs y.same_outs;
-    same_port = port_then x.same_port y.same_port;
-  }
+pub collects_then : (a b c : State) (p q r : PortView) → LeftByCollects a b p q → LeftByCollects b c q r → LeftByCollects a c p r
+collects_then a b c p q r x y = record {
+  ready = ready_at p.dims q.dims p.rank q.rank c r.sent r.got x.same_port.dims x.same_port.rank y.ready;
+  goes_on = goes_on_trans a b c p.sent q.sent r.sent p.got q.got r.got x.goes_on y.goes_on;
+  outs = y.outs ∙ x.outs;
+  same_outs = outs_then x.same_outs y.same_outs;
+  same_port = port_then x.same_port y.same_port;
+}
 
 -- Collecting: the first i links in were asked, and the others are as they were.
 pub record NotAsked (b c : State) (l : ℕ) (log log' : List Shipped) (at at' : ℕ) : Type 0 where

@@ -7,7 +7,7 @@ use Rattle.item_buffer.specs.Contents.{Shipped}
 use Rattle.list_laws.specs.Lists.{IsPrefix, Ends}
 use Rattle.route_tensor.specs.Link.{links}
 use Rattle.route_tensor.specs.Ends.{hop_at, sender_at, reader_at}
-use Rattle.port_bank.specs.declared.port.Port.{Ghosts}
+use Rattle.port_bank.specs.Port.{PortView, is_crowded, is_idle}
 use Rattle.port_bank.specs.Frames.{SamePort}
 use Rattle.port_bank.specs.Machine.{IsOwnStep}
 use Rattle.port_bank.specs.Shapes.{IsConveyorShape}
@@ -24,27 +24,27 @@ use Rattle.convey.specs.Progress.{progress_of, advance_step}
 
 -- The port is the conveyor's own: of its grid and its rank, and with lists that agree with its
 -- buffers.
-pub record IsAtPort {P : Type 0} {cap : ℕ} {M : Type 0} (G : Ghosts P cap M) (st : State) (port : P) : Type 0 where
-  pub same_dims : G.dims port ≡ st.dims
-  pub same_rank : G.rank port ≡ st.rank
-  pub agrees : AgreesWith st (G.sent port) (G.got port)
+pub record IsAtPort (st : State) (port : PortView) : Type 0 where
+  pub same_dims : port.dims ≡ st.dims
+  pub same_rank : port.rank ≡ st.rank
+  pub agrees : AgreesWith st port.sent port.got
 
 -- What any call at the port keeps: the conveyor agrees with it again, and both are those of the
 -- same rank.
-pub record KeepsPort {P : Type 0} {cap : ℕ} {M : Type 0} (G : Ghosts P cap M) (old new : State)
-    (port port' : P) : Type 0 where
-  pub agrees : AgreesWith new (G.sent port') (G.got port')
+pub record KeepsPort (old new : State)
+    (port port' : PortView) : Type 0 where
+  pub agrees : AgreesWith new port'.sent port'.got
   pub dims : new.dims ≡ old.dims
   pub rank : new.rank ≡ old.rank
-  pub same_port : SamePort G port port'
+  pub same_port : SamePort port port'
 
 -- The conveyor agrees with the port again, and is that of its rank, in the same epoch and done as
 -- told.
 -- begun: it isn't Dormant.
 -- step: the advance is a step of its part of the exchange machine.
-pub record StaysAtPort {P : Type 0} {cap : ℕ} {M : Type 0} (G : Ghosts P cap M) (told : Bool) (old new : State)
-    (port port' : P) : Type 0 where
-  pub agrees : AgreesWith new (G.sent port') (G.got port')
+pub record StaysAtPort (told : Bool) (old new : State)
+    (port port' : PortView) : Type 0 where
+  pub agrees : AgreesWith new port'.sent port'.got
   pub dims : new.dims ≡ old.dims
   pub rank : new.rank ≡ old.rank
   pub steady : new.steady ≡ old.steady
@@ -52,8 +52,8 @@ pub record StaysAtPort {P : Type 0} {cap : ℕ} {M : Type 0} (G : Ghosts P cap M
   pub done : new.done ≡ told
   pub begun : new.phase ≢ Dormant
   pub step : IsOwnStep (advance_step old.done told (is_complete new.phase))
-      (part_of (buffers_of old) (G.sent port) (G.got port)) (part_of (buffers_of new) (G.sent port') (G.got port'))
-  pub same_port : SamePort G port port'
+      (part_of (buffers_of old) port.sent port.got) (part_of (buffers_of new) port'.sent port'.got)
+  pub same_port : SamePort port port'
 
 -- What an answer tells of the phase after it: Complete, if and only if the epoch is over.
 pub record HasSettled (told : Bool) (new : State) (answer : Progress) : Type 0 where
@@ -66,35 +66,35 @@ pub record HasSettled (told : Bool) (new : State) (answer : Progress) : Type 0 w
 -- The lists only grow, each by one parcel at most, and the parcels posted are of the conveyor's
 -- shape: if it isn't steady, an epoch's entries travel in few parcels
 -- (`port_bank::few_parcels_law`).
-pub record ListsGrow {P : Type 0} {cap : ℕ} {M : Type 0} (G : Ghosts P cap M) (old : State)
-    (port port' : P) : Type 0 where
-  pub sent_grows : (l : ℕ) → IsPrefix (G.sent port l) (G.sent port' l)
-  pub got_grows : (l : ℕ) → IsPrefix (G.got port l) (G.got port' l)
+pub record ListsGrow (cap : ℕ) (old : State)
+    (port port' : PortView) : Type 0 where
+  pub sent_grows : (l : ℕ) → IsPrefix (port.sent l) (port'.sent l)
+  pub got_grows : (l : ℕ) → IsPrefix (port.got l) (port'.got l)
   pub one_sent : (l : ℕ) → l < links old.dims → sender_at old.dims l ≡ old.rank
-      → length (G.sent port' l) ≤ length (G.sent port l) + 1
+      → length (port'.sent l) ≤ length (port.sent l) + 1
   pub one_got : (l : ℕ) → l < links old.dims → reader_at old.dims l ≡ old.rank
-      → length (G.got port' l) ≤ length (G.got port l) + 1
-  pub fills : (l : ℕ) (more : List Shipped) → G.sent port' l ≡ G.sent port l ++ more
+      → length (port'.got l) ≤ length (port.got l) + 1
+  pub fills : (l : ℕ) (more : List Shipped) → port'.sent l ≡ port.sent l ++ more
       → IsConveyorShape old.steady cap more
-  pub shape : (l : ℕ) → IsConveyorShape old.steady cap (G.sent port l) → IsConveyorShape old.steady cap (G.sent port' l)
+  pub shape : (l : ℕ) → IsConveyorShape old.steady cap (port.sent l) → IsConveyorShape old.steady cap (port'.sent l)
 
 -- What the links in show of the collects.
 -- left, unasked: one that wanted none got none, and the port noted nothing of it.
 -- rose, idle: of one that wanted a parcel and got none the port has listened since it was asked
 -- before, and knows of nothing more, but for what was posted there.
 -- lies: an inbox holds the end of what it held and of what came.
-pub record WereAsked {P : Type 0} {cap : ℕ} {M : Type 0} (G : Ghosts P cap M) (old new : State)
-    (port port' : P) : Type 0 where
+pub record WereAsked (old new : State)
+    (port port' : PortView) : Type 0 where
   pub left : (l : ℕ) → l < links old.dims → reader_at old.dims l ≡ old.rank → (Wants old l → ⊥)
-      → G.got port' l ≡ G.got port l
+      → port'.got l ≡ port.got l
   pub unasked : (l : ℕ) → l < links old.dims → reader_at old.dims l ≡ old.rank → (Wants old l → ⊥)
-      → G.noted port' l ≡ G.noted port l
-  pub rose : (l : ℕ) → l < links old.dims → reader_at old.dims l ≡ old.rank → Wants old l → G.got port' l ≡ G.got port l
-      → RoseOrFull (G.noted port l) (G.noted port' l)
-  pub idle : (l : ℕ) → l < links old.dims → reader_at old.dims l ≡ old.rank → Wants old l → G.got port' l ≡ G.got port l
-      → G.sent port' l ≡ G.sent port l → G.idle port' l ≡ true
+      → port'.noted l ≡ port.noted l
+  pub rose : (l : ℕ) → l < links old.dims → reader_at old.dims l ≡ old.rank → Wants old l → port'.got l ≡ port.got l
+      → RoseOrFull (port.noted l) (port'.noted l)
+  pub idle : (l : ℕ) → l < links old.dims → reader_at old.dims l ≡ old.rank → Wants old l → port'.got l ≡ port.got l
+      → port'.sent l ≡ port.sent l → is_idle port' l ≡ true
   pub lies : (l : ℕ) (more : List Shipped) → l < links old.dims → reader_at old.dims l ≡ old.rank
-      → G.got port' l ≡ G.got port l ++ more
+      → port'.got l ≡ port.got l ++ more
       → Ends ((in_of old l).parcel.untaken ++ flat_map (λ p. p.entries) more) (in_of new l).parcel.untaken
 
 -- What the links out show of the posts, if all of them had memory.
@@ -103,18 +103,18 @@ pub record WereAsked {P : Type 0} {cap : ℕ} {M : Type 0} (G : Ghosts P cap M) 
 -- if its hop has reached its end and it isn't closed.
 -- stopped: where entries are left in an inbox below the last hop, the first one is held up at its
 -- next link.
-pub record WereServed {P : Type 0} {cap : ℕ} {M : Type 0} (G : Ghosts P cap M) (old new : State)
-    (port port' : P) : Type 0 where
+pub record WereServed (cap : ℕ) (old new : State)
+    (port port' : PortView) : Type 0 where
   pub each : (l : ℕ) → l < links old.dims → sender_at old.dims l ≡ old.rank
-      → WasServed new l (G.looks_out port l) (G.looks_out port' l) (G.crowded port' l)
-  pub full : (l : ℕ) → l < links old.dims → sender_at old.dims l ≡ old.rank → G.sent port' l ≡ G.sent port l
-      → length (out_of old l).parcel.untaken ≡ cap → G.crowded port' l ≡ true
+      → WasServed new l (port.looks_out l) (port'.looks_out l) (is_crowded port' l)
+  pub full : (l : ℕ) → l < links old.dims → sender_at old.dims l ≡ old.rank → port'.sent l ≡ port.sent l
+      → length (out_of old l).parcel.untaken ≡ cap → is_crowded port' l ≡ true
   pub ending : (l : ℕ) → l < links old.dims → sender_at old.dims l ≡ old.rank
       → at_end new.dims new.ins new.done (hop_at new.dims l) ≡ true → (out_of new l).closed ≡ false
-      → G.crowded port' l ≡ true
+      → is_crowded port' l ≡ true
   pub closing : (l : ℕ) → l < links old.dims → sender_at old.dims l ≡ old.rank
       → (hop_at old.dims l ≡ 1 → new.done ≡ true) → HasArrived (buffers_of new) l
-      → (out_of new l).closed ≡ false → G.crowded port' l ≡ true
+      → (out_of new l).closed ≡ false → is_crowded port' l ≡ true
   pub stopped : (l : ℕ) (e : Entry) → l < links old.dims → reader_at old.dims l ≡ old.rank
       → hop_at old.dims l < length old.dims → slice_get (in_of new l).parcel.untaken 0 ≡ Some e
-      → NextIs old.dims old.rank l e.tag (HeldUp cap new (G.sent port) (G.sent port') (G.crowded port'))
+      → NextIs old.dims old.rank l e.tag (HeldUp cap new port.sent port'.sent (is_crowded port'))

@@ -6,7 +6,7 @@ use Rattle.bale_items.specs.declared.item.Entry.{Entry}
 use Rattle.bale_items.specs.Counters.{RoseOrFull}
 use Rattle.route_tensor.specs.Link.{links}
 use Rattle.route_tensor.specs.Ends.{hop_at, sender_at, reader_at}
-use Rattle.port_bank.specs.declared.port.Port.{Ghosts}
+use Rattle.port_bank.specs.Port.{PortView, is_crowded, is_idle}
 use Rattle.port_bank.specs.Frames.{SamePort, SameIns, SameOuts}
 use Rattle.port_bank.specs.Logs.{Logs}
 use Rattle.list_laws.specs.Lists.{IsPrefix, Ends}
@@ -46,23 +46,23 @@ pub record GoesOn (old new : State) (sent sent' got got' : Logs) : Type 0 where
 -- What posts on links out leave of the rank's state and of its port.
 -- idle: what the port knows of a link in changes only if a parcel was posted on it, from the
 -- rank to itself.
-pub record LeftByPosts {P : Type 0} {cap : ℕ} {M : Type 0} (G : Ghosts P cap M) (old new : State)
-    (port port' : P) : Type 0 where
-  pub ready : IsReady (G.dims port) (G.rank port) new (G.sent port') (G.got port')
-  pub goes_on : GoesOn old new (G.sent port) (G.sent port') (G.got port) (G.got port')
+pub record LeftByPosts (old new : State)
+    (port port' : PortView) : Type 0 where
+  pub ready : IsReady port.dims port.rank new port'.sent port'.got
+  pub goes_on : GoesOn old new port.sent port'.sent port.got port'.got
   pub ins : new.ins ≡ old.ins
-  pub idle : (l : ℕ) → G.sent port' l ≡ G.sent port l → G.idle port' l ≡ G.idle port l
-  pub same_ins : SameIns G port port'
-  pub same_port : SamePort G port port'
+  pub idle : (l : ℕ) → port'.sent l ≡ port.sent l → is_idle port' l ≡ is_idle port l
+  pub same_ins : SameIns port port'
+  pub same_port : SamePort port port'
 
 -- What collects on links in leave of them.
-pub record LeftByCollects {P : Type 0} {cap : ℕ} {M : Type 0} (G : Ghosts P cap M) (old new : State)
-    (port port' : P) : Type 0 where
-  pub ready : IsReady (G.dims port) (G.rank port) new (G.sent port') (G.got port')
-  pub goes_on : GoesOn old new (G.sent port) (G.sent port') (G.got port) (G.got port')
+pub record LeftByCollects (old new : State)
+    (port port' : PortView) : Type 0 where
+  pub ready : IsReady port.dims port.rank new port'.sent port'.got
+  pub goes_on : GoesOn old new port.sent port'.sent port.got port'.got
   pub outs : new.outs ≡ old.outs
-  pub same_outs : SameOuts G port port'
-  pub same_port : SamePort G port port'
+  pub same_outs : SameOuts port port'
+  pub same_port : SamePort port port'
 
 -- What became of a link in that was asked if it wanted a parcel.
 -- left: if it didn't want one, nothing was got, and it wasn't asked.

@@ -5,6 +5,7 @@ ghost use Rattle.item_buffer.specs.Contents.{Shipped, blank};
 ghost use Rattle.route_tensor.specs.Link.{links};
 ghost use Rattle.route_tensor.specs.Ends.{reader_at};
 ghost use Rattle.route_tensor.specs.Neighbour.{in_index};
+ghost use Rattle.port_bank.specs.Port.{is_idle};
 ghost use Rattle.port_bank.specs.Calls.{once_if};
 ghost use Rattle.port_bank.specs.Calls.Call.{Collect};
 ghost use Rattle.port_bank.specs.Frames.{InsElsewhere};
@@ -25,16 +26,16 @@ pub(crate) fn collect_all<const CAP: usize, const HOPS: usize, P: Port<CAP>>(
     port: &mut P,
 )
     requires empty { spare.old ≡ blank state.old.epoch }
-    requires ready { IsReady (P.dims port.old) (P.rank port.old) state.old (P.sent port.old) (P.got port.old) }
+    requires ready { IsReady (P.view port.old).dims (P.view port.old).rank state.old (P.view port.old).sent (P.view port.old).got }
     ensures empty { spare.new ≡ blank state.new.epoch }
-    ensures asked { (l : ℕ) → l < links (P.dims port.old) → reader_at (P.dims port.old) l ≡ P.rank port.old
-        → WasAsked state.old l (P.got port.old l) (P.got port.new l) (P.noted port.old l) (P.noted port.new l)
-        (P.idle port.new l) }
-    ensures calls { P.calls port.new ≡ P.calls port.old ++ collects_of state.old }
-    ensures lies { (l : ℕ) (more : List Shipped) → l < links (P.dims port.old)
-        → reader_at (P.dims port.old) l ≡ P.rank port.old → P.got port.new l ≡ P.got port.old l ++ more
+    ensures asked { (l : ℕ) → l < links (P.view port.old).dims → reader_at (P.view port.old).dims l ≡ (P.view port.old).rank
+        → WasAsked state.old l ((P.view port.old).got l) ((P.view port.new).got l) ((P.view port.old).noted l) ((P.view port.new).noted l)
+        (is_idle (P.view port.new) l) }
+    ensures calls { (P.view port.new).calls ≡ (P.view port.old).calls ++ collects_of state.old }
+    ensures lies { (l : ℕ) (more : List Shipped) → l < links (P.view port.old).dims
+        → reader_at (P.view port.old).dims l ≡ (P.view port.old).rank → (P.view port.new).got l ≡ (P.view port.old).got l ++ more
         → (in_of state.new l).parcel.untaken ≡ (in_of state.old l).parcel.untaken ++ flat_map (λ p. p.entries) more }
-    ensures leaves { LeftByCollects P.Port state.old state.new port.old port.new }
+    ensures leaves { LeftByCollects state.old state.new (P.view port.old) (P.view port.new) }
 {
     let count = state.routes().neighbours();
     for i in 0..count {
@@ -52,23 +53,23 @@ pub(crate) fn collect_one<const CAP: usize, const HOPS: usize, P: Port<CAP>>(
     number: u32,
     link: u32,
 )
-    requires link { link < links (P.dims port.old) }
-    requires ends_here { reader_at (P.dims port.old) link ≡ P.rank port.old }
-    requires number { number ≡ in_index (P.dims port.old) link }
+    requires link { link < links (P.view port.old).dims }
+    requires ends_here { reader_at (P.view port.old).dims link ≡ (P.view port.old).rank }
+    requires number { number ≡ in_index (P.view port.old).dims link }
     requires empty { spare.old ≡ blank state.old.epoch }
-    requires ready { IsReady (P.dims port.old) (P.rank port.old) state.old (P.sent port.old) (P.got port.old) }
+    requires ready { IsReady (P.view port.old).dims (P.view port.old).rank state.old (P.view port.old).sent (P.view port.old).got }
     ensures empty { spare.new ≡ blank state.new.epoch }
-    ensures asked { WasAsked state.old link (P.got port.old link) (P.got port.new link) (P.noted port.old link)
-        (P.noted port.new link) (P.idle port.new link) }
-    ensures calls { P.calls port.new
-        ≡ P.calls port.old ++ once_if (is_wanted (in_of state.old link)) (Collect link) }
-    ensures lies { (more : List Shipped) → P.got port.new link ≡ P.got port.old link ++ more
+    ensures asked { WasAsked state.old link ((P.view port.old).got link) ((P.view port.new).got link) ((P.view port.old).noted link)
+        ((P.view port.new).noted link) (is_idle (P.view port.new) link) }
+    ensures calls { (P.view port.new).calls
+        ≡ (P.view port.old).calls ++ once_if (is_wanted (in_of state.old link)) (Collect link) }
+    ensures lies { (more : List Shipped) → (P.view port.new).got link ≡ (P.view port.old).got link ++ more
         → (in_of state.new link).parcel.untaken ≡ (in_of state.old link).parcel.untaken ++ flat_map
         (λ p. p.entries) more }
-    ensures inbox { (m : ℕ) → m < links (P.dims port.old) → reader_at (P.dims port.old) m ≡ P.rank port.old → m ≢ link
+    ensures inbox { (m : ℕ) → m < links (P.view port.old).dims → reader_at (P.view port.old).dims m ≡ (P.view port.old).rank → m ≢ link
         → in_of state.new m ≡ in_of state.old m }
-    ensures elsewhere { InsElsewhere P.Port link port.old port.new }
-    ensures leaves { LeftByCollects P.Port state.old state.new port.old port.new }
+    ensures elsewhere { InsElsewhere link (P.view port.old) (P.view port.new) }
+    ensures leaves { LeftByCollects state.old state.new (P.view port.old) (P.view port.new) }
 {
     state.known();
     if !state.wants_from(number) {

@@ -242,11 +242,11 @@ impl<const CAP: usize, const HOPS: usize> Conveyor<CAP, HOPS> {
     /// stands, done stays noted, the phase is as before, and advance may be called again.
     pub fn advance<P: Port<CAP>>(&mut self, port: &mut P, done: bool) -> Result<Progress, NoMemory>
         requires begun { self.old.phase ≢ Phase.Dormant }
-        requires at_port { IsAtPort P.Port self.old port.old }
+        requires at_port { IsAtPort self.old (P.view port.old) }
         requires done_stays { self.old.done ≡ true → done ≡ true }
 
         // The conveyor agrees with the port again, and made a step of the exchange machine.
-        ensures stays { StaysAtPort P.Port done self.old self.new port.old port.new }
+        ensures stays { StaysAtPort done self.old self.new (P.view port.old) (P.view port.new) }
 
         // Answers.
         ensures settled { IfOk result (λ p. HasSettled done self.new p) }
@@ -261,30 +261,30 @@ impl<const CAP: usize, const HOPS: usize> Conveyor<CAP, HOPS> {
         ensures complete_port { self.old.phase ≡ Phase.Complete → port.new ≡ port.old }
 
         // The lists only grow.
-        ensures grows { ListsGrow P.Port self.old port.old port.new }
+        ensures grows { ListsGrow CAP self.old (P.view port.old) (P.view port.new) }
 
         // The calls on the port: a collect on each link in that wanted a parcel, in ascending
         // order, and then a post on each link out that was due, in ascending order, up to one that
         // found no memory.
-        ensures calls { OnOk result (P.calls port.new ≡ (P.calls port.old ++ collects_of self.old)
-            ++ posts_below self.new (P.sent port.old) (P.sent port.new) (links self.new.dims)) }
-        ensures stops { IsErr result → StopsAt self.new (P.sent port.old) (P.sent port.new)
-            (P.calls port.old ++ collects_of self.old) (P.calls port.new) }
+        ensures calls { OnOk result ((P.view port.new).calls ≡ ((P.view port.old).calls ++ collects_of self.old)
+            ++ posts_below self.new (P.view port.old).sent (P.view port.new).sent (links self.new.dims)) }
+        ensures stops { IsErr result → StopsAt self.new (P.view port.old).sent (P.view port.new).sent
+            ((P.view port.old).calls ++ collects_of self.old) (P.view port.new).calls }
 
         // What they answered.
-        ensures asked { WereAsked P.Port self.old self.new port.old port.new }
-        ensures served { OnOk result (WereServed P.Port self.old self.new port.old port.new) }
+        ensures asked { WereAsked self.old self.new (P.view port.old) (P.view port.new) }
+        ensures served { OnOk result (WereServed CAP self.old self.new (P.view port.old) (P.view port.new)) }
 
         // If nothing was sent on a link out, its open parcel begins with what it held. An entry
         // is left in an inbox below the last hop only if the open parcel that it goes to was
         // full.
         ensures waits { (l : ℕ) → l < links self.old.dims → sender_at self.old.dims l ≡ self.old.rank
-            → P.sent port.new l ≡ P.sent port.old l
+            → (P.view port.new).sent l ≡ (P.view port.old).sent l
             → IsPrefix (out_of self.old l).parcel.untaken (out_of self.new l).parcel.untaken }
         ensures held { (l : ℕ) (e : Entry) → l < links self.old.dims → reader_at self.old.dims l ≡ self.old.rank
             → hop_at self.old.dims l < length self.old.dims → slice_get (in_of self.new l).parcel.untaken 0 ≡ Some e
             → NextIs self.old.dims self.old.rank l e.tag
-            (WasFull CAP self.new (P.sent port.old) (P.sent port.new)) }
+            (WasFull CAP self.new (P.view port.old).sent (P.view port.new).sent) }
     {
         move_on(&mut self.state, &mut self.spare, port, done)?;
         Ok(settle(&mut self.state))

@@ -1,5 +1,6 @@
 //! Moves an exchange on: what an advance does before it settles the phase.
 ghost use Rattle.std.specs.Prelude.{◌≡◌, ◌≢◌, ◌⊎◌, ℕ, ◌<◌, ◌++◌, true, false, None, Some, length, slice_get, OnOk, IsOk, IsErr};
+ghost use Rattle.port_bank.specs.Port.{is_crowded, is_idle};
 ghost use Rattle.port_bank.specs.Frames.{SamePort};
 ghost use Rattle.hop_core.specs.Standing.{IsState};
 ghost use Rattle.convey.specs.Buffers.{is_complete};
@@ -33,22 +34,22 @@ pub(crate) fn move_on<const CAP: usize, const HOPS: usize, P: Port<CAP>>(
     requires conveyor { IsConveyor HOPS state.old }
     requires begun { state.old.phase ≢ Phase.Dormant }
     requires done_stays { state.old.done ≡ true → done ≡ true }
-    requires ready { IsReady (P.dims port.old) (P.rank port.old) state.old (P.sent port.old) (P.got port.old) }
+    requires ready { IsReady (P.view port.old).dims (P.view port.old).rank state.old (P.view port.old).sent (P.view port.old).got }
     ensures conveyor { IsConveyor HOPS state.new }
-    ensures ready { IsReady (P.dims port.old) (P.rank port.old) state.new (P.sent port.new) (P.got port.new) }
-    ensures moves_on { MovesOn state.old state.new done (P.sent port.old) (P.sent port.new) (P.got port.old)
-        (P.got port.new) (P.noted port.old) (P.noted port.new) (P.idle port.new) }
-    ensures served { OnOk result (HasServed state.old state.new (P.sent port.old) (P.sent port.new)
-        (P.looks_out port.old) (P.looks_out port.new) (P.crowded port.new)) }
-    ensures calls { OnOk result (P.calls port.new ≡ (P.calls port.old ++ collects_of state.old)
-        ++ posts_below state.new (P.sent port.old) (P.sent port.new) (links state.new.dims)) }
+    ensures ready { IsReady (P.view port.old).dims (P.view port.old).rank state.new (P.view port.new).sent (P.view port.new).got }
+    ensures moves_on { MovesOn state.old state.new done (P.view port.old).sent (P.view port.new).sent (P.view port.old).got
+        (P.view port.new).got (P.view port.old).noted (P.view port.new).noted (is_idle (P.view port.new)) }
+    ensures served { OnOk result (HasServed state.old state.new (P.view port.old).sent (P.view port.new).sent
+        (P.view port.old).looks_out (P.view port.new).looks_out (is_crowded (P.view port.new))) }
+    ensures calls { OnOk result ((P.view port.new).calls ≡ ((P.view port.old).calls ++ collects_of state.old)
+        ++ posts_below state.new (P.view port.old).sent (P.view port.new).sent (links state.new.dims)) }
     ensures held { (l : ℕ) (e : Entry) → l < links state.old.dims → reader_at state.old.dims l ≡ state.old.rank
         → hop_at state.old.dims l < length state.old.dims
         → slice_get (in_of state.new l).parcel.untaken 0 ≡ Some e
         → NextIs state.old.dims state.old.rank l e.tag
-        (WasFull state.old.cap state.new (P.sent port.old) (P.sent port.new)) }
-    ensures stops { IsErr result → StopsAt state.new (P.sent port.old) (P.sent port.new)
-        (P.calls port.old ++ collects_of state.old) (P.calls port.new) }
+        (WasFull state.old.cap state.new (P.view port.old).sent (P.view port.new).sent) }
+    ensures stops { IsErr result → StopsAt state.new (P.view port.old).sent (P.view port.new).sent
+        ((P.view port.old).calls ++ collects_of state.old) (P.view port.new).calls }
     ensures complete { state.old.phase ≡ Phase.Complete → state.new ≡ state.old }
     ensures complete_port { state.old.phase ≡ Phase.Complete → port.new ≡ port.old }
     ensures incomplete { IsErr result → is_complete state.old.phase ≡ false }
@@ -56,7 +57,7 @@ pub(crate) fn move_on<const CAP: usize, const HOPS: usize, P: Port<CAP>>(
     ensures memory { P.Memory.GROWS ≡ false → IsOk result }
     ensures cap { state.old.cap ≡ CAP }
     ensures standing { IsState state.old }
-    ensures same_port { SamePort P.Port port.old port.new }
+    ensures same_port { SamePort (P.view port.old) (P.view port.new) }
 {
     // The contract of `phase` tells what holds of the state.
     if is_over(state.phase()) {

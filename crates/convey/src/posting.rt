@@ -4,6 +4,7 @@ ghost use Rattle.item_buffer.specs.Contents.{blank};
 ghost use Rattle.route_tensor.specs.Link.{links};
 ghost use Rattle.route_tensor.specs.Ends.{sender_at};
 ghost use Rattle.route_tensor.specs.Neighbour.{out_index};
+ghost use Rattle.port_bank.specs.Port.{is_crowded};
 ghost use Rattle.port_bank.specs.Calls.{once_if};
 ghost use Rattle.port_bank.specs.Calls.Call.{Post};
 ghost use Rattle.port_bank.specs.Frames.{OutsElsewhere};
@@ -27,23 +28,23 @@ pub(crate) fn post_all<const CAP: usize, const HOPS: usize, P: Port<CAP>>(
     port: &mut P,
 ) -> Result<(), NoMemory>
     requires empty { spare.old ≡ blank state.old.epoch }
-    requires ready { IsReady (P.dims port.old) (P.rank port.old) state.old (P.sent port.old) (P.got port.old) }
+    requires ready { IsReady (P.view port.old).dims (P.view port.old).rank state.old (P.view port.old).sent (P.view port.old).got }
     ensures empty { spare.new ≡ blank state.new.epoch }
-    ensures served { OnOk result ((l : ℕ) → l < links (P.dims port.old)
-        → sender_at (P.dims port.old) l ≡ P.rank port.old
-        → WasServed state.new l (P.looks_out port.old l) (P.looks_out port.new l) (P.crowded port.new l)) }
-    ensures calls { OnOk result (P.calls port.new
-        ≡ P.calls port.old ++ posts_below state.new (P.sent port.old) (P.sent port.new) (links state.new.dims)) }
+    ensures served { OnOk result ((l : ℕ) → l < links (P.view port.old).dims
+        → sender_at (P.view port.old).dims l ≡ (P.view port.old).rank
+        → WasServed state.new l ((P.view port.old).looks_out l) ((P.view port.new).looks_out l) (is_crowded (P.view port.new) l)) }
+    ensures calls { OnOk result ((P.view port.new).calls
+        ≡ (P.view port.old).calls ++ posts_below state.new (P.view port.old).sent (P.view port.new).sent (links state.new.dims)) }
     ensures stops { IsErr result
-        → StopsAt state.new (P.sent port.old) (P.sent port.new) (P.calls port.old) (P.calls port.new) }
+        → StopsAt state.new (P.view port.old).sent (P.view port.new).sent (P.view port.old).calls (P.view port.new).calls }
     ensures memory { P.Memory.GROWS ≡ false → IsOk result }
     ensures forgotten { IsErr result → state.new.pulled ≡ None }
-    ensures waits { (l : ℕ) → l < links (P.dims port.old) → sender_at (P.dims port.old) l ≡ P.rank port.old
-        → P.sent port.new l ≡ P.sent port.old l
+    ensures waits { (l : ℕ) → l < links (P.view port.old).dims → sender_at (P.view port.old).dims l ≡ (P.view port.old).rank
+        → (P.view port.new).sent l ≡ (P.view port.old).sent l
         → (out_of state.new l).parcel.untaken ≡ (out_of state.old l).parcel.untaken }
-    ensures posted { (l : ℕ) → l < links (P.dims port.old) → sender_at (P.dims port.old) l ≡ P.rank port.old
-        → WasPosted (out_of state.old l).parcel.untaken (P.sent port.old l) (P.sent port.new l) }
-    ensures leaves { LeftByPosts P.Port state.old state.new port.old port.new }
+    ensures posted { (l : ℕ) → l < links (P.view port.old).dims → sender_at (P.view port.old).dims l ≡ (P.view port.old).rank
+        → WasPosted (out_of state.old l).parcel.untaken ((P.view port.old).sent l) ((P.view port.new).sent l) }
+    ensures leaves { LeftByPosts state.old state.new (P.view port.old) (P.view port.new) }
 {
     for i in 0..state.routes().neighbours() {
         let link = state.routes().neighbour(i).link_to;
@@ -61,27 +62,27 @@ pub(crate) fn post_one<const CAP: usize, const HOPS: usize, P: Port<CAP>>(
     number: u32,
     link: u32,
 ) -> Result<(), NoMemory>
-    requires link { link < links (P.dims port.old) }
-    requires starts_here { sender_at (P.dims port.old) link ≡ P.rank port.old }
-    requires number { number ≡ out_index (P.dims port.old) link }
+    requires link { link < links (P.view port.old).dims }
+    requires starts_here { sender_at (P.view port.old).dims link ≡ (P.view port.old).rank }
+    requires number { number ≡ out_index (P.view port.old).dims link }
     requires empty { spare.old ≡ blank state.old.epoch }
-    requires ready { IsReady (P.dims port.old) (P.rank port.old) state.old (P.sent port.old) (P.got port.old) }
+    requires ready { IsReady (P.view port.old).dims (P.view port.old).rank state.old (P.view port.old).sent (P.view port.old).got }
     ensures empty { spare.new ≡ blank state.new.epoch }
-    ensures served { OnOk result (WasServed state.new link (P.looks_out port.old link) (P.looks_out port.new link)
-        (P.crowded port.new link)) }
-    ensures calls { OnOk result (P.calls port.new ≡ P.calls port.old
-        ++ once_if (was_served state.new link (P.sent port.old link) (P.sent port.new link)) (Post link)) }
-    ensures no_post { IsErr result → P.calls port.new ≡ P.calls port.old }
+    ensures served { OnOk result (WasServed state.new link ((P.view port.old).looks_out link) ((P.view port.new).looks_out link)
+        (is_crowded (P.view port.new) link)) }
+    ensures calls { OnOk result ((P.view port.new).calls ≡ (P.view port.old).calls
+        ++ once_if (was_served state.new link ((P.view port.old).sent link) ((P.view port.new).sent link)) (Post link)) }
+    ensures no_post { IsErr result → (P.view port.new).calls ≡ (P.view port.old).calls }
     ensures still_due { IsErr result → IsDue state.new link }
     ensures memory { P.Memory.GROWS ≡ false → IsOk result }
     ensures forgotten { IsErr result → state.new.pulled ≡ None }
-    ensures out { (m : ℕ) → m < links (P.dims port.old) → sender_at (P.dims port.old) m ≡ P.rank port.old → m ≢ link
+    ensures out { (m : ℕ) → m < links (P.view port.old).dims → sender_at (P.view port.old).dims m ≡ (P.view port.old).rank → m ≢ link
         → out_of state.new m ≡ out_of state.old m }
-    ensures posted { WasPosted (out_of state.old link).parcel.untaken (P.sent port.old link) (P.sent port.new link) }
-    ensures waits { P.sent port.new link ≡ P.sent port.old link → (out_of state.new link).parcel.untaken
+    ensures posted { WasPosted (out_of state.old link).parcel.untaken ((P.view port.old).sent link) ((P.view port.new).sent link) }
+    ensures waits { (P.view port.new).sent link ≡ (P.view port.old).sent link → (out_of state.new link).parcel.untaken
         ≡ (out_of state.old link).parcel.untaken }
-    ensures elsewhere { OutsElsewhere P.Port link port.old port.new }
-    ensures leaves { LeftByPosts P.Port state.old state.new port.old port.new }
+    ensures elsewhere { OutsElsewhere link (P.view port.old) (P.view port.new) }
+    ensures leaves { LeftByPosts state.old state.new (P.view port.old) (P.view port.new) }
 {
     state.known();
     if !state.due_to(number) {

@@ -1,15 +1,22 @@
 -- What a round does on each link, as a sweep over the links.
-use Rattle.std.proofs.Common.{◌≡◌, ◌≢◌, ℕ, ◌<◌, Bool, true, false, cond, List, [], ◌∷◌, ◌++◌, length, refl, sym, ap, ◌∙◌, arith}
+use Rattle.std.proofs.Common.{subst, inl, inr, ◌≡◌, ◌≢◌, ℕ, ◌<◌, Bool, true, false, cond, List, [], ◌∷◌, ◌++◌, length, refl, sym, ap, ◌∙◌, arith}
 use Rattle.std.proofs.lemmas.List.{length-append, append-nil}
 use Rattle.std.proofs.lemmas.Nat.{same_from_place}
-use Rattle.list_laws.specs.Lists.{IsPrefix}
+use Rattle.list_laws.specs.Lists.{IsPrefix, changed}
 use Rattle.exstack.specs.Links.{StackOut, StackIn, parcel_of, gone, came}
-use Rattle.item_buffer.specs.Contents.{Shipped}
-use Rattle.port_bank.specs.declared.port.Port.{Ghosts}
-use Rattle.port_bank.specs.Logs.{Logs}
+use Rattle.item_buffer.specs.Contents.{Contents, Shipped}
+use Rattle.port_bank.specs.Port.{PortView, is_crowded, is_idle}
+use Rattle.port_bank.specs.Logs.{Logs, with_parcel}
 use Rattle.port_bank.specs.Frames.{OutsElsewhere, InsElsewhere}
+use Rattle.port_bank.specs.PortCalls.{Collects}
+use Rattle.port_bank.specs.declared.port.Collected.{Collected as Answer}
+use Rattle.port_bank.specs.declared.port.Collected.TheVariants.{Got, Nothing}
+use Rattle.port_bank.proofs.Kept.{added_grows, added-here}
+use Rattle.port_bank.proofs.Fronts.{begins_refl}
+use Rattle.port_bank.proofs.Channels.{changed-other}
+use Rattle.std.proofs.lemmas.Bool.{cases_eq}
 use Rattle.exstack.specs.State.{number}
-use Rattle.exstack.specs.Steps.{latest, was_moved, WasPostedInRound, WasCollected, InVain}
+use Rattle.exstack.specs.Steps.{latest, was_moved, WasPostedInRound, WasCollected, InVain, LeftByStackCollects}
 
 -- what a port shows of a link out: its log, how often the port looked for room, and whether it is
 -- crowded; and of a link in: its log, what was noted of it, and whether it is idle
@@ -21,18 +28,43 @@ pub record Sight : Type 0 where
 abbrev pub sight : Logs → (ℕ → ℕ) → (ℕ → Bool) → ℕ → Sight
 sight logs counts stuck l = record { log = logs l; count = counts l; stuck = stuck l }
 
-abbrev pub out_sight : {P : Type 0} {cap : ℕ} {M : Type 0} → Ghosts P cap M → P → ℕ → Sight
-out_sight G p = sight (G.sent p) (G.looks_out p) (G.crowded p)
+abbrev pub out_sight : PortView → ℕ → Sight
+out_sight p = sight p.sent p.looks_out (is_crowded p)
 
-abbrev pub in_sight : {P : Type 0} {cap : ℕ} {M : Type 0} → Ghosts P cap M → P → ℕ → Sight
-in_sight G p = sight (G.got p) (G.noted p) (G.idle p)
+abbrev pub in_sight : PortView → ℕ → Sight
+in_sight p = sight p.got p.noted (is_idle p)
 
 -- elsewhere it shows the same
-pub out_seen : {P : Type 0} {cap : ℕ} {M : Type 0} (G : Ghosts P cap M) (l : ℕ) (old new : P) → OutsElsewhere G l old new → (m : ℕ) → m ≢ l → out_sight G new m ≡ out_sight G old m
-out_seen G l old new e m ne = λ i. record { log = e.sent m ne i; count = e.looks_out m ne i; stuck = e.crowded m ne i }
+pub out_seen : (l : ℕ) (old new : PortView) → OutsElsewhere l old new → (m : ℕ) → m ≢ l → out_sight new m ≡ out_sight old m
+out_seen l old new e m ne = λ i. record { log = e.sent m ne i; count = e.looks_out m ne i; stuck = e.crowded m ne i }
 
-pub in_seen : {P : Type 0} {cap : ℕ} {M : Type 0} (G : Ghosts P cap M) (l : ℕ) (old new : P) → InsElsewhere G l old new → (m : ℕ) → m ≢ l → in_sight G new m ≡ in_sight G old m
-in_seen G l old new e m ne = λ i. record { log = e.got m ne i; count = e.noted m ne i; stuck = e.idle m ne i }
+pub in_seen : (l : ℕ) (old new : PortView) → InsElsewhere l old new → (m : ℕ) → m ≢ l → in_sight new m ≡ in_sight old m
+in_seen l old new e m ne = λ i. record { log = e.got m ne i; count = e.noted m ne i; stuck = e.idle m ne i }
+
+-- a collect only adds to the logs, and frees no link out on which nothing was got
+more_got : (a : Answer) (old new : Logs) (l : ℕ) (p : Shipped) → (a ≡ Got → new ≡ with_parcel old l p) → (a ≡ Nothing → new ≡ old) → (m : ℕ) → IsPrefix (old m) (new m)
+more_got Got old new l p more same m = subst (λ (f : Logs). IsPrefix (old m) (f m)) (sym (more refl)) (added_grows old l p m)
+more_got Nothing old new l p more same m = subst (λ (f : Logs). IsPrefix (old m) (f m)) (sym (same refl)) (begins_refl (old m))
+
+as_crowded : (a : Answer) (old new : Logs) (b b' : ℕ → Bool) (l : ℕ) (p : Shipped) → (a ≡ Got → new ≡ with_parcel old l p) → (a ≡ Nothing → b' ≡ b) → b' ≡ changed b l (b' l)
+    → (m : ℕ) → new m ≡ old m → b' m ≡ b m
+as_crowded Got old new b b' l p more same here m is = elim (cases_eq m l) [
+  | inl e ↦
+      let grew : new l ≡ old l ++ p ∷ [] = ap (λ (f : Logs). f l) (more refl) ∙ added-here old l p in
+      let still : new l ≡ old l = subst (λ (k : ℕ). new k ≡ old k) e is in
+      absurd (omega (arith, ap length grew, ap length still, length-append (old l) (p ∷ [])))
+  | inr ne ↦ ap (λ f. f m) here ∙ changed-other b l m (b' l) ne
+]
+as_crowded Nothing old new b b' l p more same here m is = ap (λ f. f m) (same refl)
+
+pub collects_leave : {cap : ℕ} {old new : PortView} {l : ℕ} {p p' : Contents} {a : Answer} → Collects cap old l p a new p' → LeftByStackCollects old new
+collects_leave {cap} {old} {new} {l} {p} {p'} {a} e =
+    record {
+      grows = more_got a old.got new.got l _ e.got e.not_got;
+      crowded = as_crowded a old.got new.got (is_crowded old) (is_crowded new) l _ e.got e.still_crowded e.crowded_here;
+      same_outs = e.same_outs;
+      same_port = e.same_port;
+    }
 
 -- the steps of a sweep over links out, and over links in
 abbrev pub Posted : Bool → ℕ → StackOut → StackOut → Sight → Sight → Type 0

@@ -4,7 +4,7 @@ use Rattle.std.specs.List.{position}
 use Rattle.std.proofs.lemmas.Bool.{false≢true, true_from_ne_false}
 use Rattle.std.proofs.lemmas.List.Folds.{list_all_at}
 use Rattle.std.proofs.lemmas.List.{get_or_default}
-use Rattle.port_bank.specs.declared.port.Port.{Ghosts}
+use Rattle.port_bank.specs.Port.{PortView}
 use Rattle.port_bank.specs.Logs.{Logs}
 use Rattle.exstack.specs.declared.stage.Stage.{Stage}
 use Rattle.exstack.specs.declared.stage.Stage.TheVariants.{Proceeding, Filling, Exchanging, Full, AllDone}
@@ -136,5 +136,5 @@ exchange_rounds n poll.Ready = refl
 exchange_rounds n (poll.NotYet link) = refl
 
 -- the stage says nothing of what was asked
-pub asks_staged : {P : Type 0} {cap : ℕ} {M : Type 0} (G : Ghosts P cap M) (begun st : Stack) (stage : Stage) (port port' : P) → AsksOnce G begun st port port' → AsksOnce G begun (record st { stage = stage }) port port'
-asks_staged G begun st stage port port' a = record { looked = a.looked; crowded = a.crowded; asked = a.asked; calls = a.calls }
+pub asks_staged : (begun st : Stack) (stage : Stage) (port port' : PortView) → AsksOnce begun st port port' → AsksOnce begun (record st { stage = stage }) port port'
+asks_staged begun st stage port port' a = record { looked = a.looked; crowded = a.crowded; asked = a.asked; calls = a.calls }

@@ -2,7 +2,7 @@
 use Rattle.std.specs.Prelude.{◌≡◌, ℕ, ◌-◌, ◌<◌, ◌==◌, Bool, true, false, ◌&&◌, not, if◌then◌else◌, List, [], ◌∷◌, ◌++◌}
 use Rattle.std.specs.Prelude.{length, take, Option, Some, None, IfSome}
 use Rattle.bale_items.specs.declared.item.Item.{Item}
-use Rattle.port_bank.specs.declared.port.Port.{Ghosts}
+use Rattle.port_bank.specs.Port.{PortView}
 use Rattle.port_bank.specs.Frames.{SamePort}
 use Rattle.port_bank.specs.Logs.{Logs}
 use Rattle.port_bank.specs.Machine.{Part, Step, IsOwnStep, after, for_ranks}
@@ -48,19 +48,19 @@ abbrev pub StackKeepsAgreement : Stack → Stack → Type 0
 StackKeepsAgreement old new = (n : ℕ) (sent got : Logs) → AgreesIn n old sent got → AgreesIn n new sent got
 
 -- The port is the exstack's own: of its grid and its rank, and with lists that agree with it.
-pub record IsStackAtPort {P : Type 0} {cap : ℕ} {M : Type 0} (G : Ghosts P cap M) (st : Stack) (port : P) : Type 0 where
-  pub same_dims : G.dims port ≡ stack_dims st
-  pub same_rank : G.rank port ≡ st.rank
-  pub agrees : StackAgrees st (G.sent port) (G.got port)
+pub record IsStackAtPort (st : Stack) (port : PortView) : Type 0 where
+  pub same_dims : port.dims ≡ stack_dims st
+  pub same_rank : port.rank ≡ st.rank
+  pub agrees : StackAgrees st port.sent port.got
 
 -- What any call at the port keeps: the exstack agrees with it again, and both are those of the same
 -- rank.
-pub record StackKeepsPort {P : Type 0} {cap : ℕ} {M : Type 0} (G : Ghosts P cap M) (old new : Stack)
-    (port port' : P) : Type 0 where
-  pub agrees : StackAgrees new (G.sent port') (G.got port')
+pub record StackKeepsPort (old new : Stack)
+    (port port' : PortView) : Type 0 where
+  pub agrees : StackAgrees new port'.sent port'.got
   pub ranks : new.ranks ≡ old.ranks
   pub rank : new.rank ≡ old.rank
-  pub same_port : SamePort G port port'
+  pub same_port : SamePort port port'
 
 -- A call that the port doesn't see: the exstack stays that of its rank, and keeps the agreement.
 pub record StackStaysWithRank (old new : Stack) : Type 0 where

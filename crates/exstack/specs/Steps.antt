@@ -4,7 +4,7 @@ use Rattle.std.specs.Prelude.{if◌then◌else◌}
 use Rattle.std.specs.Prelude.{slice_index_or}
 use Rattle.bale_items.specs.Counters.{RoseOrFull}
 use Rattle.item_buffer.specs.Contents.{Shipped}
-use Rattle.port_bank.specs.declared.port.Port.{Ghosts}
+use Rattle.port_bank.specs.Port.{PortView, is_crowded, is_idle}
 use Rattle.port_bank.specs.Calls.{Call, sweep_calls}
 use Rattle.port_bank.specs.Calls.Call.{Post, Collect}
 use Rattle.port_bank.specs.Frames.{SamePort, SameIns, SameOuts}
@@ -58,23 +58,23 @@ pub record StackStopsAt (ranks rank : ℕ) (begun outs : List StackOut) (before 
   pub calls_are : calls ≡ before ++ posts_to ranks rank begun to
 
 -- What posts leave of a port: its links in, and what was sent.
-pub record LeftByStackPosts {P : Type 0} {cap : ℕ} {M : Type 0} (G : Ghosts P cap M) (port port' : P) : Type 0 where
-  pub grows : (l : ℕ) → IsPrefix (G.sent port l) (G.sent port' l)
-  pub same_ins : SameIns G port port'
-  pub same_port : SamePort G port port'
+pub record LeftByStackPosts (port port' : PortView) : Type 0 where
+  pub grows : (l : ℕ) → IsPrefix (port.sent l) (port'.sent l)
+  pub same_ins : SameIns port port'
+  pub same_port : SamePort port port'
 
 -- What collects leave of a port: its links out, and what was got. A link is as crowded as before
 -- unless something was got on it.
-pub record LeftByStackCollects {P : Type 0} {cap : ℕ} {M : Type 0} (G : Ghosts P cap M) (port port' : P) : Type 0 where
-  pub grows : (l : ℕ) → IsPrefix (G.got port l) (G.got port' l)
-  pub crowded : (l : ℕ) → G.got port' l ≡ G.got port l → G.crowded port' l ≡ G.crowded port l
-  pub same_outs : SameOuts G port port'
-  pub same_port : SamePort G port port'
+pub record LeftByStackCollects (port port' : PortView) : Type 0 where
+  pub grows : (l : ℕ) → IsPrefix (port.got l) (port'.got l)
+  pub crowded : (l : ℕ) → port'.got l ≡ port.got l → is_crowded port' l ≡ is_crowded port l
+  pub same_outs : SameOuts port port'
+  pub same_port : SamePort port port'
 
 -- A port of rank me, on a grid of one hop with so many ranks.
-pub record IsStackPort {P : Type 0} {cap : ℕ} {M : Type 0} (G : Ghosts P cap M) (ranks me : ℕ) (port : P) : Type 0 where
-  pub dims : G.dims port ≡ ranks ∷ []
-  pub rank : G.rank port ≡ me
+pub record IsStackPort (ranks me : ℕ) (port : PortView) : Type 0 where
+  pub dims : port.dims ≡ ranks ∷ []
+  pub rank : port.rank ≡ me
   pub within : me < ranks
   pub few : ranks ≤ 64
 
@@ -91,19 +91,19 @@ pub record MadeRound (last exchange : Bool) (old new : Stack) (sent sent' got go
 -- What a round asks of its port if it has memory: its posts, and then its collects.
 -- looked, crowded: for a link out whose parcel is due still the port looked for room in this call,
 -- and the link is crowded, unless something was got on it meanwhile.
--- asked: on a link in whose parcel is due still it listened without success.
-pub record AsksOnce {P : Type 0} {cap : ℕ} {M : Type 0} (G : Ghosts P cap M) (begun new : Stack)
-    (port port' : P) : Type 0 where
+-- asked: on a link in whose parcel is due still it listened in vain.
+pub record AsksOnce (begun new : Stack)
+    (port port' : PortView) : Type 0 where
   pub looked : (b : ℕ) → b < begun.ranks → (stack_out_at new b).due ≡ true
-      → RoseOrFull (G.looks_out port (stack_link_to begun b)) (G.looks_out port' (stack_link_to begun b))
+      → RoseOrFull (port.looks_out (stack_link_to begun b)) (port'.looks_out (stack_link_to begun b))
   pub crowded : (b : ℕ) → b < begun.ranks → (stack_out_at new b).due ≡ true
-      → G.got port' (stack_link_to begun b) ≡ G.got port (stack_link_to begun b)
-      → G.crowded port' (stack_link_to begun b) ≡ true
+      → port'.got (stack_link_to begun b) ≡ port.got (stack_link_to begun b)
+      → is_crowded port' (stack_link_to begun b) ≡ true
   pub asked : (a : ℕ) → a < begun.ranks → (stack_in_at new a).due ≡ true
-      → InVain (G.noted port (stack_link_from begun a)) (G.noted port' (stack_link_from begun a)) (G.idle port' (stack_link_from begun a))
-  pub calls : G.calls port' ≡ (G.calls port ++ posts_to begun.ranks begun.rank begun.outs begun.ranks)
+      → InVain (port.noted (stack_link_from begun a)) (port'.noted (stack_link_from begun a)) (is_idle port' (stack_link_from begun a))
+  pub calls : port'.calls ≡ (port.calls ++ posts_to begun.ranks begun.rank begun.outs begun.ranks)
       ++ collects_from begun.ranks begun.rank begun.ins begun.ranks
 
 -- And without memory: it stops at the link that found none, and collects nothing.
-abbrev pub StopsShort : {P : Type 0} {cap : ℕ} {M : Type 0} → Ghosts P cap M → Stack → Stack → P → P → Type 0
-StopsShort G begun new port port' = StackStopsAt new.ranks new.rank begun.outs new.outs (G.calls port) (G.calls port')
+abbrev pub StopsShort : Stack → Stack → PortView → PortView → Type 0
+StopsShort begun new port port' = StackStopsAt new.ranks new.rank begun.outs new.outs port.calls port'.calls

@@ -5,6 +5,7 @@ ghost use Rattle.item_buffer.specs.declared.capacity.TheConstants.{MOST_ENTRIES}
 ghost use Rattle.item_buffer.specs.Capacity.{IsCap};
 ghost use Rattle.route_tensor.specs.Link.{links};
 ghost use Rattle.route_tensor.specs.Ends.{sender_at, reader_at};
+ghost use Rattle.port_bank.specs.Port.{is_idle};
 ghost use Rattle.port_bank.specs.Logs.{lasts};
 ghost use Rattle.port_bank.specs.Calls.{once_if};
 ghost use Rattle.port_bank.specs.Calls.Call.{Collect};
@@ -140,18 +141,18 @@ impl<const CAP: usize> InLink<CAP> {
     /// Collects the parcel of this round if it is due. The entries of a proceed parcel are
     /// dropped: only a peer that is no exstack sends any.
     pub fn collect<P: Port<CAP>>(&mut self, port: &mut P, link: u32, epoch: u64, exchange: bool)
-        requires link { link < links (P.dims port.old) }
-        requires ends_here { reader_at (P.dims port.old) link ≡ P.rank port.old }
-        requires epoch { self.old.due ≡ true → lasts (P.got port.old link) ≡ epoch }
-        ensures moved { WasCollected exchange self.old self.new (P.got port.old link) (P.got port.new link) }
-        ensures in_vain { self.new.due ≡ true → InVain (P.noted port.old link) (P.noted port.new link)
-            (P.idle port.new link) }
-        ensures calls { P.calls port.new ≡ P.calls port.old ++ once_if self.old.due (Collect link) }
-        ensures elsewhere { InsElsewhere P.Port link port.old port.new }
-        ensures own { sender_at (P.dims port.old) link ≡ P.rank port.old
-            → IsPrefix (P.got port.old link) (P.sent port.old link)
-            → IsPrefix (P.got port.new link) (P.sent port.new link) }
-        ensures left { LeftByStackCollects P.Port port.old port.new }
+        requires link { link < links (P.view port.old).dims }
+        requires ends_here { reader_at (P.view port.old).dims link ≡ (P.view port.old).rank }
+        requires epoch { self.old.due ≡ true → lasts ((P.view port.old).got link) ≡ epoch }
+        ensures moved { WasCollected exchange self.old self.new ((P.view port.old).got link) ((P.view port.new).got link) }
+        ensures in_vain { self.new.due ≡ true → InVain ((P.view port.old).noted link) ((P.view port.new).noted link)
+            (is_idle (P.view port.new) link) }
+        ensures calls { (P.view port.new).calls ≡ (P.view port.old).calls ++ once_if self.old.due (Collect link) }
+        ensures elsewhere { InsElsewhere link (P.view port.old) (P.view port.new) }
+        ensures own { sender_at (P.view port.old).dims link ≡ (P.view port.old).rank
+            → IsPrefix ((P.view port.old).got link) ((P.view port.old).sent link)
+            → IsPrefix ((P.view port.new).got link) ((P.view port.new).sent link) }
+        ensures left { LeftByStackCollects (P.view port.old) (P.view port.new) }
     {
         if !self.due {
             return;

@@ -4,6 +4,7 @@ ghost use Rattle.item_buffer.specs.Capacity.{IsCap};
 ghost use Rattle.route_tensor.specs.Grid.{IsGrid};
 ghost use Rattle.route_tensor.specs.Link.{links};
 ghost use Rattle.route_tensor.specs.Ends.{sender_at};
+ghost use Rattle.port_bank.specs.Port.{is_crowded};
 ghost use Rattle.port_bank.specs.Logs.{lasts};
 ghost use Rattle.port_bank.specs.Calls.{once_if};
 ghost use Rattle.port_bank.specs.Calls.Call.{Post};
@@ -109,22 +110,22 @@ impl<const CAP: usize> OutLink<CAP> {
         epoch: u64,
         last: bool,
     ) -> Result<(), NoMemory>
-        requires grid { IsGrid (P.dims port.old) }
-        requires one_hop { length (P.dims port.old) ≡ 1 }
-        requires link { link < links (P.dims port.old) }
-        requires starts_here { sender_at (P.dims port.old) link ≡ P.rank port.old }
-        requires epoch { self.old.due ≡ true → lasts (P.sent port.old link) ≡ epoch }
-        requires law { RelayLaw (P.dims port.old) (P.rank port.old) (P.sent port.old) (P.got port.old) }
-        ensures moved { WasPostedInRound last epoch self.old self.new (P.sent port.old link) (P.sent port.new link) }
+        requires grid { IsGrid (P.view port.old).dims }
+        requires one_hop { length (P.view port.old).dims ≡ 1 }
+        requires link { link < links (P.view port.old).dims }
+        requires starts_here { sender_at (P.view port.old).dims link ≡ (P.view port.old).rank }
+        requires epoch { self.old.due ≡ true → lasts ((P.view port.old).sent link) ≡ epoch }
+        requires law { RelayLaw (P.view port.old).dims (P.view port.old).rank (P.view port.old).sent (P.view port.old).got }
+        ensures moved { WasPostedInRound last epoch self.old self.new ((P.view port.old).sent link) ((P.view port.new).sent link) }
         ensures in_vain { IsOk result → self.new.due ≡ true
-            → InVain (P.looks_out port.old link) (P.looks_out port.new link) (P.crowded port.new link) }
-        ensures calls { OnOk result (P.calls port.new ≡ P.calls port.old ++ once_if self.old.due (Post link)) }
-        ensures elsewhere { OutsElsewhere P.Port link port.old port.new }
-        ensures no_post { IsErr result → P.calls port.new ≡ P.calls port.old }
+            → InVain ((P.view port.old).looks_out link) ((P.view port.new).looks_out link) (is_crowded (P.view port.new) link) }
+        ensures calls { OnOk result ((P.view port.new).calls ≡ (P.view port.old).calls ++ once_if self.old.due (Post link)) }
+        ensures elsewhere { OutsElsewhere link (P.view port.old) (P.view port.new) }
+        ensures no_post { IsErr result → (P.view port.new).calls ≡ (P.view port.old).calls }
         ensures still_due { IsErr result → self.new.due ≡ true }
-        ensures law { RelayLaw (P.dims port.old) (P.rank port.old) (P.sent port.new) (P.got port.old) }
+        ensures law { RelayLaw (P.view port.old).dims (P.view port.old).rank (P.view port.new).sent (P.view port.old).got }
         ensures memory { P.Memory.GROWS ≡ false → IsOk result }
-        ensures left { LeftByStackPosts P.Port port.old port.new }
+        ensures left { LeftByStackPosts (P.view port.old) (P.view port.new) }
     {
         if !self.due {
             return Ok(());

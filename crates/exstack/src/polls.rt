@@ -32,15 +32,15 @@ impl<const CAP: usize> Exstack<CAP> {
         done: bool,
     ) -> Result<Proceed, NoMemory>
         requires may { may_proceed self.old.stage ≡ true }
-        requires at_port { IsStackAtPort P.Port self.old port.old }
+        requires at_port { IsStackAtPort self.old (P.view port.old) }
         requires read { stack_unread self.old ≡ 0 }
         requires done_stays { self.old.done ≡ true → done ≡ true }
         requires same_done { self.old.stage ≡ Stage.Proceeding → done ≡ self.old.done }
 
         // The exstack agrees with the port again.
-        ensures agrees { StackAgrees self.new (P.sent port.new) (P.got port.new) }
-        ensures cycle { (n : ℕ) → AgreesIn n self.old (P.sent port.old) (P.got port.old)
-            → AgreesIn (cycle_after n self.old.stage) self.new (P.sent port.new) (P.got port.new) }
+        ensures agrees { StackAgrees self.new (P.view port.new).sent (P.view port.new).got }
+        ensures cycle { (n : ℕ) → AgreesIn n self.old (P.view port.old).sent (P.view port.old).got
+            → AgreesIn (cycle_after n self.old.stage) self.new (P.view port.new).sent (P.view port.new).got }
         ensures same { self.new ≡ record self.old {
           stage = self.new.stage;
           done = done;
@@ -48,7 +48,7 @@ impl<const CAP: usize> Exstack<CAP> {
           ins = self.new.ins;
           popped = None;
         } }
-        ensures same_port { SamePort P.Port port.old port.new }
+        ensures same_port { SamePort (P.view port.old) (P.view port.new) }
 
         // Answers.
         ensures answer { IfOk result (λ p. p ≡ proceed_answer (missing_link self.new) (all_ended self.new)) }
@@ -58,16 +58,16 @@ impl<const CAP: usize> Exstack<CAP> {
 
         // It is these steps of the rank's part of the exchange machine.
         ensures steps { AreOwnSteps (proceed_steps self.old.done done (is_all_done self.new.stage))
-            (stack_part self.old (P.sent port.old) (P.got port.old))
-            (stack_part self.new (P.sent port.new) (P.got port.new)) }
+            (stack_part self.old (P.view port.old).sent (P.view port.old).got)
+            (stack_part self.new (P.view port.new).sent (P.view port.new).got) }
 
         // What was posted and collected.
-        ensures round { MadeRound done false (in_proceed done self.old) self.new (P.sent port.old) (P.sent port.new)
-            (P.got port.old) (P.got port.new) }
+        ensures round { MadeRound done false (in_proceed done self.old) self.new (P.view port.old).sent (P.view port.new).sent
+            (P.view port.old).got (P.view port.new).got }
 
         // What the port was asked, with memory and without.
-        ensures asks { OnOk result (AsksOnce P.Port (in_proceed done self.old) self.new port.old port.new) }
-        ensures stops { IsErr result → StopsShort P.Port (in_proceed done self.old) self.new port.old port.new }
+        ensures asks { OnOk result (AsksOnce (in_proceed done self.old) self.new (P.view port.old) (P.view port.new)) }
+        ensures stops { IsErr result → StopsShort (in_proceed done self.old) self.new (P.view port.old) (P.view port.new) }
     {
         self.begin_proceed(done);
         let missing = self.go_round(port, done, false)?;
@@ -82,19 +82,19 @@ impl<const CAP: usize> Exstack<CAP> {
     /// poll may be made again.
     pub fn poll_exchange<P: Port<CAP>>(&mut self, port: &mut P) -> Result<Poll, NoMemory>
         requires may { may_exchange self.old.stage ≡ true }
-        requires at_port { IsStackAtPort P.Port self.old port.old }
+        requires at_port { IsStackAtPort self.old (P.view port.old) }
 
         // The exstack agrees with the port again.
-        ensures agrees { StackAgrees self.new (P.sent port.new) (P.got port.new) }
-        ensures cycle { (n : ℕ) → AgreesIn n self.old (P.sent port.old) (P.got port.old)
-            → AgreesIn n self.new (P.sent port.new) (P.got port.new) }
+        ensures agrees { StackAgrees self.new (P.view port.new).sent (P.view port.new).got }
+        ensures cycle { (n : ℕ) → AgreesIn n self.old (P.view port.old).sent (P.view port.old).got
+            → AgreesIn n self.new (P.view port.new).sent (P.view port.new).got }
         ensures same { self.new ≡ record self.old {
           stage = self.new.stage;
           outs = self.new.outs;
           ins = self.new.ins;
           popped = None;
         } }
-        ensures same_port { SamePort P.Port port.old port.new }
+        ensures same_port { SamePort (P.view port.old) (P.view port.new) }
 
         // Answers.
         ensures answer { IfOk result (λ p. p ≡ exchange_answer (missing_link self.new)) }
@@ -103,23 +103,23 @@ impl<const CAP: usize> Exstack<CAP> {
         ensures memory { P.Memory.GROWS ≡ false → IsOk result }
 
         // It is a step of the rank's part of the exchange machine.
-        ensures step { IsOwnStep Idle (stack_part self.old (P.sent port.old) (P.got port.old))
-            (stack_part self.new (P.sent port.new) (P.got port.new)) }
+        ensures step { IsOwnStep Idle (stack_part self.old (P.view port.old).sent (P.view port.old).got)
+            (stack_part self.new (P.view port.new).sent (P.view port.new).got) }
 
         // What was posted and collected.
-        ensures round { MadeRound false true (in_exchange self.old) self.new (P.sent port.old) (P.sent port.new)
-            (P.got port.old) (P.got port.new) }
+        ensures round { MadeRound false true (in_exchange self.old) self.new (P.view port.old).sent (P.view port.new).sent
+            (P.view port.old).got (P.view port.new).got }
 
         // What the port was asked, with memory and without.
-        ensures asks { OnOk result (AsksOnce P.Port (in_exchange self.old) self.new port.old port.new) }
-        ensures stops { IsErr result → StopsShort P.Port (in_exchange self.old) self.new port.old port.new }
+        ensures asks { OnOk result (AsksOnce (in_exchange self.old) self.new (P.view port.old) (P.view port.new)) }
+        ensures stops { IsErr result → StopsShort (in_exchange self.old) self.new (P.view port.old) (P.view port.new) }
 
         // A parcel that this poll collected is the exchange parcel of its cycle, and all of it is
         // unread.
-        ensures whole { (n a : ℕ) → AgreesIn n self.old (P.sent port.old) (P.got port.old) → a < self.old.ranks
+        ensures whole { (n a : ℕ) → AgreesIn n self.old (P.view port.old).sent (P.view port.old).got → a < self.old.ranks
             → (stack_in_at (in_exchange self.old) a).due ≡ true → (stack_in_at self.new a).due ≡ false
             → (stack_in_at self.new a).unread
-            ≡ entries_if_any (exchange_parcel self.old.epoch n (P.got port.new (stack_link_from self.old a))) }
+            ≡ entries_if_any (exchange_parcel self.old.epoch n ((P.view port.new).got (stack_link_from self.old a))) }
     {
         self.begin_exchange();
         let missing = self.go_round(port, false, true)?;
@@ -169,18 +169,18 @@ impl<const CAP: usize> Exstack<CAP> {
         requires exchange { exchange ≡ is_exchanging self.old.stage }
         requires last { last ≡ (self.old.done && not exchange) }
         requires forgotten { self.old.popped ≡ None }
-        requires at_port { IsStackAtPort P.Port self.old port.old }
+        requires at_port { IsStackAtPort self.old (P.view port.old) }
         ensures standing { IsStack CAP self.old }
         ensures same { self.new ≡ record self.old { outs = self.new.outs; ins = self.new.ins } }
-        ensures cycle { (n : ℕ) → AgreesIn n self.old (P.sent port.old) (P.got port.old)
-            → AgreesIn n self.new (P.sent port.new) (P.got port.new) }
-        ensures round { MadeRound last exchange self.old self.new (P.sent port.old) (P.sent port.new) (P.got port.old)
-            (P.got port.new) }
+        ensures cycle { (n : ℕ) → AgreesIn n self.old (P.view port.old).sent (P.view port.old).got
+            → AgreesIn n self.new (P.view port.new).sent (P.view port.new).got }
+        ensures round { MadeRound last exchange self.old self.new (P.view port.old).sent (P.view port.new).sent (P.view port.old).got
+            (P.view port.new).got }
         ensures missing { IfOk result (λ o. o ≡ missing_link self.new) }
-        ensures asks { OnOk result (AsksOnce P.Port self.old self.new port.old port.new) }
-        ensures stops { IsErr result → StopsShort P.Port self.old self.new port.old port.new }
+        ensures asks { OnOk result (AsksOnce self.old self.new (P.view port.old) (P.view port.new)) }
+        ensures stops { IsErr result → StopsShort self.old self.new (P.view port.old) (P.view port.new) }
         ensures memory { P.Memory.GROWS ≡ false → IsOk result }
-        ensures same_port { SamePort P.Port port.old port.new }
+        ensures same_port { SamePort (P.view port.old) (P.view port.new) }
     {
         post_all(&mut self.outs, port, self.rank, self.epoch, last)?;
         collect_all(&mut self.ins, port, self.rank, self.epoch, exchange);

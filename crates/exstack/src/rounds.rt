@@ -4,6 +4,7 @@ ghost use Rattle.std.specs.Prelude.{◌≡◌, ℕ, ◌+◌, ◌*◌, ◌<◌, �
 ghost use Rattle.std.specs.List.{list_all, position, sum_by};
 ghost use Rattle.list_laws.specs.Lists.{IsPrefix};
 ghost use Rattle.item_buffer.specs.Capacity.{IsCap};
+ghost use Rattle.port_bank.specs.Port.{is_crowded, is_idle};
 ghost use Rattle.port_bank.specs.Logs.{lasts};
 ghost use Rattle.port_bank.specs.Relay.{RelayLaw};
 ghost use Rattle.exstack.specs.Links.{no_stack_out, no_stack_in, has_unread, begun_out, begun_in, stack_out_in_new_epoch, stack_in_in_new_epoch};
@@ -88,28 +89,28 @@ pub fn post_all<const CAP: usize, P: Port<CAP>>(
     epoch: u64,
     last: bool,
 ) -> Result<(), NoMemory>
-    requires port { IsStackPort P.Port (length outs.old.items) rank port.old }
+    requires port { IsStackPort (length outs.old.items) rank (P.view port.old) }
     requires epoch { (b : ℕ) → b < length outs.old.items → (slice_index_or outs.old.items b no_stack_out).due ≡ true
-        → lasts (P.sent port.old (number (length outs.old.items) rank b)) ≡ epoch }
-    requires law { RelayLaw (P.dims port.old) (P.rank port.old) (P.sent port.old) (P.got port.old) }
+        → lasts ((P.view port.old).sent (number (length outs.old.items) rank b)) ≡ epoch }
+    requires law { RelayLaw (P.view port.old).dims (P.view port.old).rank (P.view port.old).sent (P.view port.old).got }
     ensures count { length outs.new.items ≡ length outs.old.items }
     ensures moved { (b : ℕ) → b < length outs.old.items
         → WasPostedInRound last epoch (slice_index_or outs.old.items b no_stack_out) (slice_index_or outs.new.items
         b no_stack_out)
-        (P.sent port.old (number (length outs.old.items) rank b))
-        (P.sent port.new (number (length outs.old.items) rank b)) }
+        ((P.view port.old).sent (number (length outs.old.items) rank b))
+        ((P.view port.new).sent (number (length outs.old.items) rank b)) }
     ensures in_vain { IsOk result → (b : ℕ) → b < length outs.old.items
         → (slice_index_or outs.new.items b no_stack_out).due ≡ true
-        → InVain (P.looks_out port.old (number (length outs.old.items) rank b))
-        (P.looks_out port.new (number (length outs.old.items) rank b))
-        (P.crowded port.new (number (length outs.old.items) rank b)) }
-    ensures calls { OnOk result (P.calls port.new
-        ≡ P.calls port.old ++ posts_to (length outs.old.items) rank outs.old.items (length outs.old.items)) }
+        → InVain ((P.view port.old).looks_out (number (length outs.old.items) rank b))
+        ((P.view port.new).looks_out (number (length outs.old.items) rank b))
+        (is_crowded (P.view port.new) (number (length outs.old.items) rank b)) }
+    ensures calls { OnOk result ((P.view port.new).calls
+        ≡ (P.view port.old).calls ++ posts_to (length outs.old.items) rank outs.old.items (length outs.old.items)) }
     ensures stops { IsErr result → StackStopsAt (length outs.old.items) rank outs.old.items outs.new.items
-        (P.calls port.old) (P.calls port.new) }
-    ensures law { RelayLaw (P.dims port.old) (P.rank port.old) (P.sent port.new) (P.got port.old) }
+        (P.view port.old).calls (P.view port.new).calls }
+    ensures law { RelayLaw (P.view port.old).dims (P.view port.old).rank (P.view port.new).sent (P.view port.old).got }
     ensures memory { P.Memory.GROWS ≡ false → IsOk result }
-    ensures left { LeftByStackPosts P.Port port.old port.new }
+    ensures left { LeftByStackPosts (P.view port.old) (P.view port.new) }
 {
     let ranks = outs.len() as u32;
     for b in 0..outs.len() {
@@ -126,26 +127,26 @@ pub fn collect_all<const CAP: usize, P: Port<CAP>>(
     epoch: u64,
     exchange: bool,
 )
-    requires port { IsStackPort P.Port (length ins.old.items) rank port.old }
+    requires port { IsStackPort (length ins.old.items) rank (P.view port.old) }
     requires epoch { (a : ℕ) → a < length ins.old.items → (slice_index_or ins.old.items a no_stack_in).due ≡ true
-        → lasts (P.got port.old (number (length ins.old.items) a rank)) ≡ epoch }
+        → lasts ((P.view port.old).got (number (length ins.old.items) a rank)) ≡ epoch }
     ensures count { length ins.new.items ≡ length ins.old.items }
     ensures moved { (a : ℕ) → a < length ins.old.items
         → WasCollected exchange (slice_index_or ins.old.items a no_stack_in) (slice_index_or ins.new.items a
         no_stack_in)
-        (P.got port.old (number (length ins.old.items) a rank))
-        (P.got port.new (number (length ins.old.items) a rank)) }
+        ((P.view port.old).got (number (length ins.old.items) a rank))
+        ((P.view port.new).got (number (length ins.old.items) a rank)) }
     ensures in_vain { (a : ℕ) → a < length ins.old.items → (slice_index_or ins.new.items a no_stack_in).due ≡ true
-        → InVain (P.noted port.old (number (length ins.old.items) a rank))
-        (P.noted port.new (number (length ins.old.items) a rank))
-        (P.idle port.new (number (length ins.old.items) a rank)) }
-    ensures calls { P.calls port.new
-        ≡ P.calls port.old ++ collects_from (length ins.old.items) rank ins.old.items (length ins.old.items) }
-    ensures own { IsPrefix (P.got port.old (number (length ins.old.items) rank rank))
-        (P.sent port.old (number (length ins.old.items) rank rank))
-        → IsPrefix (P.got port.new (number (length ins.old.items) rank rank))
-        (P.sent port.new (number (length ins.old.items) rank rank)) }
-    ensures left { LeftByStackCollects P.Port port.old port.new }
+        → InVain ((P.view port.old).noted (number (length ins.old.items) a rank))
+        ((P.view port.new).noted (number (length ins.old.items) a rank))
+        (is_idle (P.view port.new) (number (length ins.old.items) a rank)) }
+    ensures calls { (P.view port.new).calls
+        ≡ (P.view port.old).calls ++ collects_from (length ins.old.items) rank ins.old.items (length ins.old.items) }
+    ensures own { IsPrefix ((P.view port.old).got (number (length ins.old.items) rank rank))
+        ((P.view port.old).sent (number (length ins.old.items) rank rank))
+        → IsPrefix ((P.view port.new).got (number (length ins.old.items) rank rank))
+        ((P.view port.new).sent (number (length ins.old.items) rank rank)) }
+    ensures left { LeftByStackCollects (P.view port.old) (P.view port.new) }
 {
     let ranks = ins.len() as u32;
     for a in 0..ins.len() {

@@ -1,8 +1,10 @@
 -- What contracts see of a slot bank, and of the seat of a rank.
-use Rattle.std.specs.Prelude.{ℕ, ◌-◌, List, ◌∷◌, length, slice_index_or}
+use Rattle.std.specs.Prelude.{ℕ, ◌-◌, List, [], ◌∷◌, length, slice_index_or}
 use Rattle.item_buffer.specs.Contents.{Contents}
 use Rattle.atomic_table.specs.Seated.{TableId}
 use Rattle.port_bank.specs.Logs.{Logs}
+use Rattle.port_bank.specs.Calls.{Call}
+use Rattle.port_bank.specs.Port.{PortView}
 use Rattle.link_slots.specs.Logs.{Lists, out_of, in_of, sent_of, got_of, listens}
 use Rattle.link_slots.specs.Shape.{Shape, shipped_all}
 use Rattle.list_laws.specs.Counts.{saturated_count}
@@ -55,3 +57,21 @@ hears_noted s l = slice_index_or s.noted l 0
 
 abbrev pub noted_at : Manning → ℕ → ℕ
 noted_at s l = noted_by (hears_noted s l) (in_of s.lists l)
+
+-- What contracts see of the port of a seat, which noted these calls. It has no logs of others.
+abbrev pub port_view : Manning → List Call → PortView
+port_view s calls = record {
+  rank = s.rank;
+  dims = s.shape.dims;
+  slots = s.shape.slots;
+  sent = posted_on s;
+  got = collected_from s;
+  freed = freed_on s;
+  known = known_on s;
+  calls = calls;
+  looks_out = λ l. (out_of s.lists l).looks;
+  looks_in = listens_on s;
+  listens = listens_on s;
+  noted = noted_at s;
+  others = record { bank = table_name s.id; sent = λ l. []; got = λ l. [] };
+}

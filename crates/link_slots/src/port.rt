@@ -1,7 +1,7 @@
 //! A rank's port: its seat, with the bank.
 ghost use Rattle.atomic_table.specs.Seated.{TableId};
 ghost use Rattle.link_slots.specs.SeatView.{table_name};
-ghost use Rattle.std.specs.Prelude.{◌≡◌, ◌+◌, ◌==◌, ◌++◌, ◌∷◌, [], length, refl};
+ghost use Rattle.std.specs.Prelude.{◌≡◌, ◌++◌, ◌∷◌, []};
 ghost use Rattle.port_bank.specs.Calls.{calls_of};
 ghost use Rattle.port_bank.specs.Calls.Call.{Post, Collect};
 
@@ -53,51 +53,17 @@ impl<'a, const CAP: usize> SlotPort<'a, CAP> {
 }
 
 impl<'a, const CAP: usize> Port<CAP> for SlotPort<'a, CAP> {
-    ghost use Rattle.std.specs.Prelude.{◌+◌, ◌==◌, [], length, refl};
-    ghost use Rattle.link_slots.specs.Logs.{out_of};
     ghost use Rattle.link_slots.specs.PortCalls.{DidPost, DidCollect};
-    ghost use Rattle.link_slots.specs.SeatView.{posted_on, collected_from, freed_on, known_on, listens_on, noted_at, table_name};
+    ghost use Rattle.link_slots.specs.SeatView.{port_view};
     ghost use Rattle.port_bank.specs.Calls.{calls_of};
 
     type Memory = Fixed;
 
-    ghost rank = { λ p. p.seat.rank };
-
-    ghost dims = { λ p. p.seat.shape.dims };
-
-    ghost slots = { λ p. p.seat.shape.slots };
-
-    ghost sent = { λ p. posted_on p.seat };
-
-    ghost got = { λ p. collected_from p.seat };
-
-    ghost freed = { λ p l. freed_on p.seat l };
-
-    ghost crowded = { λ p l. length (posted_on p.seat l) == freed_on p.seat l + p.seat.shape.slots };
-
-    ghost known = { λ p l. known_on p.seat l };
-
-    ghost idle = { λ p l. length (collected_from p.seat l) == known_on p.seat l };
-
-    ghost calls = { λ p. calls_of p.calls.value };
-
-    ghost looks_out = { λ p l. (out_of p.seat.lists l).looks };
-
-    ghost looks_in = { λ p l. listens_on p.seat l };
-
-    ghost listens = { λ p l. listens_on p.seat l };
-
-    ghost noted = { λ p l. noted_at p.seat l };
-
-    ghost others = { λ p. record { bank = table_name p.seat.id; sent = λ l. []; got = λ l. [] } };
+    ghost view = { λ p. port_view p.seat (calls_of p.calls.value) };
 
     ghost post_does = { λ old l p result new. DidPost old.seat new.seat l p result };
 
     ghost collect_does = { λ old l p result new. DidCollect old.seat new.seat l result };
-
-    ghost crowded_is = { λ p l. refl };
-
-    ghost idle_is = { λ p l. refl };
 
     fn rank(&self) -> u32 {
         self.seat.rank()

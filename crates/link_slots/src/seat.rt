@@ -1,19 +1,13 @@
 //! A rank's seat: what the rank knows of its links at the bank's table, and what it counts beside
 //! it.
-ghost use Rattle.std.specs.Prelude.{◌≡◌, ◌≢◌, ◌⊎◌, ℕ, ◌<◌, ◌≤◌, false, length, slice_set, slice_index_or};
-ghost use Rattle.item_buffer.specs.Contents.{as_shipped, as_arrived, blank};
-ghost use Rattle.route_tensor.specs.Link.{links};
-ghost use Rattle.route_tensor.specs.Ends.{hop_at, sender_at, reader_at};
-ghost use Rattle.port_bank.specs.Logs.{lasts, with_parcel};
-ghost use Rattle.port_bank.specs.Flow.{IsPrefix};
-ghost use Rattle.port_bank.specs.Relay.{RelayLaw};
-ghost use Rattle.link_slots.specs.Logs.{out_of, in_of, with_out, with_in, taken_more, got_of};
-ghost use Rattle.link_slots.specs.Shape.{MayFollow};
-ghost use Rattle.bale_items.specs.Counters.{RoseOrFull};
-ghost use Rattle.port_bank.specs.Port.{changed, IsSlots};
+ghost use Rattle.std.specs.Prelude.{◌≡◌, ◌⊎◌, ◌<◌, ◌≤◌, [], length, slice_set, slice_index_or};
+ghost use Rattle.item_buffer.specs.Contents.{blank};
+ghost use Rattle.port_bank.specs.Port.{IsSlots};
+ghost use Rattle.port_bank.specs.PortCalls.{MayPost, MayCollect};
+ghost use Rattle.link_slots.specs.Logs.{out_of, with_out};
 ghost use Rattle.link_slots.specs.Counts.{ended_after, HasPosted};
-ghost use Rattle.link_slots.specs.Doorbell.{is_due, HeardWhere, LookedFor};
-ghost use Rattle.link_slots.specs.SeatView.{Manning, posted_on, collected_from, known_on, listens_on, hears_noted, noted_at};
+ghost use Rattle.link_slots.specs.PortCalls.{SeatCollects, DidCollect};
+ghost use Rattle.link_slots.specs.SeatView.{port_view};
 
 pub(crate) mod collect;
 pub(crate) mod ear;
@@ -81,13 +75,7 @@ impl<const CAP: usize> SlotSeat<CAP> {
     /// Posts the parcel on a link of this rank, and rings for it.
     pub fn post(&mut self, bank: &SlotBank<CAP>, link: u32, parcel: &mut Parcel<CAP>) -> Posted
         requires bank { (self.old.id ≡ bank.now.id) × (self.old.shape ≡ bank.now.shape) }
-        requires link { link < links self.old.shape.dims }
-        requires starts_here { sender_at self.old.shape.dims link ≡ self.old.rank }
-        requires fresh { parcel.old.taken ≡ 0 }
-        requires epoch { parcel.old.epoch ≡ lasts (posted_on self.old link) }
-        requires law { RelayLaw self.old.shape.dims self.old.rank (with_parcel (posted_on self.old) link (as_shipped
-            parcel.old))
-            (collected_from self.old) }
+        requires may { MayPost (port_view self.old []) link parcel.old }
         ensures here { self.new ≡ record self.old {
           lists = with_out self.old.lists link
               (out_of self.new.lists link);
@@ -131,46 +119,9 @@ impl<const CAP: usize> SlotSeat<CAP> {
         parcel: &mut Parcel<CAP>,
     ) -> Collected
         requires bank { (self.old.id ≡ bank.now.id) × (self.old.shape ≡ bank.now.shape) }
-        requires link { link < links self.old.shape.dims }
-        requires ends_here { reader_at self.old.shape.dims link ≡ self.old.rank }
-        requires empty { parcel.old ≡ blank (lasts (collected_from self.old link)) }
-        ensures here { self.new ≡ record self.old {
-          lists = self.new.lists;
-          noted = self.new.noted;
-          ended = self.new.ended;
-        } }
-        ensures long { link < length self.old.lists.ins }
-        ensures outs { self.new.lists.outs ≡ self.old.lists.outs }
-        ensures got { result ≡ Collected.Got → collected_from self.new
-            ≡ with_parcel (collected_from self.old) link (as_shipped parcel.new) }
-        ensures arrived { result ≡ Collected.Got → MayFollow self.old.shape.dims CAP link
-            (got_of self.old.lists link) parcel.new }
-        ensures known { result ≡ Collected.Got → length (collected_from self.old link) < known_on self.new link }
-        ensures own { result ≡ Collected.Got → sender_at self.old.shape.dims link ≡ self.old.rank
-            → IsPrefix (in_of self.new.lists link).seen (out_of self.new.lists link).sent }
-        ensures not_got { result ≡ Collected.Nothing → collected_from self.new ≡ collected_from self.old }
-        ensures none_known { result ≡ Collected.Nothing → length (collected_from self.old link)
-            ≡ known_on self.new link }
-        ensures heard { result ≡ Collected.Nothing → RoseOrFull (noted_at self.old link) (listens_on self.new link) }
-        ensures unmarked { result ≡ Collected.Nothing → (in_of self.new.lists link).marked ≡ false }
-        ensures kept { result ≡ Collected.Nothing → parcel.new ≡ parcel.old }
-        ensures noted { noted_at self.new ≡ changed (noted_at self.old) link (listens_on self.new link) }
-        ensures listens { (l : ℕ) → listens_on self.old l ≤ listens_on self.new l }
-        ensures known_elsewhere { (l : ℕ) → l ≢ link → known_on self.new l ≡ known_on self.old l }
-        ensures at_hand { length (collected_from self.old link) < known_on self.old link → result ≡ Collected.Got }
-        ensures no_looking { length (collected_from self.old link) < known_on self.old link
-            → self.new.lists ≡ with_in self.old.lists link (taken_more (in_of self.old.lists link)
-            (in_of self.new.lists link).released_at) }
-        ensures heard_beside { length (collected_from self.old link) ≡ known_on self.old link → (m : ℕ)
-            → m < links self.old.shape.dims → reader_at self.old.shape.dims m ≡ self.old.rank
-            → hop_at self.old.shape.dims m ≡ hop_at self.old.shape.dims link → m ≢ link
-            → HeardWhere (is_due (hears_noted self.old link) (in_of self.old.lists link)) (in_of self.old.lists m)
-            (in_of self.new.lists m) }
-        ensures looked_for { length (collected_from self.old link) ≡ known_on self.old link
-            → LookedFor (hears_noted self.old link) (in_of self.old.lists link) (in_of self.new.lists link) }
-        ensures other_hops { (m : ℕ) → m < links self.old.shape.dims → reader_at self.old.shape.dims m ≡ self.old.rank
-            → hop_at self.old.shape.dims m ≢ hop_at self.old.shape.dims link
-            → in_of self.new.lists m ≡ in_of self.old.lists m }
+        requires may { MayCollect (port_view self.old []) link parcel.old }
+        ensures collects { SeatCollects CAP self.old self.new link parcel.old result parcel.new }
+        ensures does { DidCollect self.old self.new link result }
     {
         let wire = &bank.wires[link as usize];
         let end = &mut self.ins[link as usize];

@@ -8,6 +8,7 @@ pub mod Round
 pub mod Slots
 pub mod Port
 pub mod Frames
+pub mod PortCalls
 pub mod PassedParcels
 pub mod Ring
 pub mod Plain

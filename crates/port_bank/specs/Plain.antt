@@ -1,5 +1,5 @@
 -- What contracts see of a plain bank.
-use Rattle.std.specs.Prelude.{◌≡◌, ℕ, ◌+◌, ◌<◌, ◌==◌, Bool, false, List, [], ◌∷◌, ◌++◌, map, replicate, length}
+use Rattle.std.specs.Prelude.{◌≡◌, ℕ, ◌+◌, ◌<◌, false, List, [], ◌∷◌, ◌++◌, map, replicate, length}
 use Rattle.std.specs.Prelude.{slice_index_or, slice_set, Result, Ok, IsErr}
 use Rattle.bale_items.specs.declared.fault.NoMemory.{NoMemory}
 use Rattle.bale_items.specs.Counters.{next_count}
@@ -14,7 +14,8 @@ use Rattle.port_bank.specs.declared.port.Collected.{Collected}
 use Rattle.port_bank.specs.declared.port.Collected.TheVariants.{Got, Nothing}
 use Rattle.port_bank.specs.Link.{LinkLaw}
 use Rattle.port_bank.specs.Relay.{RelayLaw}
-use Rattle.port_bank.specs.Port.{Others, IsSlots}
+use Rattle.port_bank.specs.Calls.{Call}
+use Rattle.port_bank.specs.Port.{Others, IsSlots, PortView}
 use Rattle.port_bank.specs.Round.{Round}
 
 -- One link: the parcels posted and those collected, how often its sender looked for room and its
@@ -71,14 +72,23 @@ abbrev pub others_of : ℕ → Bank → Others
 others_of r b =
     record { bank = []; sent = starting_elsewhere b.dims r (sent_of b); got = ending_elsewhere b.dims r (got_of b) }
 
--- Whether no slot is free on rank r's link l out: as many parcels as it has slots are sent and not
--- collected.
-abbrev pub crowded_of : ℕ → Bank → ℕ → Bool
-crowded_of r b l = length (starting_at b.dims r (sent_of b) l) == length (got_of b l) + b.slots
-
--- Whether nothing waits on rank r's link l in: every parcel that was sent is collected.
-abbrev pub idle_of : ℕ → Bank → ℕ → Bool
-idle_of r b l = length (ending_at b.dims r (got_of b) l) == length (sent_of b l)
+-- What contracts see of rank r's port: its own part of the bank, and the calls that it noted.
+abbrev pub view_of : ℕ → Bank → List Call → PortView
+view_of r b calls = record {
+  rank = r;
+  dims = b.dims;
+  slots = b.slots;
+  sent = starting_at b.dims r (sent_of b);
+  got = ending_at b.dims r (got_of b);
+  freed = λ l. length (got_of b l);
+  known = λ l. length (sent_of b l);
+  calls = calls;
+  looks_out = λ l. (channel_at b l).looks_out;
+  looks_in = λ l. (channel_at b l).looks_in;
+  listens = λ l. (channel_at b l).listens;
+  noted = λ l. (channel_at b l).noted;
+  others = others_of r b;
+}
 
 -- What a post did to the bank, by its answer: each look at a link is counted.
 pub record BankPosted (old new : Bank) (l : ℕ) (p : Shipped) (r : Result Posted NoMemory) : Type 0 where

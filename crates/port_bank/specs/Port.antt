@@ -1,12 +1,61 @@
--- What a call on a port leaves as it was.
-use Rattle.std.specs.Prelude.{◌≡◌, ℕ, List, IsTrue, Result}
+-- What contracts see of one rank's port.
+use Rattle.std.specs.Prelude.{ℕ, ◌+◌, List, length, ◌==◌, Bool, IsTrue, Result}
 pub use Rattle.list_laws.specs.Lists.{changed}
 use Rattle.bale_items.specs.declared.fault.NoMemory.{NoMemory}
 use Rattle.item_buffer.specs.Contents.{Contents}
 use Rattle.port_bank.specs.declared.port.Posted.{Posted}
 use Rattle.port_bank.specs.declared.port.Collected.{Collected}
+use Rattle.port_bank.specs.Calls.{Call}
 use Rattle.port_bank.specs.Logs.{Logs}
 use Rattle.port_bank.specs.Slots.{is_slot_count}
+
+-- Plain data that no call on a port changes. On the plain port it is what the other ranks sent and
+-- got, on a slot port the bank that its seat belongs to, and no logs.
+pub record Others : Type 0 where
+  pub bank : List ℕ
+  pub sent : Logs
+  pub got : Logs
+
+-- What a port has, as contracts see it. A function of numbers has a value for each link.
+-- rank, dims, slots: the rank, the grid, and the number of slots of each link.
+-- sent, got: all parcels that the rank posted on each link, or collected there, in order. A link
+-- that doesn't start at the rank, or end there, has none.
+-- freed: for each link out, how many of its parcels the port knows to be collected.
+-- known: for each link in, how many parcels the port knows to be posted.
+-- calls: the calls of `post` that had memory and those of `collect`, in the order in which they
+-- were made.
+-- looks_out: how often `post` looked for room on each link out.
+-- looks_in: how often `collect` looked on each link in.
+-- listens: how often the port listened for each link in.
+-- noted: how often it had listened for each link in, at the end of its latest collect there.
+-- others: what belongs to others.
+-- The counts looks_out, looks_in, listens and noted have 64 bits and saturate at the last number.
+pub record PortView : Type 0 where
+  pub rank : ℕ
+  pub dims : List ℕ
+  pub slots : ℕ
+  pub sent : Logs
+  pub got : Logs
+  pub freed : ℕ → ℕ
+  pub known : ℕ → ℕ
+  pub calls : List Call
+  pub looks_out : ℕ → ℕ
+  pub looks_in : ℕ → ℕ
+  pub listens : ℕ → ℕ
+  pub noted : ℕ → ℕ
+  pub others : Others
+
+-- A link out is crowded for the port if it knows of no free slot there.
+-- length sent = freed + slots
+-- With 2 slots, 5 parcels posted and 3 known to be collected, the link is crowded.
+abbrev pub is_crowded : PortView → ℕ → Bool
+is_crowded v l = length (v.sent l) == v.freed l + v.slots
+
+-- A link in is idle for the port if it collected every parcel that it knows of.
+-- length got = known
+-- With 3 parcels collected and 3 known to be posted, the link is idle.
+abbrev pub is_idle : PortView → ℕ → Bool
+is_idle v l = length (v.got l) == v.known l
 
 -- What a call on a port did, by the port before, the link, the parcel at hand, the answer and the
 -- port after.
@@ -16,36 +65,6 @@ PostDoes P = P → ℕ → Contents → Result Posted NoMemory → P → Type 0
 abbrev pub CollectDoes : Type 0 → Type 1
 CollectDoes P = P → ℕ → Contents → Collected → P → Type 0
 
--- Plain data that no call on a port changes. On the plain port it is what the other ranks sent and
--- got, on a slot port the bank that its seat belongs to, and no logs.
-pub record Others : Type 0 where
-  pub bank : List ℕ
-  pub sent : Logs
-  pub got : Logs
-
--- What no call on a port changes: its rank, its grid, its number of slots, and what belongs to
--- others.
-pub record PortStays {P : Type 0} (rank_of : P → ℕ) (dims_of : P → List ℕ) (slots_of : P → ℕ) (others_of : P → Others)
-    (old new : P) : Type 0 where
-  pub rank : rank_of new ≡ rank_of old
-  pub dims : dims_of new ≡ dims_of old
-  pub slots : slots_of new ≡ slots_of old
-  pub others : others_of new ≡ others_of old
-
--- What a collect leaves of the links out: what was posted there, and how often the port looked.
-pub record OutsStay {P : Type 0} (sent_of : P → Logs) (looks_of : P → ℕ → ℕ) (old new : P) : Type 0 where
-  pub sent : sent_of new ≡ sent_of old
-  pub looks_out : looks_of new ≡ looks_of old
-
--- What a post leaves of the links in: what was collected there, and how often the port looked and
--- listened.
-pub record InsStay {P : Type 0} (got_of : P → Logs) (looks_of listens_of noted_of : P → ℕ → ℕ)
-    (old new : P) : Type 0 where
-  pub got : got_of new ≡ got_of old
-  pub looks_in : looks_of new ≡ looks_of old
-  pub listens : listens_of new ≡ listens_of old
-  pub noted : noted_of new ≡ noted_of old
-
--- A link may have so many slots.
+-- A link may have this many slots.
 unfoldable pub IsSlots : ℕ → Type 0
 IsSlots n = IsTrue (is_slot_count n)

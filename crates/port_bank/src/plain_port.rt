@@ -1,7 +1,6 @@
 //! One rank's end of a plain bank.
-ghost use Rattle.std.specs.Prelude.{◌≡◌, length, refl};
-ghost use Rattle.port_bank.specs.Logs.{starting_at, ending_at};
-ghost use Rattle.port_bank.specs.Plain.{IsBank, channel_at, sent_of, got_of, others_of, round_of_bank};
+ghost use Rattle.std.specs.Prelude.{◌≡◌};
+ghost use Rattle.port_bank.specs.Plain.{IsBank, round_of_bank};
 ghost use Rattle.port_bank.specs.Round.{IsRound};
 
 use crate::plain_bank::PlainBank;
@@ -53,51 +52,17 @@ impl<const CAP: usize> PlainPort<CAP> {
 }
 
 impl<const CAP: usize> Port<CAP> for PlainPort<CAP> {
-    ghost use Rattle.std.specs.Prelude.{length, refl};
-    ghost use Rattle.port_bank.specs.Logs.{starting_at, ending_at};
     ghost use Rattle.item_buffer.specs.Contents.{as_shipped};
-    ghost use Rattle.port_bank.specs.Plain.{channel_at, sent_of, got_of, others_of, crowded_of, idle_of, BankPosted, BankCollected};
+    ghost use Rattle.port_bank.specs.Plain.{view_of, BankPosted, BankCollected};
     ghost use Rattle.port_bank.specs.Calls.{calls_of};
 
     type Memory = Growing;
 
-    ghost rank = { λ p. p.rank };
-
-    ghost dims = { λ p. p.bank.dims };
-
-    ghost slots = { λ p. p.bank.slots };
-
-    ghost sent = { λ p. starting_at p.bank.dims p.rank (sent_of p.bank) };
-
-    ghost got = { λ p. ending_at p.bank.dims p.rank (got_of p.bank) };
-
-    ghost freed = { λ p l. length (got_of p.bank l) };
-
-    ghost crowded = { λ p l. crowded_of p.rank p.bank l };
-
-    ghost known = { λ p l. length (sent_of p.bank l) };
-
-    ghost idle = { λ p l. idle_of p.rank p.bank l };
-
-    ghost calls = { λ p. calls_of p.calls };
-
-    ghost looks_out = { λ p l. (channel_at p.bank l).looks_out };
-
-    ghost looks_in = { λ p l. (channel_at p.bank l).looks_in };
-
-    ghost listens = { λ p l. (channel_at p.bank l).listens };
-
-    ghost noted = { λ p l. (channel_at p.bank l).noted };
-
-    ghost others = { λ p. others_of p.rank p.bank };
+    ghost view = { λ p. view_of p.rank p.bank (calls_of p.calls) };
 
     ghost post_does = { λ old l p result new. BankPosted old.bank new.bank l (as_shipped p) result };
 
     ghost collect_does = { λ old l p result new. BankCollected old.bank new.bank l (as_shipped p) result };
-
-    ghost crowded_is = { λ p l. refl };
-
-    ghost idle_is = { λ p l. refl };
 
     fn rank(&self) -> u32 {
         self.bank.known();

@@ -5,7 +5,7 @@ use Rattle.item_buffer.specs.Contents.{Shipped}
 use Rattle.list_laws.specs.Lists.{IsPrefix}
 use Rattle.route_tensor.specs.Link.{links}
 use Rattle.route_tensor.specs.Ends.{sender_at, reader_at}
-use Rattle.port_bank.specs.declared.port.Port.{Ghosts}
+use Rattle.port_bank.specs.Port.{PortView, is_crowded, is_idle}
 use Rattle.port_bank.specs.Logs.{Logs}
 use Rattle.hop_core.specs.Link.{is_due}
 use Rattle.hop_core.specs.State.{State}
@@ -24,12 +24,12 @@ use Rattle.rank_node.specs.Pulls.{Handed, Fills}
 use Rattle.rank_node.specs.Stuck.{IsStuck}
 
 -- A node that may turn over its own port, in a run whose programs began in these states.
-pub record MayTurn {P : Type 0} {cap : ℕ} {M : Type 0} (G : Ghosts P cap M) {S : Type 0} (R : Rules S) (n : NodeState S)
-    (port : P) : Type 0 where
-  pub same_dims : G.dims port ≡ mover_dims n.mover
-  pub same_rank : G.rank port ≡ mover_rank n.mover
+pub record MayTurn {S : Type 0} (R : Rules S) (n : NodeState S)
+    (port : PortView) : Type 0 where
+  pub same_dims : port.dims ≡ mover_dims n.mover
+  pub same_rank : port.rank ≡ mover_rank n.mover
   pub first : ℕ → S
-  pub node : IsNode R first n (G.sent port) (G.got port)
+  pub node : IsNode R first n port.sent port.got
 
 -- kept: it is a node again.
 -- sent_grows .. one_got: the logs only grow, each by one parcel at most.

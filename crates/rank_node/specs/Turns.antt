@@ -1,6 +1,6 @@
 -- What a turn of a rank over its port makes.
 use Rattle.std.specs.Prelude.{◌≡◌, ℕ}
-use Rattle.port_bank.specs.declared.port.Port.{Ghosts}
+use Rattle.port_bank.specs.Port.{PortView, is_crowded, is_idle}
 use Rattle.port_bank.specs.Frames.{SamePort}
 use Rattle.exstack.specs.State.{Stack}
 use Rattle.round_program.specs.Rules.{Rules}
@@ -17,33 +17,33 @@ use Rattle.rank_node.specs.Cycles.{IsInCycle, cycle_of_turn, IsOnward, TurnsOnwa
 -- leaves: what it leaves in the inboxes, and unpushed.
 -- cycle, onward: an exstack's cycles keep pace with what its rank has to send, and its stages go
 -- on.
-pub record Turns {P : Type 0} {cap : ℕ} {M : Type 0} (G : Ghosts P cap M) {S : Type 0} (R : Rules S)
-    (old new : NodeState S) (port port' : P) : Type 0 where
-  pub moves : AfterMoves R cap old new (G.sent port) (G.got port) (G.sent port') (G.got port')
-  pub leaves : Leaves R cap old.run new.run old.mover new.mover (G.got port) (G.got port')
-  pub cycle : (quota : ℕ → ℕ) (n : ℕ) → IsInCycle R quota n old.run old.mover (G.sent port) (G.got port)
-      → IsInCycle R quota (cycle_of_turn n old.mover) new.run new.mover (G.sent port') (G.got port')
+pub record Turns (cap : ℕ) {S : Type 0} (R : Rules S)
+    (old new : NodeState S) (port port' : PortView) : Type 0 where
+  pub moves : AfterMoves R cap old new port.sent port.got port'.sent port'.got
+  pub leaves : Leaves R cap old.run new.run old.mover new.mover port.got port'.got
+  pub cycle : (quota : ℕ → ℕ) (n : ℕ) → IsInCycle R quota n old.run old.mover port.sent port.got
+      → IsInCycle R quota (cycle_of_turn n old.mover) new.run new.mover port'.sent port'.got
   pub onward : TurnsOnward old.mover new.mover
-  pub same_port : SamePort G port port'
+  pub same_port : SamePort port port'
 
 -- What a turn with memory further leaves.
 -- awaits: within a round an exstack waits for a parcel.
 -- due, waits: what outside keeps a link out that is due, a rank that moved no parcel, and one that
 -- waits within a round.
-pub record TurnsInFull {P : Type 0} {cap : ℕ} {M : Type 0} (G : Ghosts P cap M) {S : Type 0} (R : Rules S)
-    (old new : NodeState S) (port port' : P) : Type 0 where
+pub record TurnsInFull {S : Type 0} (R : Rules S)
+    (old new : NodeState S) (port port' : PortView) : Type 0 where
   pub awaits : AwaitsSome new.mover
-  pub due : DueIsCrowded new.mover (G.crowded port')
-  pub waits : Waits R old.run old.mover new.mover (G.sent port) (G.got port) (G.sent port') (G.got port')
-      (G.crowded port') (G.idle port')
+  pub due : DueIsCrowded new.mover (is_crowded port')
+  pub waits : Waits R old.run old.mover new.mover port.sent port.got port'.sent port'.got
+      (is_crowded port') (is_idle port')
 
 -- What one poll of an exstack makes of it: nothing more is pushed, and what is to be sent stays.
-pub record Polls {P : Type 0} {cap : ℕ} {M : Type 0} (G : Ghosts P cap M) {S : Type 0} (R : Rules S)
-    (run run' : Running S) (x x' : Stack) (port port' : P) : Type 0 where
+pub record Polls (cap : ℕ) {S : Type 0} (R : Rules S)
+    (run run' : Running S) (x x' : Stack) (port port' : PortView) : Type 0 where
   pub moves : AfterMoves R cap (record { run = run; mover = Stacking cap x })
-      (record { run = run'; mover = Stacking cap x' }) (G.sent port) (G.got port) (G.sent port') (G.got port')
+      (record { run = run'; mover = Stacking cap x' }) port.sent port.got port'.sent port'.got
   pub onward : IsOnward x.stage x'.stage
   pub next : run'.next ≡ run.next
   pub emissions : R.emissions run'.prog ≡ R.emissions run.prog
   pub sends : run'.sends ≡ run.sends
-  pub same_port : SamePort G port port'
+  pub same_port : SamePort port port'

@@ -28,13 +28,13 @@ pub(crate) fn turn_conveyor<const CAP: usize, const HOPS: usize, Q: Program, P: 
     conveyor: &mut Conveyor<CAP, HOPS>,
     port: &mut P,
 ) -> Result<Turn, NoMemory>
-    requires turns { MayTurn P.Port Q.rules (record { run = running run.old; mover = Conveying conveyor.old })
-        port.old }
-    ensures turns { Turns P.Port Q.rules (record { run = running run.old; mover = Conveying conveyor.old })
-        (record { run = running run.new; mover = Conveying conveyor.new }) port.old port.new }
-    ensures in_full { OnOk result (TurnsInFull P.Port Q.rules
+    requires turns { MayTurn Q.rules (record { run = running run.old; mover = Conveying conveyor.old })
+        (P.view port.old) }
+    ensures turns { Turns CAP Q.rules (record { run = running run.old; mover = Conveying conveyor.old })
+        (record { run = running run.new; mover = Conveying conveyor.new }) (P.view port.old) (P.view port.new) }
+    ensures in_full { OnOk result (TurnsInFull Q.rules
         (record { run = running run.old; mover = Conveying conveyor.old })
-        (record { run = running run.new; mover = Conveying conveyor.new }) port.old port.new) }
+        (record { run = running run.new; mover = Conveying conveyor.new }) (P.view port.old) (P.view port.new)) }
     ensures memory { P.Memory.GROWS ≡ false → IsOk result }
     ensures ended { result ≡ Ok Turn.Ended → conveyor.new.phase ≡ Phase.Complete }
     ensures going { result ≡ Ok Turn.Going → conveyor.new.phase ≢ Phase.Complete }

@@ -63,13 +63,13 @@ impl<const CAP: usize, const HOPS: usize> Mover<CAP, HOPS> {
         run: &mut Run<Q>,
         port: &mut P,
     ) -> Result<Turn, NoMemory>
-        requires turns { MayTurn P.Port Q.rules (record { run = running run.old; mover = mover_state self.old })
-            port.old }
-        ensures turns { Turns P.Port Q.rules (record { run = running run.old; mover = mover_state self.old })
-            (record { run = running run.new; mover = mover_state self.new }) port.old port.new }
-        ensures in_full { OnOk result (TurnsInFull P.Port Q.rules
+        requires turns { MayTurn Q.rules (record { run = running run.old; mover = mover_state self.old })
+            (P.view port.old) }
+        ensures turns { Turns CAP Q.rules (record { run = running run.old; mover = mover_state self.old })
+            (record { run = running run.new; mover = mover_state self.new }) (P.view port.old) (P.view port.new) }
+        ensures in_full { OnOk result (TurnsInFull Q.rules
             (record { run = running run.old; mover = mover_state self.old })
-            (record { run = running run.new; mover = mover_state self.new }) port.old port.new) }
+            (record { run = running run.new; mover = mover_state self.new }) (P.view port.old) (P.view port.new)) }
         ensures memory { P.Memory.GROWS ≡ false → IsOk result }
         ensures ended { result ≡ Ok Turn.Ended → has_completed (mover_state self.new) ≡ true }
         ensures going { result ≡ Ok Turn.Going → has_completed (mover_state self.new) ≡ false }

@@ -115,12 +115,12 @@ impl<Q: Program, const CAP: usize, const HOPS: usize> Node<Q, CAP, HOPS> {
         port: &mut P,
         steps: &mut Steps<L>,
     ) -> Result<Turn, NoMemory>
-        requires turns { MayTurn P.Port Q.rules self.old port.old }
+        requires turns { MayTurn Q.rules self.old (P.view port.old) }
         ensures steps { steps.new ≡ steps.old + 1 }
         ensures cap { HasCap CAP self.new.mover }
         ensures memory { P.Memory.GROWS ≡ false → IsOk result }
-        ensures turns { Turns P.Port Q.rules self.old self.new port.old port.new }
-        ensures in_full { OnOk result (TurnsInFull P.Port Q.rules self.old self.new port.old port.new) }
+        ensures turns { Turns CAP Q.rules self.old self.new (P.view port.old) (P.view port.new) }
+        ensures in_full { OnOk result (TurnsInFull Q.rules self.old self.new (P.view port.old) (P.view port.new)) }
 
         // Ended if and only if the rank has completed its epoch.
         ensures ended { result ≡ Ok Turn.Ended → has_completed self.new.mover ≡ true }

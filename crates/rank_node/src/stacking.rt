@@ -38,13 +38,13 @@ pub(crate) fn turn_exstack<const CAP: usize, Q: Program, P: Port<CAP>>(
     exstack: &mut Exstack<CAP>,
     port: &mut P,
 ) -> Result<Turn, NoMemory>
-    requires turns { MayTurn P.Port Q.rules (record { run = running run.old; mover = Stacking CAP exstack.old })
-        port.old }
-    ensures turns { Turns P.Port Q.rules (record { run = running run.old; mover = Stacking CAP exstack.old })
-        (record { run = running run.new; mover = Stacking CAP exstack.new }) port.old port.new }
-    ensures in_full { OnOk result (TurnsInFull P.Port Q.rules
+    requires turns { MayTurn Q.rules (record { run = running run.old; mover = Stacking CAP exstack.old })
+        (P.view port.old) }
+    ensures turns { Turns CAP Q.rules (record { run = running run.old; mover = Stacking CAP exstack.old })
+        (record { run = running run.new; mover = Stacking CAP exstack.new }) (P.view port.old) (P.view port.new) }
+    ensures in_full { OnOk result (TurnsInFull Q.rules
         (record { run = running run.old; mover = Stacking CAP exstack.old })
-        (record { run = running run.new; mover = Stacking CAP exstack.new }) port.old port.new) }
+        (record { run = running run.new; mover = Stacking CAP exstack.new }) (P.view port.old) (P.view port.new)) }
     ensures memory { P.Memory.GROWS ≡ false → IsOk result }
     ensures ended { result ≡ Ok Turn.Ended → exstack.new.stage ≡ Stage.AllDone }
     ensures going { result ≡ Ok Turn.Going → exstack.new.stage ≢ Stage.AllDone }
@@ -67,16 +67,16 @@ fn proceed<const CAP: usize, Q: Program, P: Port<CAP>>(
     port: &mut P,
 ) -> Result<Turn, NoMemory>
     requires may { may_proceed exstack.old.stage ≡ true }
-    requires turns { MayTurn P.Port Q.rules (record { run = running run.old; mover = Stacking CAP exstack.old })
-        port.old }
-    ensures polls { Polls P.Port Q.rules (running run.old) (running run.new) exstack.old exstack.new port.old port.new }
-    ensures cycle { (quota : ℕ → ℕ) (n : ℕ) → InCycle Q.rules quota n (running run.old) exstack.old (P.sent port.old)
-        (P.got port.old)
-        → InCycle Q.rules quota (cycle_after n exstack.old.stage) (running run.new) exstack.new (P.sent port.new)
-        (P.got port.new) }
-    ensures in_full { OnOk result (TurnsInFull P.Port Q.rules
+    requires turns { MayTurn Q.rules (record { run = running run.old; mover = Stacking CAP exstack.old })
+        (P.view port.old) }
+    ensures polls { Polls CAP Q.rules (running run.old) (running run.new) exstack.old exstack.new (P.view port.old) (P.view port.new) }
+    ensures cycle { (quota : ℕ → ℕ) (n : ℕ) → InCycle Q.rules quota n (running run.old) exstack.old (P.view port.old).sent
+        (P.view port.old).got
+        → InCycle Q.rules quota (cycle_after n exstack.old.stage) (running run.new) exstack.new (P.view port.new).sent
+        (P.view port.new).got }
+    ensures in_full { OnOk result (TurnsInFull Q.rules
         (record { run = running run.old; mover = Stacking CAP exstack.old })
-        (record { run = running run.new; mover = Stacking CAP exstack.new }) port.old port.new) }
+        (record { run = running run.new; mover = Stacking CAP exstack.new }) (P.view port.old) (P.view port.new)) }
     ensures memory { P.Memory.GROWS ≡ false → IsOk result }
     ensures ended { result ≡ Ok Turn.Ended → exstack.new.stage ≡ Stage.AllDone }
     ensures going { result ≡ Ok Turn.Going → exstack.new.stage ≢ Stage.AllDone }
@@ -99,15 +99,15 @@ fn exchange<const CAP: usize, Q: Program, P: Port<CAP>>(
     port: &mut P,
 ) -> Result<Turn, NoMemory>
     requires may { may_exchange exstack.old.stage ≡ true }
-    requires turns { MayTurn P.Port Q.rules (record { run = running run.old; mover = Stacking CAP exstack.old })
-        port.old }
-    ensures polls { Polls P.Port Q.rules (running run.old) (running run.new) exstack.old exstack.new port.old port.new }
-    ensures cycle { (quota : ℕ → ℕ) (n : ℕ) → InExchange Q.rules quota n (running run.old) exstack.old (P.sent port.old)
-        (P.got port.old)
-        → InCycle Q.rules quota n (running run.new) exstack.new (P.sent port.new) (P.got port.new) }
-    ensures in_full { OnOk result (TurnsInFull P.Port Q.rules
+    requires turns { MayTurn Q.rules (record { run = running run.old; mover = Stacking CAP exstack.old })
+        (P.view port.old) }
+    ensures polls { Polls CAP Q.rules (running run.old) (running run.new) exstack.old exstack.new (P.view port.old) (P.view port.new) }
+    ensures cycle { (quota : ℕ → ℕ) (n : ℕ) → InExchange Q.rules quota n (running run.old) exstack.old (P.view port.old).sent
+        (P.view port.old).got
+        → InCycle Q.rules quota n (running run.new) exstack.new (P.view port.new).sent (P.view port.new).got }
+    ensures in_full { OnOk result (TurnsInFull Q.rules
         (record { run = running run.old; mover = Stacking CAP exstack.old })
-        (record { run = running run.new; mover = Stacking CAP exstack.new }) port.old port.new) }
+        (record { run = running run.new; mover = Stacking CAP exstack.new }) (P.view port.old) (P.view port.new)) }
     ensures memory { P.Memory.GROWS ≡ false → IsOk result }
     ensures going { IfOk result (λ t. t ≡ Turn.Going) }
     ensures stage { exstack.new.stage ≢ Stage.AllDone }

@@ -1,15 +1,12 @@
-//! A collect: a hear if it is due, a look into the marked link, and the exchange.
-ghost use Rattle.std.specs.Prelude.{◌≡◌, ◌≢◌, ℕ, suc, ◌^◌, ◌<◌, ◌≤◌, false, take, length};
-ghost use mathlib.Core.Option.{some};
-ghost use lib.ListN.{get_elem?};
+//! A collect: a hear where it is due, a look into the marked link, and the exchange.
+ghost use Rattle.std.specs.Prelude.{◌≡◌, ◌≢◌, ℕ, ◌^◌, ◌<◌, ◌≤◌, false, take, length};
 ghost use Rattle.bale_items.specs.Counters.{RoseOrFull};
-ghost use Rattle.port_bank.specs.Flow.{IsPrefix};
 ghost use Rattle.route_tensor.specs.Link.{links};
-ghost use Rattle.route_tensor.specs.Ends.{hop_at, sender_at, reader_at};
-ghost use Rattle.link_slots.specs.Logs.{out_of, in_of, with_in, taken_more, listens};
+ghost use Rattle.route_tensor.specs.Ends.{hop_at, reader_at};
+ghost use Rattle.link_slots.specs.Logs.{in_of, with_in, listens};
 ghost use Rattle.link_slots.specs.View.{own_logs};
 ghost use Rattle.link_slots.specs.Shape.{IsBlank};
-ghost use Rattle.link_slots.specs.Reading.{ReadsLink, HasRead};
+ghost use Rattle.link_slots.specs.Reading.{ReadsLink, HasRead, CollectsOn};
 ghost use Rattle.list_laws.specs.Counts.{saturated_count};
 ghost use Rattle.link_slots.specs.Counts.{AreGood, noted_by};
 ghost use Rattle.link_slots.specs.Doorbell.{is_due, HeardWhere, looked_where_marked, LookedFor};
@@ -161,41 +158,8 @@ pub(crate) fn collect_on<const CAP: usize>(
     requires empty { IsBlank parcel.old }
     ensures left { HasRead top.now.key place.old.table_id place.new.table_id place.old.me place.new.me link end.new
         ear.new }
-    ensures good { AreGood CAP top.now.key link (in_of (own_logs place.new.me.0) link) }
-    ensures seen { take (length (in_of (own_logs place.old.me.0) link).seen) (in_of (own_logs place.new.me.0) link).seen
-        ≡ (in_of (own_logs place.old.me.0) link).seen }
-    ensures noted { end.new.noted ≡ saturated_count (in_of (own_logs place.new.me.0) link).hears }
-    ensures more { listens (in_of (own_logs place.old.me.0) link) ≤ listens (in_of (own_logs place.new.me.0) link) }
-    ensures taken { result ≡ Collected.Got → (in_of (own_logs place.new.me.0) link).taken
-        ≡ suc (in_of (own_logs place.old.me.0) link).taken }
-    ensures parcel { result ≡ Collected.Got → get_elem? (in_of (own_logs place.new.me.0) link).seen
-        (in_of (own_logs place.old.me.0) link).taken ≡ some parcel.new }
-    ensures not_taken { result ≡ Collected.Nothing → (in_of (own_logs place.new.me.0) link).taken
-        ≡ (in_of (own_logs place.old.me.0) link).taken }
-    ensures none_known { result ≡ Collected.Nothing → length (in_of (own_logs place.new.me.0) link).seen
-        ≡ (in_of (own_logs place.old.me.0) link).taken }
-    ensures unmarked { result ≡ Collected.Nothing → (in_of (own_logs place.new.me.0) link).marked ≡ false }
-    ensures listened { result ≡ Collected.Nothing
-        → RoseOrFull (noted_by end.old.noted (in_of (own_logs place.old.me.0) link))
-        (saturated_count (listens (in_of (own_logs place.new.me.0) link))) }
-    ensures kept { result ≡ Collected.Nothing → parcel.new ≡ parcel.old }
-    // A parcel that is at hand is taken without a step of looking.
-    ensures at_hand { end.old.waiting ≢ 0 → result ≡ Collected.Got }
-    ensures no_looking { end.old.waiting ≢ 0 → own_logs place.new.me.0
-        ≡ with_in (own_logs place.old.me.0) link (taken_more (in_of (own_logs place.old.me.0) link)
-        (in_of (own_logs place.new.me.0) link).released_at) }
-    // Else the doorbell is heard if a hear is due, and the link is looked in if it is then
-    // marked.
-    ensures heard { end.old.waiting ≡ 0 → (m : ℕ) → m < links top.now.key.dims
-        → reader_at top.now.key.dims m ≡ place.old.me.0.pick → hop_at top.now.key.dims m ≡ hop_at top.now.key.dims link
-        → m ≢ link
-        → HeardWhere (is_due end.old.noted (in_of (own_logs place.old.me.0) link)) (in_of (own_logs place.old.me.0) m)
-        (in_of (own_logs place.new.me.0) m) }
-    ensures looked { end.old.waiting ≡ 0 → LookedFor end.old.noted (in_of (own_logs place.old.me.0) link)
-        (in_of (own_logs place.new.me.0) link) }
-    // On a link from the rank to itself, what it saw is a prefix of what it posted.
-    ensures own { result ≡ Collected.Got → sender_at top.now.key.dims link ≡ place.old.me.0.pick
-        → IsPrefix (in_of (own_logs place.new.me.0) link).seen (out_of (own_logs place.new.me.0) link).sent }
+    ensures collects { CollectsOn CAP top.now.key place.old.me.0.pick link end.old end.new (own_logs place.old.me.0)
+        (own_logs place.new.me.0) parcel.old result parcel.new }
 {
     if end.waiting == 0 && ear.marks & wire.mask == 0 && ear.hears > end.noted {
         end.noted = ear.hears;
@@ -223,41 +187,8 @@ fn collect_now<const CAP: usize>(
     requires empty { IsBlank parcel.old }
     ensures left { HasRead top.now.key place.old.table_id place.new.table_id place.old.me place.new.me link end.new
         ear.new }
-    ensures good { AreGood CAP top.now.key link (in_of (own_logs place.new.me.0) link) }
-    ensures seen { take (length (in_of (own_logs place.old.me.0) link).seen) (in_of (own_logs place.new.me.0) link).seen
-        ≡ (in_of (own_logs place.old.me.0) link).seen }
-    ensures noted { end.new.noted ≡ saturated_count (in_of (own_logs place.new.me.0) link).hears }
-    ensures more { listens (in_of (own_logs place.old.me.0) link) ≤ listens (in_of (own_logs place.new.me.0) link) }
-    ensures taken { result ≡ Collected.Got → (in_of (own_logs place.new.me.0) link).taken
-        ≡ suc (in_of (own_logs place.old.me.0) link).taken }
-    ensures parcel { result ≡ Collected.Got → get_elem? (in_of (own_logs place.new.me.0) link).seen
-        (in_of (own_logs place.old.me.0) link).taken ≡ some parcel.new }
-    ensures not_taken { result ≡ Collected.Nothing → (in_of (own_logs place.new.me.0) link).taken
-        ≡ (in_of (own_logs place.old.me.0) link).taken }
-    ensures none_known { result ≡ Collected.Nothing → length (in_of (own_logs place.new.me.0) link).seen
-        ≡ (in_of (own_logs place.old.me.0) link).taken }
-    ensures unmarked { result ≡ Collected.Nothing → (in_of (own_logs place.new.me.0) link).marked ≡ false }
-    ensures listened { result ≡ Collected.Nothing
-        → RoseOrFull (noted_by end.old.noted (in_of (own_logs place.old.me.0) link))
-        (saturated_count (listens (in_of (own_logs place.new.me.0) link))) }
-    ensures kept { result ≡ Collected.Nothing → parcel.new ≡ parcel.old }
-    // A parcel that is at hand is taken without a step of looking.
-    ensures at_hand { end.old.waiting ≢ 0 → result ≡ Collected.Got }
-    ensures no_looking { end.old.waiting ≢ 0 → own_logs place.new.me.0
-        ≡ with_in (own_logs place.old.me.0) link (taken_more (in_of (own_logs place.old.me.0) link)
-        (in_of (own_logs place.new.me.0) link).released_at) }
-    // Else the doorbell is heard if a hear is due, and the link is looked in if it is then
-    // marked.
-    ensures heard { end.old.waiting ≡ 0 → (m : ℕ) → m < links top.now.key.dims
-        → reader_at top.now.key.dims m ≡ place.old.me.0.pick → hop_at top.now.key.dims m ≡ hop_at top.now.key.dims link
-        → m ≢ link
-        → HeardWhere (is_due end.old.noted (in_of (own_logs place.old.me.0) link)) (in_of (own_logs place.old.me.0) m)
-        (in_of (own_logs place.new.me.0) m) }
-    ensures looked { end.old.waiting ≡ 0 → LookedFor end.old.noted (in_of (own_logs place.old.me.0) link)
-        (in_of (own_logs place.new.me.0) link) }
-    // On a link from the rank to itself, what it saw is a prefix of what it posted.
-    ensures own { result ≡ Collected.Got → sender_at top.now.key.dims link ≡ place.old.me.0.pick
-        → IsPrefix (in_of (own_logs place.new.me.0) link).seen (out_of (own_logs place.new.me.0) link).sent }
+    ensures collects { CollectsOn CAP top.now.key place.old.me.0.pick link end.old end.new (own_logs place.old.me.0)
+        (own_logs place.new.me.0) parcel.old result parcel.new }
 {
     if find_parcel(top, place, end, ear, wire, link) == 0 {
         end.noted = ear.hears;

@@ -16,8 +16,8 @@ use Rattle.convey.proofs.collecting.collect_all.Goals as goal
 
 pub collect_one-requires : goal.collect_one-requires
 collect_one-requires g c =
-    let dims = g.P.Port.dims c.args.port.now in
-    let rank = g.P.Port.rank c.args.port.now in
+    let dims = (g.P.Port.view c.args.port.now).dims in
+    let rank = (g.P.Port.view c.args.port.now).rank in
     let k = c.loop-i.invariant in
     let first = ap (λ t. t.dims) c.routes.ensures ∙ c.requires.ready.same_dims in
     let i : ℕ = c.loop-i.i in
@@ -26,7 +26,7 @@ collect_one-requires g c =
     let own : rank < ranks dims = subst (λ r. r < ranks dims) (ap (λ t. t.rank) c.routes.ensures ∙ c.requires.ready.same_rank) (subst (λ ds. c.routes.result.now.rank < ranks ds) first c.neighbours-count.ensures.rank) in
     let link = c.neighbour-link.result.link_from in
     let here : link ≡ link_from dims rank i = link_here link_from dims _ rank _ _ _ (ap (λ t. t.dims) c.routes-in-loop-i.ensures ∙ k.leaves.ready.same_dims) (ap (λ t. t.rank) c.routes-in-loop-i.ensures ∙ k.leaves.ready.same_rank) (ap (λ n. n.link_from) c.neighbour-link.ensures.value) in
-    let at : i ≡ in_index (g.P.Port.dims c.loop-i.port) link = sym (ap (λ ds. in_index ds link) k.leaves.same_port.dims ∙ (ap (in_index dims) here ∙ in_index-link_from dims rank i grid own below)) in (
+    let at : i ≡ in_index (g.P.Port.view c.loop-i.port).dims link = sym (ap (λ ds. in_index ds link) k.leaves.same_port.dims ∙ (ap (in_index dims) here ∙ in_index-link_from dims rank i grid own below)) in (
       search rules,
       (
         search rules,
@@ -42,19 +42,19 @@ collect_one-requires g c =
 
 pub loop-i-init : goal.loop-i-init
 loop-i-init g c =
-    let dims = g.P.Port.dims c.args.port.now in
-    let rank = g.P.Port.rank c.args.port.now in
+    let dims = (g.P.Port.view c.args.port.now).dims in
+    let rank = (g.P.Port.view c.args.port.now).rank in
     record {
       empty = c.requires.empty;
-      leaves = collects_first g.P.Port c.args.state.now c.args.port.now c.requires.ready;
+      leaves = collects_first c.args.state.now (g.P.Port.view c.args.port.now) c.requires.ready;
       collecting = collecting_none dims rank c.args.state.now _ _ _;
-      calls = sym (append-nil (g.P.Port.calls c.args.port.now));
+      calls = sym (append-nil (g.P.Port.view c.args.port.now).calls);
     }
 
 pub loop-i-preserved : goal.loop-i-preserved
 loop-i-preserved g c =
-    let dims = g.P.Port.dims c.args.port.now in
-    let rank = g.P.Port.rank c.args.port.now in
+    let dims = (g.P.Port.view c.args.port.now).dims in
+    let rank = (g.P.Port.view c.args.port.now).rank in
     let k = c.loop-i.invariant in
     let e = c.collect_one.ensures in
     let first = ap (λ t. t.dims) c.routes.ensures ∙ c.requires.ready.same_dims in
@@ -65,7 +65,7 @@ loop-i-preserved g c =
     let here = link_here link_from dims _ rank _ _ _ (ap (λ t. t.dims) c.routes-in-loop-i.ensures ∙ k.leaves.ready.same_dims) (ap (λ t. t.rank) c.routes-in-loop-i.ensures ∙ k.leaves.ready.same_rank) (ap (λ n. n.link_from) c.neighbour-link.ensures.value) in
     record {
       empty = e.empty;
-      leaves = collects_then g.P.Port _ _ _ _ _ _ k.leaves e.leaves;
+      leaves = collects_then _ _ _ _ _ _ k.leaves e.leaves;
       collecting = collecting_more dims rank _ _ c.args.state.now c.loop-i.state c.collect_one.new.state _ _ _ _ _ _ _ _ grid own below k.collecting here e.asked (record {
         lies = e.lies;
         inbox = λ m h to ne. e.inbox m (link_at dims _ m k.leaves.same_port.dims h) (end_at reader_at dims _ rank _ m k.leaves.same_port.dims k.leaves.same_port.rank to) ne;
@@ -83,7 +83,7 @@ loop-i-preserved g c =
 
 pub returns-clause-asked : goal.returns-clause-asked
 returns-clause-asked g c =
-    let dims = g.P.Port.dims c.args.port.now in
+    let dims = (g.P.Port.view c.args.port.now).dims in
     let first : c.routes.result.now.dims ≡ dims = ap (λ t. t.dims) c.routes.ensures ∙ c.requires.ready.same_dims in
     let grid : IsGrid dims = subst IsGrid first c.neighbours-count.ensures.grid in
     let all : c.loop-i.i ≡ sum dims = omega (arith, ap sum first, c.neighbours-count.ensures.value) in
@@ -91,12 +91,12 @@ returns-clause-asked g c =
 
 pub returns-clause-calls : goal.returns-clause-calls
 returns-clause-calls g c =
-    let dims = g.P.Port.dims c.args.port.now in
-    let rank = g.P.Port.rank c.args.port.now in
+    let dims = (g.P.Port.view c.args.port.now).dims in
+    let rank = (g.P.Port.view c.args.port.now).rank in
     let st = c.args.state.now in
     let first : c.routes.result.now.dims ≡ dims = ap (λ t. t.dims) c.routes.ensures ∙ c.requires.ready.same_dims in
     let grid : IsGrid dims = subst IsGrid first c.neighbours-count.ensures.grid in
     let own : rank < ranks dims = subst (λ r. r < ranks dims) (ap (λ t. t.rank) c.routes.ensures ∙ c.requires.ready.same_rank) (subst (λ ds. c.routes.result.now.rank < ranks ds) first c.neighbours-count.ensures.rank) in
     let all : c.loop-i.i ≡ sum dims = omega (arith, ap sum first, c.neighbours-count.ensures.value) in
-    c.loop-i.invariant.calls ∙ ap (λ cs. g.P.Port.calls c.args.port.now ++ cs)
+    c.loop-i.invariant.calls ∙ ap (λ cs. (g.P.Port.view c.args.port.now).calls ++ cs)
     (all_collects dims rank grid own (λ l. is_wanted (in_of st l)) c.loop-i.i all ∙ collects_here dims rank st c.requires.ready.same_dims c.requires.ready.same_rank)

@@ -6,6 +6,7 @@ use Rattle.item_buffer.specs.Contents.{blank}
 use Rattle.hop_core.specs.State.{State}
 use Rattle.route_tensor.specs.Link.{links}
 use Rattle.route_tensor.specs.Ends.{sender_at}
+use Rattle.port_bank.specs.Port.{is_crowded}
 use Rattle.port_bank.specs.Logs.{Logs}
 use Rattle.hop_core.specs.Link.{is_wanted}
 use Rattle.convey.specs.Buffers.{in_of, is_complete}
@@ -33,8 +34,8 @@ returns-then-is_over-clause-served g c =
 
 pub collect_all-requires : goal.collect_all-requires
 collect_all-requires g c =
-    let dims : List ℕ = g.P.Port.dims c.args.port.now in
-    let rank : ℕ = g.P.Port.rank c.args.port.now in
+    let dims : List ℕ = (g.P.Port.view c.args.port.now).dims in
+    let rank : ℕ = (g.P.Port.view c.args.port.now).rank in
     let r = c.requires.ready in
     (search rules, (search rules, (search rules, noted_ready dims rank c.args.state.now c.note_done.new.state c.args.done _ _ c.note_done.ensures.state c.note_done.ensures.pulled r)))
 
@@ -63,8 +64,8 @@ returns-clause-conveyor g c =
 
 pub returns-clause-moves_on : goal.returns-clause-moves_on
 returns-clause-moves_on g c =
-    let dims : List ℕ = g.P.Port.dims c.args.port.now in
-    let rank : ℕ = g.P.Port.rank c.args.port.now in
+    let dims : List ℕ = (g.P.Port.view c.args.port.now).dims in
+    let rank : ℕ = (g.P.Port.view c.args.port.now).rank in
     let k = c.collect_all.ensures in
     let e = c.post_all.ensures in
     let passed = c.relay_all.ensures.passed dims rank _ _ k.leaves.ready in
@@ -77,8 +78,8 @@ returns-clause-moves_on g c =
 
 pub returns-clause-served : goal.returns-clause-served
 returns-clause-served g c =
-    let dims : List ℕ = g.P.Port.dims c.args.port.now in
-    let rank : ℕ = g.P.Port.rank c.args.port.now in
+    let dims : List ℕ = (g.P.Port.view c.args.port.now).dims in
+    let rank : ℕ = (g.P.Port.view c.args.port.now).rank in
     let k = c.collect_all.ensures in
     let e = c.post_all.ensures in
     let passed = c.relay_all.ensures.passed dims rank _ _ k.leaves.ready in
@@ -89,16 +90,16 @@ returns-clause-served g c =
     (λ l h from. e.waits l (link_at dims _ l k.leaves.same_port.dims h) (end_at sender_at dims _ rank _ l k.leaves.same_port.dims k.leaves.same_port.rank from)) k.leaves.same_outs.sent
     (λ l h from. e.posted l (link_at dims _ l k.leaves.same_port.dims h) (end_at sender_at dims _ rank _ l k.leaves.same_port.dims k.leaves.same_port.rank from))
     _ _ _ c.relay_all.ensures.standing c.relay_all.ensures.stopped
-    (λ l h from. subst (λ looks. WasServed c.post_all.new.state l (looks l) (g.P.Port.looks_out c.post_all.new.port l) (g.P.Port.crowded c.post_all.new.port l)) k.leaves.same_outs.looks_out
+    (λ l h from. subst (λ looks. WasServed c.post_all.new.state l (looks l) ((g.P.Port.view c.post_all.new.port).looks_out l) (is_crowded (g.P.Port.view c.post_all.new.port) l)) k.leaves.same_outs.looks_out
     (served l (link_at dims _ l k.leaves.same_port.dims h) (end_at sender_at dims _ rank _ l k.leaves.same_port.dims k.leaves.same_port.rank from)))) e.served
 
 pub returns-then-eq-clause-ready : goal.returns-then-eq-clause-ready
-returns-then-eq-clause-ready g c = (c.relay_all.ensures.passed (g.P.Port.dims c.args.port.now) (g.P.Port.rank c.args.port.now) _ _ c.collect_all.ensures.leaves.ready).ready
+returns-then-eq-clause-ready g c = (c.relay_all.ensures.passed (g.P.Port.view c.args.port.now).dims (g.P.Port.view c.args.port.now).rank _ _ c.collect_all.ensures.leaves.ready).ready
 
 pub returns-then-eq-clause-conveyor : goal.returns-then-eq-clause-conveyor
 returns-then-eq-clause-conveyor g c =
-    let dims : List ℕ = g.P.Port.dims c.args.port.now in
-    let rank : ℕ = g.P.Port.rank c.args.port.now in
+    let dims : List ℕ = (g.P.Port.view c.args.port.now).dims in
+    let rank : ℕ = (g.P.Port.view c.args.port.now).rank in
     let st : State = c.args.state.now in
     let mid : State = c.relay_all.new.state in
     let k = c.collect_all.ensures in
@@ -117,23 +118,23 @@ returns-then-eq-clause-conveyor g c =
 
 pub returns-then-eq-clause-moves_on : goal.returns-then-eq-clause-moves_on
 returns-then-eq-clause-moves_on g c =
-    let dims : List ℕ = g.P.Port.dims c.args.port.now in
-    let rank : ℕ = g.P.Port.rank c.args.port.now in
+    let dims : List ℕ = (g.P.Port.view c.args.port.now).dims in
+    let rank : ℕ = (g.P.Port.view c.args.port.now).rank in
     let st : State = c.args.state.now in
     let mid : State = c.relay_all.new.state in
     let k = c.collect_all.ensures in
     let passed = c.relay_all.ensures.passed dims rank _ _ k.leaves.ready in
-    let sent' : Logs = g.P.Port.sent c.collect_all.new.port in
-    let got' : Logs = g.P.Port.got c.collect_all.new.port in
-    moves_on dims rank st c.note_done.new.state c.collect_all.new.state mid mid c.args.done (g.P.Port.sent c.args.port.now) sent' sent' (g.P.Port.got c.args.port.now) got' got'
+    let sent' : Logs = (g.P.Port.view c.collect_all.new.port).sent in
+    let got' : Logs = (g.P.Port.view c.collect_all.new.port).got in
+    moves_on dims rank st c.note_done.new.state c.collect_all.new.state mid mid c.args.done (g.P.Port.view c.args.port.now).sent sent' sent' (g.P.Port.view c.args.port.now).got got' got'
     c.phase.ensures.standing (sym c.requires.ready.same_dims) (sym c.requires.ready.same_rank) c.note_done.ensures.state k.leaves.goes_on k.leaves.outs k.leaves.ready passed
     (goes_on_refl mid sent' got') refl passed.ready (λ l h from e. refl) k.leaves.same_outs.sent (λ l h from. inl refl)
     _ _ _ _ _ k.asked k.lies refl refl (λ l e. refl)
 
 pub returns-then-eq-clause-served : goal.returns-then-eq-clause-served
 returns-then-eq-clause-served g c =
-    let dims : List ℕ = g.P.Port.dims c.args.port.now in
-    let rank : ℕ = g.P.Port.rank c.args.port.now in
+    let dims : List ℕ = (g.P.Port.view c.args.port.now).dims in
+    let rank : ℕ = (g.P.Port.view c.args.port.now).rank in
     let st : State = c.args.state.now in
     let mid : State = c.relay_all.new.state in
     let k = c.collect_all.ensures in
@@ -143,10 +144,10 @@ returns-then-eq-clause-served g c =
     let all = c.requires.conveyor.sent (sym phase ∙ cleanup) in
     let same_dims : mid.dims ≡ st.dims = passed.ready.same_dims ∙ sym c.requires.ready.same_dims in
     let same = same_closed st c.note_done.new.state c.collect_all.new.state mid c.args.done c.note_done.ensures.state k.leaves.outs (k.leaves.ready.same_dims ∙ sym c.requires.ready.same_dims) passed.closes in
-    let sent' : Logs = g.P.Port.sent c.collect_all.new.port in
-    let got' : Logs = g.P.Port.got c.collect_all.new.port in
+    let sent' : Logs = (g.P.Port.view c.collect_all.new.port).sent in
+    let got' : Logs = (g.P.Port.view c.collect_all.new.port).got in
     let not_due : (l : ℕ) → l < links dims → IsDue mid l → ⊥ = λ l h. sent_not_due st mid l c.phase.ensures.standing c.relay_all.ensures.standing same_dims same all (subst (λ ds. l < links ds) (sym passed.ready.same_dims) h) in
-    has_served dims rank st c.note_done.new.state c.collect_all.new.state mid mid c.args.done (g.P.Port.sent c.args.port.now) sent' sent' (g.P.Port.got c.args.port.now) got' got'
+    has_served dims rank st c.note_done.new.state c.collect_all.new.state mid mid c.args.done (g.P.Port.view c.args.port.now).sent sent' sent' (g.P.Port.view c.args.port.now).got got' got'
     c.phase.ensures.standing (sym c.requires.ready.same_dims) (sym c.requires.ready.same_rank) c.note_done.ensures.state k.leaves.goes_on k.leaves.outs k.leaves.ready passed
     (goes_on_refl mid sent' got') refl passed.ready (λ l h from e. refl) k.leaves.same_outs.sent (λ l h from. inl refl)
     _ _ _ c.relay_all.ensures.standing c.relay_all.ensures.stopped
@@ -156,18 +157,18 @@ pub returns-clause-calls : goal.returns-clause-calls
 returns-clause-calls g c =
     let k = c.collect_all.ensures in
     let new : State = c.post_all.new.state in
-    let sent' : Logs = g.P.Port.sent c.post_all.new.port in
-    let before : List Call = g.P.Port.calls c.args.port.now in
+    let sent' : Logs = (g.P.Port.view c.post_all.new.port).sent in
+    let before : List Call = (g.P.Port.view c.args.port.now).calls in
     on_ok_weaker c.post_all.result
-    (λ is. is ∙ ap (λ sent. g.P.Port.calls c.collect_all.new.port ++ posts_below new sent sent' (links new.dims)) k.leaves.same_outs.sent
-    ∙ ap (λ cs. cs ++ posts_below new (g.P.Port.sent c.args.port.now) sent' (links new.dims)) (k.calls ∙ ap (λ st. before ++ collects_of st) c.note_done.ensures.state)) c.post_all.ensures.calls
+    (λ is. is ∙ ap (λ sent. (g.P.Port.view c.collect_all.new.port).calls ++ posts_below new sent sent' (links new.dims)) k.leaves.same_outs.sent
+    ∙ ap (λ cs. cs ++ posts_below new (g.P.Port.view c.args.port.now).sent sent' (links new.dims)) (k.calls ∙ ap (λ st. before ++ collects_of st) c.note_done.ensures.state)) c.post_all.ensures.calls
 
 pub returns-clause-stops : goal.returns-clause-stops
 returns-clause-stops g c =
     let k = c.collect_all.ensures in
     let new : State = c.post_all.new.state in
-    let sent' : Logs = g.P.Port.sent c.post_all.new.port in
-    let before : List Call = g.P.Port.calls c.args.port.now in
+    let sent' : Logs = (g.P.Port.view c.post_all.new.port).sent in
+    let before : List Call = (g.P.Port.view c.args.port.now).calls in
     λ err.
     let s = c.post_all.ensures.stops err in
     record {
@@ -175,16 +176,16 @@ returns-clause-stops g c =
       below = s.below;
       starts_here = s.starts_here;
       due = s.due;
-      calls_are = s.calls_are ∙ ap (λ sent. g.P.Port.calls c.collect_all.new.port ++ posts_below new sent sent' s.link) k.leaves.same_outs.sent
-          ∙ ap (λ cs. cs ++ posts_below new (g.P.Port.sent c.args.port.now) sent' s.link) (k.calls ∙ ap (λ st. before ++ collects_of st) c.note_done.ensures.state);
+      calls_are = s.calls_are ∙ ap (λ sent. (g.P.Port.view c.collect_all.new.port).calls ++ posts_below new sent sent' s.link) k.leaves.same_outs.sent
+          ∙ ap (λ cs. cs ++ posts_below new (g.P.Port.view c.args.port.now).sent sent' s.link) (k.calls ∙ ap (λ st. before ++ collects_of st) c.note_done.ensures.state);
     }
 
 pub returns-then-is_over-clause-calls : goal.returns-then-is_over-clause-calls
 returns-then-is_over-clause-calls g c =
     let st : State = c.args.state.now in
     let over : st.phase ≡ Complete = complete_phase st.phase (ap is_complete (sym c.phase.ensures.value) ∙ (sym c.is_over.ensures ∙ c.if-is_over.true)) in
-    let log : Logs = g.P.Port.sent c.args.port.now in
-    let before : List Call = g.P.Port.calls c.args.port.now in
+    let log : Logs = (g.P.Port.view c.args.port.now).sent in
+    let before : List Call = (g.P.Port.view c.args.port.now).calls in
     let none = none_wanted st (λ l h to. not_true (is_wanted (in_of st l)) (over_not_wanted st c.phase.ensures.standing (c.requires.conveyor.complete over) l h to)) in
     let unserved = none_served st log log (λ l h from. served_not st l (log l) (log l) refl (over_not_due st c.phase.ensures.standing (c.requires.conveyor.complete over) l h)) in
     sym (append-nil before) ∙ ap (λ cs. before ++ cs) (sym none) ∙ sym (append-nil (before ++ collects_of st)) ∙ ap (λ cs. (before ++ collects_of st) ++ cs) (sym unserved)
@@ -194,23 +195,23 @@ returns-then-eq-clause-calls g c =
     let st : State = c.args.state.now in
     let mid : State = c.relay_all.new.state in
     let k = c.collect_all.ensures in
-    let passed = c.relay_all.ensures.passed (g.P.Port.dims c.args.port.now) (g.P.Port.rank c.args.port.now) _ _ k.leaves.ready in
+    let passed = c.relay_all.ensures.passed (g.P.Port.view c.args.port.now).dims (g.P.Port.view c.args.port.now).rank _ _ k.leaves.ready in
     let cleanup : mid.phase ≡ Cleanup = search rules in
     let phase : mid.phase ≡ st.phase = passed.goes_on.phase ∙ (k.leaves.goes_on.phase ∙ ap (λ s. s.phase) c.note_done.ensures.state) in
     let all = c.requires.conveyor.sent (sym phase ∙ cleanup) in
     let same_dims : mid.dims ≡ st.dims = passed.ready.same_dims ∙ sym c.requires.ready.same_dims in
     let same = same_closed st c.note_done.new.state c.collect_all.new.state mid c.args.done c.note_done.ensures.state k.leaves.outs (k.leaves.ready.same_dims ∙ sym c.requires.ready.same_dims) passed.closes in
-    let sent : Logs = g.P.Port.sent c.args.port.now in
-    let sent' : Logs = g.P.Port.sent c.collect_all.new.port in
-    let before : List Call = g.P.Port.calls c.args.port.now in
+    let sent : Logs = (g.P.Port.view c.args.port.now).sent in
+    let sent' : Logs = (g.P.Port.view c.collect_all.new.port).sent in
+    let before : List Call = (g.P.Port.view c.args.port.now).calls in
     let unserved = none_served mid sent sent' (λ l h from.
     served_not mid l (sent l) (sent' l) (ap (λ s. s l) k.leaves.same_outs.sent) (sent_not_due st mid l c.phase.ensures.standing c.relay_all.ensures.standing same_dims same all h)) in
     k.calls ∙ ap (λ s. before ++ collects_of s) c.note_done.ensures.state ∙ sym (append-nil (before ++ collects_of st)) ∙ ap (λ cs. (before ++ collects_of st) ++ cs) (sym unserved)
 
 pub returns-clause-held : goal.returns-clause-held
 returns-clause-held g c =
-    let dims : List ℕ = g.P.Port.dims c.args.port.now in
-    let rank : ℕ = g.P.Port.rank c.args.port.now in
+    let dims : List ℕ = (g.P.Port.view c.args.port.now).dims in
+    let rank : ℕ = (g.P.Port.view c.args.port.now).rank in
     let k = c.collect_all.ensures in
     let e = c.post_all.ensures in
     let passed = c.relay_all.ensures.passed dims rank _ _ k.leaves.ready in
@@ -223,15 +224,15 @@ returns-clause-held g c =
 
 pub returns-then-eq-clause-held : goal.returns-then-eq-clause-held
 returns-then-eq-clause-held g c =
-    let dims : List ℕ = g.P.Port.dims c.args.port.now in
-    let rank : ℕ = g.P.Port.rank c.args.port.now in
+    let dims : List ℕ = (g.P.Port.view c.args.port.now).dims in
+    let rank : ℕ = (g.P.Port.view c.args.port.now).rank in
     let st : State = c.args.state.now in
     let mid : State = c.relay_all.new.state in
     let k = c.collect_all.ensures in
     let passed = c.relay_all.ensures.passed dims rank _ _ k.leaves.ready in
-    let sent' : Logs = g.P.Port.sent c.collect_all.new.port in
-    let got' : Logs = g.P.Port.got c.collect_all.new.port in
-    held dims rank st c.note_done.new.state c.collect_all.new.state mid mid c.args.done (g.P.Port.sent c.args.port.now) sent' sent' (g.P.Port.got c.args.port.now) got' got'
+    let sent' : Logs = (g.P.Port.view c.collect_all.new.port).sent in
+    let got' : Logs = (g.P.Port.view c.collect_all.new.port).got in
+    held dims rank st c.note_done.new.state c.collect_all.new.state mid mid c.args.done (g.P.Port.view c.args.port.now).sent sent' sent' (g.P.Port.view c.args.port.now).got got' got'
     c.phase.ensures.standing (sym c.requires.ready.same_dims) (sym c.requires.ready.same_rank) c.note_done.ensures.state k.leaves.goes_on k.leaves.outs k.leaves.ready passed
     (goes_on_refl mid sent' got') refl passed.ready (λ l h from e. refl) k.leaves.same_outs.sent (λ l h from. inl refl)
     c.relay_all.ensures.standing c.relay_all.ensures.stopped
@@ -240,4 +241,4 @@ pub returns-then-is_over-clause-held : goal.returns-then-is_over-clause-held
 returns-then-is_over-clause-held g c =
     let st : State = c.args.state.now in
     let over : st.phase ≡ Complete = complete_phase st.phase (ap is_complete (sym c.phase.ensures.value) ∙ (sym c.is_over.ensures ∙ c.if-is_over.true)) in
-    λ l e below to less at. absurd (over_held st c.phase.ensures.standing (c.requires.conveyor.complete over) (g.P.Port.sent c.args.port.now) l e below to at)
+    λ l e below to less at. absurd (over_held st c.phase.ensures.standing (c.requires.conveyor.complete over) (g.P.Port.view c.args.port.now).sent l e below to at)

@@ -7,8 +7,10 @@ use Rattle.item_buffer.specs.Contents.{Contents, IsFresh, as_shipped}
 use Rattle.route_tensor.specs.Tag.{IsFair}
 use Rattle.route_tensor.specs.Link.{links}
 use Rattle.route_tensor.specs.Neighbour.{hop_to, out_index}
+use Rattle.port_bank.specs.Port.{is_crowded, is_idle}
 use Rattle.port_bank.specs.declared.port.Posted.{Posted}
 use Rattle.port_bank.specs.declared.port.Posted.TheVariants.{Sent, NoRoom}
+use Rattle.port_bank.proofs.Frames.{outs_elsewhere}
 use Rattle.port_bank.proofs.Kept.{added-here}
 use Rattle.port_bank.proofs.Channels.{changed-other}
 use Rattle.hop_core.specs.State.{State}
@@ -43,19 +45,13 @@ post-requires g c =
     let t = taken_out st c.args.number c.args.link c.take_out-outgoing.new.parcel s below n (sym c.due_to.ensures ∙ c.if-not-due_to.false) c.take_out-outgoing.ensures.parcel in
     let q = as_shipped c.take_out-outgoing.new.parcel in (
       search rules,
-      (
-        c.requires.link,
-        (
-          c.requires.starts_here,
-          (
-            c.take_out-outgoing.ensures.taken.fresh.none_taken,
-            (
-              ap (λ p. p.epoch) c.take_out-outgoing.ensures.parcel ∙ dated (g.P.Port.dims c.args.port.now) (g.P.Port.rank c.args.port.now) st st c.args.link (out_of st c.args.link) q _ (g.P.Port.sent c.args.port.now) _ (g.P.Port.got c.args.port.now) s c.requires.ready c.requires.link c.requires.starts_here t.due t.entries t.last refl,
-              may_post _ _ st st c.args.link (out_of st c.args.link) q _ (g.P.Port.sent c.args.port.now) _ (g.P.Port.got c.args.port.now) s c.requires.ready c.requires.link c.requires.starts_here t.due t.entries t.last refl,
-            ),
-          ),
-        ),
-      ),
+      record {
+        link = c.requires.link;
+        starts_here = c.requires.starts_here;
+        fresh = c.take_out-outgoing.ensures.taken.fresh.none_taken;
+        epoch = ap (λ p. p.epoch) c.take_out-outgoing.ensures.parcel ∙ dated (g.P.Port.view c.args.port.now).dims (g.P.Port.view c.args.port.now).rank st st c.args.link (out_of st c.args.link) q _ (g.P.Port.view c.args.port.now).sent _ (g.P.Port.view c.args.port.now).got s c.requires.ready c.requires.link c.requires.starts_here t.due t.entries t.last refl;
+        law = may_post _ _ st st c.args.link (out_of st c.args.link) q _ (g.P.Port.view c.args.port.now).sent _ (g.P.Port.view c.args.port.now).got s c.requires.ready c.requires.link c.requires.starts_here t.due t.entries t.last refl;
+      },
     )
 
 pub returns-in-Ok-Sent-clause-leaves : goal.returns-in-Ok-Sent-clause-leaves
@@ -66,20 +62,20 @@ returns-in-Ok-Sent-clause-leaves g c =
     let n : c.args.number ≡ out_index st.dims c.args.link = c.requires.number ∙ ap (λ ds. out_index ds c.args.link) (sym c.requires.ready.same_dims) in
     let t = taken_out st c.args.number c.args.link c.take_out-outgoing.new.parcel s below n (sym c.due_to.ensures ∙ c.if-not-due_to.false) c.take_out-outgoing.ensures.parcel in
     let q = as_shipped c.take_out-outgoing.new.parcel in
-    let e = c.post.ensures in
+    let e = c.post.ensures.posts in
     let was : c.post.result ≡ Ok Sent = c.in-Ok-Sent.is ∙ ap Ok c.in-Ok-Sent.field-0-is in
     let over = sym c.take_out-outgoing.ensures.borrowed in
     let new = sent_from st c.take_out-outgoing.result.state.now c.state-1.given.0 c.args.number c.take_out-outgoing.result.number c.args.link _ _ n c.take_out-outgoing.ensures.number c.take_out-outgoing.ensures.state (c.state-1.given.1 over ∙ c.sent.ensures) in
     let closes = ap (λ p. p.last) c.take_out-outgoing.ensures.lent in
-    let more = ap (λ logs. logs c.args.link) (e.sent was) ∙ added-here (g.P.Port.sent c.args.port.now) c.args.link q in
+    let more = ap (λ logs. logs c.args.link) (e.sent was) ∙ added-here (g.P.Port.view c.args.port.now).sent c.args.link q in
     let one = (served_one _ _ st _ c.args.link _ q _ _ _ _ s c.requires.ready c.requires.link c.requires.starts_here t.due t.entries t.last e.same_ins.got new refl closes (e.sent was)) in
     record {
       ready = one.ready;
       goes_on = one.goes_on;
       ins = search rules;
       idle = λ m same. elim (cases_eq m c.args.link) [
-        | inl here ↦ absurd (grew _ _ (sym more ∙ subst (λ l. g.P.Port.sent c.post.new.self l ≡ g.P.Port.sent c.args.port.now l) here same))
-        | inr other ↦ ap (λ f. f m) e.idle_here ∙ changed-other (g.P.Port.idle c.args.port.now) c.args.link m (g.P.Port.idle c.post.new.self c.args.link) other
+        | inl here ↦ absurd (grew _ _ (sym more ∙ subst (λ l. (g.P.Port.view c.post.new.self).sent l ≡ (g.P.Port.view c.args.port.now).sent l) here same))
+        | inr other ↦ ap (λ f. f m) e.idle_here ∙ changed-other (is_idle (g.P.Port.view c.args.port.now)) c.args.link m (is_idle (g.P.Port.view c.post.new.self) c.args.link) other
       ];
       same_ins = e.same_ins;
       same_port = e.same_port;
@@ -93,7 +89,7 @@ returns-in-Ok-NoRoom-clause-leaves g c =
     let n : c.args.number ≡ out_index st.dims c.args.link = c.requires.number ∙ ap (λ ds. out_index ds c.args.link) (sym c.requires.ready.same_dims) in
     let t = taken_out st c.args.number c.args.link c.take_out-outgoing.new.parcel s below n (sym c.due_to.ensures ∙ c.if-not-due_to.false) c.take_out-outgoing.ensures.parcel in
     let q = as_shipped c.take_out-outgoing.new.parcel in
-    let e = c.post.ensures in
+    let e = c.post.ensures.posts in
     let no = not_sent _ (c.in-Ok-NoRoom.is ∙ ap Ok c.in-Ok-NoRoom.field-0-is) in
     let over = sym c.take_out-outgoing.ensures.borrowed in
     let new = reopened st c.take_out-outgoing.result.state.now c.state-in-Ok-NoRoom-1.given.0 c.args.number c.take_out-outgoing.result.number c.args.link _ _ n c.take_out-outgoing.ensures.number c.take_out-outgoing.ensures.state (c.state-in-Ok-NoRoom-1.given.1 over ∙ c.put_back.ensures.state) in
@@ -116,7 +112,7 @@ returns-in-Err-clause-leaves g c =
     let n : c.args.number ≡ out_index st.dims c.args.link = c.requires.number ∙ ap (λ ds. out_index ds c.args.link) (sym c.requires.ready.same_dims) in
     let t = taken_out st c.args.number c.args.link c.take_out-outgoing.new.parcel s below n (sym c.due_to.ensures ∙ c.if-not-due_to.false) c.take_out-outgoing.ensures.parcel in
     let q = as_shipped c.take_out-outgoing.new.parcel in
-    let e = c.post.ensures in
+    let e = c.post.ensures.posts in
     let no = failed _ _ c.in-Err.is in
     let over = sym c.take_out-outgoing.ensures.borrowed in
     let new = reopened st c.take_out-outgoing.result.state.now c.state-in-Err-1.given.0 c.args.number c.take_out-outgoing.result.number c.args.link _ _ n c.take_out-outgoing.ensures.number c.take_out-outgoing.ensures.state (c.state-in-Err-1.given.1 over ∙ c.put_back-in-Err.ensures.state) in
@@ -132,7 +128,7 @@ returns-in-Err-clause-leaves g c =
     }
 
 pub returns-then-not-due_to-clause-leaves : goal.returns-then-not-due_to-clause-leaves
-returns-then-not-due_to-clause-leaves g c = posts_first g.P.Port c.args.state.now c.args.port.now c.requires.ready
+returns-then-not-due_to-clause-leaves g c = posts_first c.args.state.now (g.P.Port.view c.args.port.now) c.requires.ready
 
 pub returns-in-Ok-Sent-clause-out : goal.returns-in-Ok-Sent-clause-out
 returns-in-Ok-Sent-clause-out g c =
@@ -142,7 +138,7 @@ returns-in-Ok-Sent-clause-out g c =
     let n : c.args.number ≡ out_index st.dims c.args.link = c.requires.number ∙ ap (λ ds. out_index ds c.args.link) (sym c.requires.ready.same_dims) in
     let t = taken_out st c.args.number c.args.link c.take_out-outgoing.new.parcel s below n (sym c.due_to.ensures ∙ c.if-not-due_to.false) c.take_out-outgoing.ensures.parcel in
     let q = as_shipped c.take_out-outgoing.new.parcel in
-    let e = c.post.ensures in
+    let e = c.post.ensures.posts in
     let was : c.post.result ≡ Ok Sent = c.in-Ok-Sent.is ∙ ap Ok c.in-Ok-Sent.field-0-is in
     let over = sym c.take_out-outgoing.ensures.borrowed in
     let new = sent_from st c.take_out-outgoing.result.state.now c.state-1.given.0 c.args.number c.take_out-outgoing.result.number c.args.link _ _ n c.take_out-outgoing.ensures.number c.take_out-outgoing.ensures.state (c.state-1.given.1 over ∙ c.sent.ensures) in
@@ -157,12 +153,12 @@ returns-in-Ok-Sent-clause-served g c =
     let n : c.args.number ≡ out_index st.dims c.args.link = c.requires.number ∙ ap (λ ds. out_index ds c.args.link) (sym c.requires.ready.same_dims) in
     let t = taken_out st c.args.number c.args.link c.take_out-outgoing.new.parcel s below n (sym c.due_to.ensures ∙ c.if-not-due_to.false) c.take_out-outgoing.ensures.parcel in
     let q = as_shipped c.take_out-outgoing.new.parcel in
-    let e = c.post.ensures in
+    let e = c.post.ensures.posts in
     let was : c.post.result ≡ Ok Sent = c.in-Ok-Sent.is ∙ ap Ok c.in-Ok-Sent.field-0-is in
     let over = sym c.take_out-outgoing.ensures.borrowed in
     let new = sent_from st c.take_out-outgoing.result.state.now c.state-1.given.0 c.args.number c.take_out-outgoing.result.number c.args.link _ _ n c.take_out-outgoing.ensures.number c.take_out-outgoing.ensures.state (c.state-1.given.1 over ∙ c.sent.ensures) in
     let closes = ap (λ p. p.last) c.take_out-outgoing.ensures.lent in
-    let no = no_longer_due _ _ st _ c.args.link _ q _ (g.P.Port.sent c.args.port.now) _ _ s c.requires.ready c.requires.link c.requires.starts_here t.due t.entries t.last e.same_ins.got new refl closes in
+    let no = no_longer_due _ _ st _ c.args.link _ q _ (g.P.Port.view c.args.port.now).sent _ _ s c.requires.ready c.requires.link c.requires.starts_here t.due t.entries t.last e.same_ins.got new refl closes in
     record { looked = λ d. absurd (no d); crowded = λ d. absurd (no d) }
 
 pub returns-in-Ok-Sent-clause-waits : goal.returns-in-Ok-Sent-clause-waits
@@ -173,12 +169,12 @@ returns-in-Ok-Sent-clause-waits g c =
     let n : c.args.number ≡ out_index st.dims c.args.link = c.requires.number ∙ ap (λ ds. out_index ds c.args.link) (sym c.requires.ready.same_dims) in
     let t = taken_out st c.args.number c.args.link c.take_out-outgoing.new.parcel s below n (sym c.due_to.ensures ∙ c.if-not-due_to.false) c.take_out-outgoing.ensures.parcel in
     let q = as_shipped c.take_out-outgoing.new.parcel in
-    let e = c.post.ensures in
+    let e = c.post.ensures.posts in
     let was : c.post.result ≡ Ok Sent = c.in-Ok-Sent.is ∙ ap Ok c.in-Ok-Sent.field-0-is in
     let over = sym c.take_out-outgoing.ensures.borrowed in
     let new = sent_from st c.take_out-outgoing.result.state.now c.state-1.given.0 c.args.number c.take_out-outgoing.result.number c.args.link _ _ n c.take_out-outgoing.ensures.number c.take_out-outgoing.ensures.state (c.state-1.given.1 over ∙ c.sent.ensures) in
     let closes = ap (λ p. p.last) c.take_out-outgoing.ensures.lent in
-    let more = ap (λ logs. logs c.args.link) (e.sent was) ∙ added-here (g.P.Port.sent c.args.port.now) c.args.link q in
+    let more = ap (λ logs. logs c.args.link) (e.sent was) ∙ added-here (g.P.Port.view c.args.port.now).sent c.args.link q in
     λ same. absurd (grew _ _ (sym more ∙ same))
 
 pub returns-in-Ok-NoRoom-clause-out : goal.returns-in-Ok-NoRoom-clause-out
@@ -189,7 +185,7 @@ returns-in-Ok-NoRoom-clause-out g c =
     let n : c.args.number ≡ out_index st.dims c.args.link = c.requires.number ∙ ap (λ ds. out_index ds c.args.link) (sym c.requires.ready.same_dims) in
     let t = taken_out st c.args.number c.args.link c.take_out-outgoing.new.parcel s below n (sym c.due_to.ensures ∙ c.if-not-due_to.false) c.take_out-outgoing.ensures.parcel in
     let q = as_shipped c.take_out-outgoing.new.parcel in
-    let e = c.post.ensures in
+    let e = c.post.ensures.posts in
     let no = not_sent _ (c.in-Ok-NoRoom.is ∙ ap Ok c.in-Ok-NoRoom.field-0-is) in
     let over = sym c.take_out-outgoing.ensures.borrowed in
     let new = reopened st c.take_out-outgoing.result.state.now c.state-in-Ok-NoRoom-1.given.0 c.args.number c.take_out-outgoing.result.number c.args.link _ _ n c.take_out-outgoing.ensures.number c.take_out-outgoing.ensures.state (c.state-in-Ok-NoRoom-1.given.1 over ∙ c.put_back.ensures.state) in
@@ -204,12 +200,12 @@ returns-in-Ok-NoRoom-clause-waits g c =
     let n : c.args.number ≡ out_index st.dims c.args.link = c.requires.number ∙ ap (λ ds. out_index ds c.args.link) (sym c.requires.ready.same_dims) in
     let t = taken_out st c.args.number c.args.link c.take_out-outgoing.new.parcel s below n (sym c.due_to.ensures ∙ c.if-not-due_to.false) c.take_out-outgoing.ensures.parcel in
     let q = as_shipped c.take_out-outgoing.new.parcel in
-    let e = c.post.ensures in
+    let e = c.post.ensures.posts in
     let no = not_sent _ (c.in-Ok-NoRoom.is ∙ ap Ok c.in-Ok-NoRoom.field-0-is) in
     let over = sym c.take_out-outgoing.ensures.borrowed in
     let new = reopened st c.take_out-outgoing.result.state.now c.state-in-Ok-NoRoom-1.given.0 c.args.number c.take_out-outgoing.result.number c.args.link _ _ n c.take_out-outgoing.ensures.number c.take_out-outgoing.ensures.state (c.state-in-Ok-NoRoom-1.given.1 over ∙ c.put_back.ensures.state) in
     let keeps = ap (λ p. p.untaken) (e.kept no) ∙ t.entries in
-    λ same. still_waits _ _ st _ c.args.link _ q _ (g.P.Port.sent c.args.port.now) _ _ s c.requires.ready c.requires.link c.requires.starts_here t.due t.entries t.last e.same_ins.got new keeps
+    λ same. still_waits _ _ st _ c.args.link _ q _ (g.P.Port.view c.args.port.now).sent _ _ s c.requires.ready c.requires.link c.requires.starts_here t.due t.entries t.last e.same_ins.got new keeps
 
 pub returns-in-Err-clause-out : goal.returns-in-Err-clause-out
 returns-in-Err-clause-out g c =
@@ -219,7 +215,7 @@ returns-in-Err-clause-out g c =
     let n : c.args.number ≡ out_index st.dims c.args.link = c.requires.number ∙ ap (λ ds. out_index ds c.args.link) (sym c.requires.ready.same_dims) in
     let t = taken_out st c.args.number c.args.link c.take_out-outgoing.new.parcel s below n (sym c.due_to.ensures ∙ c.if-not-due_to.false) c.take_out-outgoing.ensures.parcel in
     let q = as_shipped c.take_out-outgoing.new.parcel in
-    let e = c.post.ensures in
+    let e = c.post.ensures.posts in
     let no = failed _ _ c.in-Err.is in
     let over = sym c.take_out-outgoing.ensures.borrowed in
     let new = reopened st c.take_out-outgoing.result.state.now c.state-in-Err-1.given.0 c.args.number c.take_out-outgoing.result.number c.args.link _ _ n c.take_out-outgoing.ensures.number c.take_out-outgoing.ensures.state (c.state-in-Err-1.given.1 over ∙ c.put_back-in-Err.ensures.state) in
@@ -234,17 +230,17 @@ returns-in-Err-clause-waits g c =
     let n : c.args.number ≡ out_index st.dims c.args.link = c.requires.number ∙ ap (λ ds. out_index ds c.args.link) (sym c.requires.ready.same_dims) in
     let t = taken_out st c.args.number c.args.link c.take_out-outgoing.new.parcel s below n (sym c.due_to.ensures ∙ c.if-not-due_to.false) c.take_out-outgoing.ensures.parcel in
     let q = as_shipped c.take_out-outgoing.new.parcel in
-    let e = c.post.ensures in
+    let e = c.post.ensures.posts in
     let no = failed _ _ c.in-Err.is in
     let over = sym c.take_out-outgoing.ensures.borrowed in
     let new = reopened st c.take_out-outgoing.result.state.now c.state-in-Err-1.given.0 c.args.number c.take_out-outgoing.result.number c.args.link _ _ n c.take_out-outgoing.ensures.number c.take_out-outgoing.ensures.state (c.state-in-Err-1.given.1 over ∙ c.put_back-in-Err.ensures.state) in
     let keeps = ap (λ p. p.untaken) (e.kept no) ∙ t.entries in
-    λ same. still_waits _ _ st _ c.args.link _ q _ (g.P.Port.sent c.args.port.now) _ _ s c.requires.ready c.requires.link c.requires.starts_here t.due t.entries t.last e.same_ins.got new keeps
+    λ same. still_waits _ _ st _ c.args.link _ q _ (g.P.Port.view c.args.port.now).sent _ _ s c.requires.ready c.requires.link c.requires.starts_here t.due t.entries t.last e.same_ins.got new keeps
 
 pub returns-in-Ok-NoRoom-clause-served : goal.returns-in-Ok-NoRoom-clause-served
 returns-in-Ok-NoRoom-clause-served g c =
     let was : c.post.result ≡ Ok NoRoom = c.in-Ok-NoRoom.is ∙ ap Ok c.in-Ok-NoRoom.field-0-is in
-    record { looked = λ d. c.post.ensures.looked was; crowded = λ d. c.post.ensures.crowded was }
+    record { looked = λ d. c.post.ensures.posts.looked was; crowded = λ d. c.post.ensures.posts.crowded was }
 
 pub due_to-requires : goal.due_to-requires
 due_to-requires g c =
@@ -286,15 +282,15 @@ returns-in-Ok-Sent-clause-posted g c =
     let t = taken_out st c.args.number c.args.link c.take_out-outgoing.new.parcel s below n (sym c.due_to.ensures ∙ c.if-not-due_to.false) c.take_out-outgoing.ensures.parcel in
     let q = as_shipped c.take_out-outgoing.new.parcel in
     let was : c.post.result ≡ Ok Sent = c.in-Ok-Sent.is ∙ ap Ok c.in-Ok-Sent.field-0-is in
-    inr (record { parcel = q; is = ap (λ logs. logs c.args.link) (c.post.ensures.sent was) ∙ added-here (g.P.Port.sent c.args.port.now) c.args.link q; holds = t.entries })
+    inr (record { parcel = q; is = ap (λ logs. logs c.args.link) (c.post.ensures.posts.sent was) ∙ added-here (g.P.Port.view c.args.port.now).sent c.args.link q; holds = t.entries })
 
 pub returns-in-Ok-NoRoom-clause-posted : goal.returns-in-Ok-NoRoom-clause-posted
 returns-in-Ok-NoRoom-clause-posted g c =
     let no = not_sent _ (c.in-Ok-NoRoom.is ∙ ap Ok c.in-Ok-NoRoom.field-0-is) in
-    inl (ap (λ logs. logs c.args.link) (c.post.ensures.not_sent no))
+    inl (ap (λ logs. logs c.args.link) (c.post.ensures.posts.not_sent no))
 
 pub returns-in-Err-clause-posted : goal.returns-in-Err-clause-posted
-returns-in-Err-clause-posted g c = inl (ap (λ logs. logs c.args.link) (c.post.ensures.not_sent (failed _ _ c.in-Err.is)))
+returns-in-Err-clause-posted g c = inl (ap (λ logs. logs c.args.link) (c.post.ensures.posts.not_sent (failed _ _ c.in-Err.is)))
 
 pub returns-then-not-due_to-clause-calls : goal.returns-then-not-due_to-clause-calls
 returns-then-not-due_to-clause-calls g c =
@@ -303,16 +299,16 @@ returns-then-not-due_to-clause-calls g c =
     let below : c.args.link < links st.dims = subst (λ ds. c.args.link < links ds) (sym c.requires.ready.same_dims) c.requires.link in
     let n : c.args.number ≡ out_index st.dims c.args.link = c.requires.number ∙ ap (λ ds. out_index ds c.args.link) (sym c.requires.ready.same_dims) in
     let no = not_due st c.args.number c.args.link _ s below n c.due_to.ensures c.if-not-due_to.true in
-    let log = g.P.Port.sent c.args.port.now c.args.link in
-    sym (append-nil (g.P.Port.calls c.args.port.now)) ∙ ap (λ b. g.P.Port.calls c.args.port.now ++ once_if b (Post c.args.link)) (sym (served_not st c.args.link log log refl no))
+    let log = (g.P.Port.view c.args.port.now).sent c.args.link in
+    sym (append-nil (g.P.Port.view c.args.port.now).calls) ∙ ap (λ b. (g.P.Port.view c.args.port.now).calls ++ once_if b (Post c.args.link)) (sym (served_not st c.args.link log log refl no))
 
 pub returns-in-Ok-Sent-clause-calls : goal.returns-in-Ok-Sent-clause-calls
 returns-in-Ok-Sent-clause-calls g c =
     let q = as_shipped c.take_out-outgoing.new.parcel in
     let was : c.post.result ≡ Ok Sent = c.in-Ok-Sent.is ∙ ap Ok c.in-Ok-Sent.field-0-is in
-    let log = g.P.Port.sent c.args.port.now c.args.link in
-    let more = ap (λ logs. logs c.args.link) (c.post.ensures.sent was) ∙ added-here (g.P.Port.sent c.args.port.now) c.args.link q in
-    c.post.ensures.calls (search rules) ∙ ap (λ b. g.P.Port.calls c.args.port.now ++ once_if b (Post c.args.link)) (sym (served_sent c.state-1.given.0 c.args.link log _ q more))
+    let log = (g.P.Port.view c.args.port.now).sent c.args.link in
+    let more = ap (λ logs. logs c.args.link) (c.post.ensures.posts.sent was) ∙ added-here (g.P.Port.view c.args.port.now).sent c.args.link q in
+    c.post.ensures.posts.calls (search rules) ∙ ap (λ b. (g.P.Port.view c.args.port.now).calls ++ once_if b (Post c.args.link)) (sym (served_sent c.state-1.given.0 c.args.link log _ q more))
 
 pub returns-in-Ok-NoRoom-clause-calls : goal.returns-in-Ok-NoRoom-clause-calls
 returns-in-Ok-NoRoom-clause-calls g c =
@@ -322,14 +318,14 @@ returns-in-Ok-NoRoom-clause-calls g c =
     let n : c.args.number ≡ out_index st.dims c.args.link = c.requires.number ∙ ap (λ ds. out_index ds c.args.link) (sym c.requires.ready.same_dims) in
     let t = taken_out st c.args.number c.args.link c.take_out-outgoing.new.parcel s below n (sym c.due_to.ensures ∙ c.if-not-due_to.false) c.take_out-outgoing.ensures.parcel in
     let q = as_shipped c.take_out-outgoing.new.parcel in
-    let e = c.post.ensures in
+    let e = c.post.ensures.posts in
     let no = not_sent _ (c.in-Ok-NoRoom.is ∙ ap Ok c.in-Ok-NoRoom.field-0-is) in
     let over = sym c.take_out-outgoing.ensures.borrowed in
     let new = reopened st c.take_out-outgoing.result.state.now c.state-in-Ok-NoRoom-1.given.0 c.args.number c.take_out-outgoing.result.number c.args.link _ _ n c.take_out-outgoing.ensures.number c.take_out-outgoing.ensures.state (c.state-in-Ok-NoRoom-1.given.1 over ∙ c.put_back.ensures.state) in
     let keeps = ap (λ p. p.untaken) (e.kept no) ∙ t.entries in
-    let due = still_due _ _ st _ c.args.link _ q _ (g.P.Port.sent c.args.port.now) _ _ s c.requires.ready c.requires.link c.requires.starts_here t.due t.entries t.last e.same_ins.got new keeps refl in
-    let log = g.P.Port.sent c.args.port.now c.args.link in
-    c.post.ensures.calls (search rules) ∙ ap (λ b. g.P.Port.calls c.args.port.now ++ once_if b (Post c.args.link)) (sym (served_due c.state-in-Ok-NoRoom-1.given.0 c.args.link log _ due))
+    let due = still_due _ _ st _ c.args.link _ q _ (g.P.Port.view c.args.port.now).sent _ _ s c.requires.ready c.requires.link c.requires.starts_here t.due t.entries t.last e.same_ins.got new keeps refl in
+    let log = (g.P.Port.view c.args.port.now).sent c.args.link in
+    c.post.ensures.posts.calls (search rules) ∙ ap (λ b. (g.P.Port.view c.args.port.now).calls ++ once_if b (Post c.args.link)) (sym (served_due c.state-in-Ok-NoRoom-1.given.0 c.args.link log _ due))
 
 pub returns-in-Err-clause-still_due : goal.returns-in-Err-clause-still_due
 returns-in-Err-clause-still_due g c =
@@ -339,37 +335,27 @@ returns-in-Err-clause-still_due g c =
     let n : c.args.number ≡ out_index st.dims c.args.link = c.requires.number ∙ ap (λ ds. out_index ds c.args.link) (sym c.requires.ready.same_dims) in
     let t = taken_out st c.args.number c.args.link c.take_out-outgoing.new.parcel s below n (sym c.due_to.ensures ∙ c.if-not-due_to.false) c.take_out-outgoing.ensures.parcel in
     let q = as_shipped c.take_out-outgoing.new.parcel in
-    let e = c.post.ensures in
+    let e = c.post.ensures.posts in
     let no = failed _ _ c.in-Err.is in
     let over = sym c.take_out-outgoing.ensures.borrowed in
     let new = reopened st c.take_out-outgoing.result.state.now c.state-in-Err-1.given.0 c.args.number c.take_out-outgoing.result.number c.args.link _ _ n c.take_out-outgoing.ensures.number c.take_out-outgoing.ensures.state (c.state-in-Err-1.given.1 over ∙ c.put_back-in-Err.ensures.state) in
     let keeps = ap (λ p. p.untaken) (e.kept no) ∙ t.entries in
-    λ err. still_due _ _ st _ c.args.link _ q _ (g.P.Port.sent c.args.port.now) _ _ s c.requires.ready c.requires.link c.requires.starts_here t.due t.entries t.last e.same_ins.got new keeps refl
+    λ err. still_due _ _ st _ c.args.link _ q _ (g.P.Port.view c.args.port.now).sent _ _ s c.requires.ready c.requires.link c.requires.starts_here t.due t.entries t.last e.same_ins.got new keeps refl
 
 pub returns-in-Err-clause-no_post : goal.returns-in-Err-clause-no_post
-returns-in-Err-clause-no_post g c = λ err. ap g.P.Port.calls (c.post.ensures.no_memory (search rules))
+returns-in-Err-clause-no_post g c = λ err. ap (λ port. (g.P.Port.view port).calls) (c.post.ensures.no_memory (search rules))
 
 pub returns-in-Err-clause-elsewhere : goal.returns-in-Err-clause-elsewhere
 returns-in-Err-clause-elsewhere g c =
     let same = c.post.ensures.no_memory (search rules) in
     record {
-      sent = λ m ne. ap (λ port. g.P.Port.sent port m) same;
-      looks_out = λ m ne. ap (λ port. g.P.Port.looks_out port m) same;
-      crowded = λ m ne. ap (λ port. g.P.Port.crowded port m) same;
+      sent = λ m ne. ap (λ port. (g.P.Port.view port).sent m) same;
+      looks_out = λ m ne. ap (λ port. (g.P.Port.view port).looks_out m) same;
+      crowded = λ m ne. ap (λ port. is_crowded (g.P.Port.view port) m) same;
     }
 
 pub returns-in-Ok-Sent-clause-elsewhere : goal.returns-in-Ok-Sent-clause-elsewhere
-returns-in-Ok-Sent-clause-elsewhere g c =
-    record {
-      sent = search rules;
-      looks_out = search rules;
-      crowded = search rules;
-    }
+returns-in-Ok-Sent-clause-elsewhere g c = outs_elsewhere c.post.ensures.posts
 
 pub returns-in-Ok-NoRoom-clause-elsewhere : goal.returns-in-Ok-NoRoom-clause-elsewhere
-returns-in-Ok-NoRoom-clause-elsewhere g c =
-    record {
-      sent = search rules;
-      looks_out = search rules;
-      crowded = search rules;
-    }
+returns-in-Ok-NoRoom-clause-elsewhere g c = outs_elsewhere c.post.ensures.posts

@@ -20,9 +20,9 @@ pub loop-a-init : goal.loop-a-init
 loop-a-init g c = record {
   collected = sweep_start _ _ _ _ _;
   asked = sweep_start _ _ _ _ _;
-  calls = sym (append-nil (g.P.Port.calls c.args.port.now));
+  calls = sym (append-nil (g.P.Port.view c.args.port.now).calls);
   own = λ b. b;
-  left = record { grows = λ m. begins_refl (g.P.Port.got c.args.port.now m); crowded = λ m e. refl; same_outs = outs_at_first; same_port = port_at_first };
+  left = record { grows = λ m. begins_refl ((g.P.Port.view c.args.port.now).got m); crowded = λ m e. refl; same_outs = outs_at_first; same_port = port_at_first };
 }
 
 pub collect-requires : goal.collect-requires
@@ -36,11 +36,11 @@ collect-requires g c =
     let within : a < n = omega (arith, c.loop-a-test.true, c.len-a-end.ensures, c.args.ins.now.ok) in
     let l : ℕ = a * c.len-ranks.result + r in
     let here : number n a r ≡ l = ap (λ m. a * m + r) (sym len) in
-    let dims : g.P.Port.dims c.loop-a.port ≡ n ∷ [] = k.left.same_port.dims ∙ c.requires.port.dims in
+    let dims : (g.P.Port.view c.loop-a.port).dims ≡ n ∷ [] = k.left.same_port.dims ∙ c.requires.port.dims in
     let now : c.index_mut.result.now ≡ get_or xs a no_stack_in = sweep_here _ _ _ _ _ _ _ _ _ within k.collected c.index_mut.ensures.value in
-    let log : g.P.Port.got c.loop-a.port (number n a r) ≡ g.P.Port.got c.args.port.now (number n a r) = ap (λ (s : Sight). s.log) (k.collected.shown a (omega arith) within) in
-    let due : c.index_mut.result.now.due ≡ true → lasts (g.P.Port.got c.loop-a.port l) ≡ c.args.epoch = λ d.
-    ap (λ m. lasts (g.P.Port.got c.loop-a.port m)) (sym here) ∙ (ap lasts log ∙ c.requires.epoch a within (ap (λ (i : StackIn). i.due) (sym now) ∙ d)) in (
+    let log : (g.P.Port.view c.loop-a.port).got (number n a r) ≡ (g.P.Port.view c.args.port.now).got (number n a r) = ap (λ (s : Sight). s.log) (k.collected.shown a (omega arith) within) in
+    let due : c.index_mut.result.now.due ≡ true → lasts ((g.P.Port.view c.loop-a.port).got l) ≡ c.args.epoch = λ d.
+    ap (λ m. lasts ((g.P.Port.view c.loop-a.port).got m)) (sym here) ∙ (ap lasts log ∙ c.requires.epoch a within (ap (λ (i : StackIn). i.due) (sym now) ∙ d)) in (
       search rules,
       (
         subst (λ ds. l < links ds) (sym dims) (subst (λ x. x < links (n ∷ [])) here (number_within n a r within c.requires.port.within c.requires.port.few)),
@@ -63,27 +63,27 @@ loop-a-preserved g c =
     let within : a < n = omega (arith, c.loop-a-test.true, c.len-a-end.ensures, c.args.ins.now.ok) in
     let l : ℕ = a * c.len-ranks.result + r in
     let here : number n a r ≡ l = ap (λ m. a * m + r) (sym len) in
-    let dims : g.P.Port.dims c.loop-a.port ≡ n ∷ [] = k.left.same_port.dims ∙ c.requires.port.dims in
-    let before : ℕ → Sight = in_sight g.P.Port c.args.port.now in
-    let mid : ℕ → Sight = in_sight g.P.Port c.loop-a.port in
-    let after : ℕ → Sight = in_sight g.P.Port c.collect.new.port in
+    let dims : (g.P.Port.view c.loop-a.port).dims ≡ n ∷ [] = k.left.same_port.dims ∙ c.requires.port.dims in
+    let before : ℕ → Sight = in_sight (g.P.Port.view c.args.port.now) in
+    let mid : ℕ → Sight = in_sight (g.P.Port.view c.loop-a.port) in
+    let after : ℕ → Sight = in_sight (g.P.Port.view c.collect.new.port) in
     let x : StackIn = c.index_mut.result.now in
     let y : StackIn = c.collect.new.self in
-    let others : (m : ℕ) → m < n → m ≢ a → after (in_number n r m) ≡ mid (in_number n r m) = λ m w ne. in_seen g.P.Port l c.loop-a.port c.collect.new.port e.elsewhere (number n m r) (λ q. in_apart n r a m c.requires.port.within ne (q ∙ sym here)) in
+    let others : (m : ℕ) → m < n → m ≢ a → after (in_number n r m) ≡ mid (in_number n r m) = λ m w ne. in_seen l (g.P.Port.view c.loop-a.port) (g.P.Port.view c.collect.new.port) e.elsewhere (number n m r) (λ q. in_apart n r a m c.requires.port.within ne (q ∙ sym here)) in
     let moved : Collected c.args.exchange x y (mid (number n a r)) (after (number n a r)) = subst (λ m. Collected c.args.exchange x y (mid m) (after m)) (sym here) e.moved in
     let vain : Asked x y (mid (number n a r)) (after (number n a r)) = subst (λ m. Asked x y (mid m) (after m)) (sym here) e.in_vain in
     let self : ℕ = number n r r in
-    let starts : a ≡ r → sender_at (g.P.Port.dims c.loop-a.port) l ≡ g.P.Port.rank c.loop-a.port = λ same.
+    let starts : a ≡ r → sender_at (g.P.Port.view c.loop-a.port).dims l ≡ (g.P.Port.view c.loop-a.port).rank = λ same.
     ap (λ ds. sender_at ds l) dims ∙ (ap (sender_at (n ∷ [])) (sym here) ∙ (number_sender n a r within c.requires.port.within c.requires.port.few ∙ (same ∙ (sym c.requires.port.rank ∙ sym k.left.same_port.rank)))) in
     let link : a ≡ r → l ≡ self = λ same. sym here ∙ ap (λ m. number n m r) same in
-    let own : IsPrefix (g.P.Port.got c.loop-a.port self) (g.P.Port.sent c.loop-a.port self) → IsPrefix (g.P.Port.got c.collect.new.port self) (g.P.Port.sent c.collect.new.port self) = λ b.
+    let own : IsPrefix ((g.P.Port.view c.loop-a.port).got self) ((g.P.Port.view c.loop-a.port).sent self) → IsPrefix ((g.P.Port.view c.collect.new.port).got self) ((g.P.Port.view c.collect.new.port).sent self) = λ b.
     elim (cases_eq a r) [
       | inl same ↦
-          subst (λ m. IsPrefix (g.P.Port.got c.collect.new.port m) (g.P.Port.sent c.collect.new.port m)) (link same)
-          (e.own (starts same) (subst (λ m. IsPrefix (g.P.Port.got c.loop-a.port m) (g.P.Port.sent c.loop-a.port m)) (sym (link same)) b))
+          subst (λ m. IsPrefix ((g.P.Port.view c.collect.new.port).got m) ((g.P.Port.view c.collect.new.port).sent m)) (link same)
+          (e.own (starts same) (subst (λ m. IsPrefix ((g.P.Port.view c.loop-a.port).got m) ((g.P.Port.view c.loop-a.port).sent m)) (sym (link same)) b))
       | inr ne ↦
-          subst (λ log. IsPrefix log (g.P.Port.sent c.collect.new.port self)) (sym (ap (λ (s : Sight). s.log) (others r c.requires.port.within (λ q. ne (sym q)))))
-          (subst (λ logs. IsPrefix (g.P.Port.got c.loop-a.port self) (logs self)) (sym e.left.same_outs.sent) b)
+          subst (λ log. IsPrefix log ((g.P.Port.view c.collect.new.port).sent self)) (sym (ap (λ (s : Sight). s.log) (others r c.requires.port.within (λ q. ne (sym q)))))
+          (subst (λ logs. IsPrefix ((g.P.Port.view c.loop-a.port).got self) (logs self)) (sym e.left.same_outs.sent) b)
     ] in
     record {
       collected = sweep_more (Collected c.args.exchange) no_stack_in (in_number n r) a xs c.loop-a.ins.items before mid after x y within k.collected c.index_mut.ensures.value moved others;
@@ -95,7 +95,7 @@ loop-a-preserved g c =
       left = record {
         grows = λ m. begins_trans _ _ _ (k.left.grows m) (e.left.grows m);
         crowded = λ m q.
-            let stays : g.P.Port.got c.loop-a.port m ≡ g.P.Port.got c.args.port.now m = begins_between _ _ _ (k.left.grows m) (e.left.grows m) q in
+            let stays : (g.P.Port.view c.loop-a.port).got m ≡ (g.P.Port.view c.args.port.now).got m = begins_between _ _ _ (k.left.grows m) (e.left.grows m) q in
             e.left.crowded m (q ∙ sym stays) ∙ k.left.crowded m stays;
         same_outs = outs_then k.left.same_outs e.left.same_outs;
         same_port = port_then k.left.same_port e.left.same_port;
@@ -112,4 +112,4 @@ returns-clause-in_vain g c = λ a w.
 pub returns-clause-calls : goal.returns-clause-calls
 returns-clause-calls g c =
     let all : c.loop-a.a ≡ length c.args.ins.now.items = omega (arith, c.loop-a-test.false, c.len-a-end.ensures, c.args.ins.now.ok) in
-    c.loop-a.invariant.calls ∙ ap (λ m. g.P.Port.calls c.args.port.now ++ collects_from (length c.args.ins.now.items) c.args.rank c.args.ins.now.items m) all
+    c.loop-a.invariant.calls ∙ ap (λ m. (g.P.Port.view c.args.port.now).calls ++ collects_from (length c.args.ins.now.items) c.args.rank c.args.ins.now.items m) all

@@ -10,11 +10,11 @@ use Rattle.exstack.proofs.rounds.collect_all.Given as goal
 abbrev pub invariant-loop-a : goal.invariant-loop-a
 invariant-loop-a g l = record {
   collected : Sweep (Collected l.exchange) no_stack_in (in_number (length l.fn.ins.items) l.rank) l.a l.fn.ins.items l.ins.items
-      (in_sight g.P.Port l.fn.port) (in_sight g.P.Port l.port);
+      (in_sight (g.P.Port.view l.fn.port)) (in_sight (g.P.Port.view l.port));
   asked : Sweep Asked no_stack_in (in_number (length l.fn.ins.items) l.rank) l.a l.fn.ins.items l.ins.items
-      (in_sight g.P.Port l.fn.port) (in_sight g.P.Port l.port);
-  calls : g.P.Port.calls l.port ≡ g.P.Port.calls l.fn.port ++ collects_from (length l.fn.ins.items) l.rank l.fn.ins.items l.a;
-  own : IsPrefix (g.P.Port.got l.fn.port (number (length l.fn.ins.items) l.rank l.rank)) (g.P.Port.sent l.fn.port (number (length l.fn.ins.items) l.rank l.rank))
-      → IsPrefix (g.P.Port.got l.port (number (length l.fn.ins.items) l.rank l.rank)) (g.P.Port.sent l.port (number (length l.fn.ins.items) l.rank l.rank));
-  left : LeftByStackCollects g.P.Port l.fn.port l.port;
+      (in_sight (g.P.Port.view l.fn.port)) (in_sight (g.P.Port.view l.port));
+  calls : (g.P.Port.view l.port).calls ≡ (g.P.Port.view l.fn.port).calls ++ collects_from (length l.fn.ins.items) l.rank l.fn.ins.items l.a;
+  own : IsPrefix ((g.P.Port.view l.fn.port).got (number (length l.fn.ins.items) l.rank l.rank)) ((g.P.Port.view l.fn.port).sent (number (length l.fn.ins.items) l.rank l.rank))
+      → IsPrefix ((g.P.Port.view l.port).got (number (length l.fn.ins.items) l.rank l.rank)) ((g.P.Port.view l.port).sent (number (length l.fn.ins.items) l.rank l.rank));
+  left : LeftByStackCollects (g.P.Port.view l.fn.port) (g.P.Port.view l.port);
 }

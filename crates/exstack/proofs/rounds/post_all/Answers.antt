@@ -21,9 +21,9 @@ pub loop-b-init : goal.loop-b-init
 loop-b-init g c = record {
   posted = sweep_start _ _ _ _ _;
   served = sweep_start _ _ _ _ _;
-  calls = sym (append-nil (g.P.Port.calls c.args.port.now));
+  calls = sym (append-nil (g.P.Port.view c.args.port.now).calls);
   law = c.requires.law;
-  left = record { grows = λ m. begins_refl (g.P.Port.sent c.args.port.now m); same_ins = ins_at_first; same_port = port_at_first };
+  left = record { grows = λ m. begins_refl ((g.P.Port.view c.args.port.now).sent m); same_ins = ins_at_first; same_port = port_at_first };
 }
 
 pub post-requires : goal.post-requires
@@ -38,11 +38,11 @@ post-requires g c =
     let some : 0 < n = omega arith in
     let l : ℕ = r * c.len-ranks.result + b in
     let here : number n r b ≡ l = ap (λ m. r * m + b) (sym len) in
-    let dims : g.P.Port.dims c.loop-b.port ≡ n ∷ [] = k.left.same_port.dims ∙ c.requires.port.dims in
+    let dims : (g.P.Port.view c.loop-b.port).dims ≡ n ∷ [] = k.left.same_port.dims ∙ c.requires.port.dims in
     let now : c.index_mut.result.now ≡ get_or xs b no_stack_out = sweep_here _ _ _ _ _ _ _ _ _ within k.posted c.index_mut.ensures.value in
-    let log : g.P.Port.sent c.loop-b.port (number n r b) ≡ g.P.Port.sent c.args.port.now (number n r b) = ap (λ (s : Sight). s.log) (k.posted.shown b (omega arith) within) in
-    let due : c.index_mut.result.now.due ≡ true → lasts (g.P.Port.sent c.loop-b.port l) ≡ c.args.epoch = λ d.
-    ap (λ m. lasts (g.P.Port.sent c.loop-b.port m)) (sym here) ∙ (ap lasts log ∙ c.requires.epoch b within (ap (λ (o : StackOut). o.due) (sym now) ∙ d)) in (
+    let log : (g.P.Port.view c.loop-b.port).sent (number n r b) ≡ (g.P.Port.view c.args.port.now).sent (number n r b) = ap (λ (s : Sight). s.log) (k.posted.shown b (omega arith) within) in
+    let due : c.index_mut.result.now.due ≡ true → lasts ((g.P.Port.view c.loop-b.port).sent l) ≡ c.args.epoch = λ d.
+    ap (λ m. lasts ((g.P.Port.view c.loop-b.port).sent m)) (sym here) ∙ (ap lasts log ∙ c.requires.epoch b within (ap (λ (o : StackOut). o.due) (sym now) ∙ d)) in (
       search rules,
       (
         subst IsGrid (sym dims) (grid_one n some c.requires.port.few),
@@ -71,12 +71,12 @@ loop-b-preserved g c =
     let within : b < n = omega (arith, c.loop-b-test.true, c.len-b-end.ensures, c.args.outs.now.ok) in
     let l : ℕ = r * c.len-ranks.result + b in
     let here : number n r b ≡ l = ap (λ m. r * m + b) (sym len) in
-    let before : ℕ → Sight = out_sight g.P.Port c.args.port.now in
-    let mid : ℕ → Sight = out_sight g.P.Port c.loop-b.port in
-    let after : ℕ → Sight = out_sight g.P.Port c.post.new.port in
+    let before : ℕ → Sight = out_sight (g.P.Port.view c.args.port.now) in
+    let mid : ℕ → Sight = out_sight (g.P.Port.view c.loop-b.port) in
+    let after : ℕ → Sight = out_sight (g.P.Port.view c.post.new.port) in
     let x : StackOut = c.index_mut.result.now in
     let y : StackOut = c.post.new.self in
-    let others : (m : ℕ) → m < n → m ≢ b → after (number n r m) ≡ mid (number n r m) = λ m w ne. out_seen g.P.Port l c.loop-b.port c.post.new.port e.elsewhere (number n r m) (λ q. out_apart n r b m ne (q ∙ sym here)) in
+    let others : (m : ℕ) → m < n → m ≢ b → after (number n r m) ≡ mid (number n r m) = λ m w ne. out_seen l (g.P.Port.view c.loop-b.port) (g.P.Port.view c.post.new.port) e.elsewhere (number n r m) (λ q. out_apart n r b m ne (q ∙ sym here)) in
     let moved : Posted c.args.last c.args.epoch x y (mid (number n r b)) (after (number n r b)) = subst (λ m. Posted c.args.last c.args.epoch x y (mid m) (after m)) (sym here) e.moved in
     let vain : Served x y (mid (number n r b)) (after (number n r b)) = subst (λ m. Served x y (mid m) (after m)) (sym here) (e.in_vain (search rules)) in
     record {
@@ -105,12 +105,12 @@ returns-in_err-post-clause-moved g c =
     let within : b < n = omega (arith, c.loop-b-test.true, c.len-b-end.ensures, c.args.outs.now.ok) in
     let l : ℕ = r * c.len-ranks.result + b in
     let here : number n r b ≡ l = ap (λ m. r * m + b) (sym len) in
-    let before : ℕ → Sight = out_sight g.P.Port c.args.port.now in
-    let mid : ℕ → Sight = out_sight g.P.Port c.loop-b.port in
-    let after : ℕ → Sight = out_sight g.P.Port c.post.new.port in
+    let before : ℕ → Sight = out_sight (g.P.Port.view c.args.port.now) in
+    let mid : ℕ → Sight = out_sight (g.P.Port.view c.loop-b.port) in
+    let after : ℕ → Sight = out_sight (g.P.Port.view c.post.new.port) in
     let x : StackOut = c.index_mut.result.now in
     let y : StackOut = c.post.new.self in
-    let others : (m : ℕ) → m < n → m ≢ b → after (number n r m) ≡ mid (number n r m) = λ m w ne. out_seen g.P.Port l c.loop-b.port c.post.new.port e.elsewhere (number n r m) (λ q. out_apart n r b m ne (q ∙ sym here)) in
+    let others : (m : ℕ) → m < n → m ≢ b → after (number n r m) ≡ mid (number n r m) = λ m w ne. out_seen l (g.P.Port.view c.loop-b.port) (g.P.Port.view c.post.new.port) e.elsewhere (number n r m) (λ q. out_apart n r b m ne (q ∙ sym here)) in
     let moved : Posted c.args.last c.args.epoch x y (mid (number n r b)) (after (number n r b)) = subst (λ m. Posted c.args.last c.args.epoch x y (mid m) (after m)) (sym here) e.moved in
     sweep_each (Posted c.args.last c.args.epoch) no_stack_out (number n r) (b + 1) xs _ before after (none_posted c.args.last c.args.epoch)
     (sweep_more (Posted c.args.last c.args.epoch) no_stack_out (number n r) b xs c.loop-b.outs.items before mid after x y within k.posted c.index_mut.ensures.value moved others)
@@ -125,7 +125,7 @@ returns-clause-in_vain g c = λ ok b w.
 pub returns-clause-calls : goal.returns-clause-calls
 returns-clause-calls g c =
     let all : c.loop-b.b ≡ length c.args.outs.now.items = omega (arith, c.loop-b-test.false, c.len-b-end.ensures, c.args.outs.now.ok) in
-    c.loop-b.invariant.calls ∙ ap (λ m. g.P.Port.calls c.args.port.now ++ posts_to (length c.args.outs.now.items) c.args.rank c.args.outs.now.items m) all
+    c.loop-b.invariant.calls ∙ ap (λ m. (g.P.Port.view c.args.port.now).calls ++ posts_to (length c.args.outs.now.items) c.args.rank c.args.outs.now.items m) all
 
 pub returns-in_err-post-clause-stops : goal.returns-in_err-post-clause-stops
 returns-in_err-post-clause-stops g c =

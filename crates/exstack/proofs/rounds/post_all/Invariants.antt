@@ -10,10 +10,10 @@ use Rattle.exstack.proofs.rounds.post_all.Given as goal
 abbrev pub invariant-loop-b : goal.invariant-loop-b
 invariant-loop-b g l = record {
   posted : Sweep (Posted l.last l.epoch) no_stack_out (number (length l.fn.outs.items) l.rank) l.b l.fn.outs.items l.outs.items
-      (out_sight g.P.Port l.fn.port) (out_sight g.P.Port l.port);
+      (out_sight (g.P.Port.view l.fn.port)) (out_sight (g.P.Port.view l.port));
   served : Sweep Served no_stack_out (number (length l.fn.outs.items) l.rank) l.b l.fn.outs.items l.outs.items
-      (out_sight g.P.Port l.fn.port) (out_sight g.P.Port l.port);
-  calls : g.P.Port.calls l.port ≡ g.P.Port.calls l.fn.port ++ posts_to (length l.fn.outs.items) l.rank l.fn.outs.items l.b;
-  law : RelayLaw (g.P.Port.dims l.fn.port) (g.P.Port.rank l.fn.port) (g.P.Port.sent l.port) (g.P.Port.got l.fn.port);
-  left : LeftByStackPosts g.P.Port l.fn.port l.port;
+      (out_sight (g.P.Port.view l.fn.port)) (out_sight (g.P.Port.view l.port));
+  calls : (g.P.Port.view l.port).calls ≡ (g.P.Port.view l.fn.port).calls ++ posts_to (length l.fn.outs.items) l.rank l.fn.outs.items l.b;
+  law : RelayLaw (g.P.Port.view l.fn.port).dims (g.P.Port.view l.fn.port).rank (g.P.Port.view l.port).sent (g.P.Port.view l.fn.port).got;
+  left : LeftByStackPosts (g.P.Port.view l.fn.port) (g.P.Port.view l.port);
 }

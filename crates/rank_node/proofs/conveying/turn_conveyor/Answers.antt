@@ -13,6 +13,7 @@ use Rattle.rank_node.proofs.Ballots.{send_below}
 use Rattle.rank_node.proofs.Moved.{AfterPush, AfterAdvance, AfterTakes, still_working, done_stays}
 use Rattle.rank_node.proofs.Halted.{Advanced, Grown, complete_from, ok_once, due_at_end, stuck, advanced_moves, advanced_leaves}
 use Rattle.rank_node.proofs.conveying.turn_conveyor.Goals as goal
+use Rattle.port_bank.specs.Port.{is_crowded, is_idle}
 
 pub push_all-run-requires : goal.push_all-run-requires
 push_all-run-requires g c =
@@ -27,8 +28,8 @@ push_all-run-requires g c =
 pub advance-progress-requires : goal.advance-progress-requires
 advance-progress-requires g c =
     let R = g.Q.Program.rules in
-    let sent = g.P.Port.sent c.args.port.now in
-    let got = g.P.Port.got c.args.port.now in
+    let sent = (g.P.Port.view c.args.port.now).sent in
+    let got = (g.P.Port.view c.args.port.now).got in
     let run : Running g.row.Q.Denot = running c.args.run.now in
     let h = c.requires.turns.first in
     let i = c.requires.turns.node in
@@ -55,10 +56,10 @@ advance-progress-requires g c =
 pub returns-in_err-progress-clause-turns : goal.returns-in_err-progress-clause-turns
 returns-in_err-progress-clause-turns g c =
     let R = g.Q.Program.rules in
-    let sent = g.P.Port.sent c.args.port.now in
-    let got = g.P.Port.got c.args.port.now in
-    let sent' = g.P.Port.sent c.advance-progress.new.port in
-    let got' = g.P.Port.got c.advance-progress.new.port in
+    let sent = (g.P.Port.view c.args.port.now).sent in
+    let got = (g.P.Port.view c.args.port.now).got in
+    let sent' = (g.P.Port.view c.advance-progress.new.port).sent in
+    let got' = (g.P.Port.view c.advance-progress.new.port).got in
     let run : Running g.row.Q.Denot = running c.args.run.now in
     let h = c.requires.turns.first in
     let i = c.requires.turns.node in
@@ -117,10 +118,10 @@ returns-in_err-progress-clause-turns g c =
 pub returns-clause-turns : goal.returns-clause-turns
 returns-clause-turns g c =
     let R = g.Q.Program.rules in
-    let sent = g.P.Port.sent c.args.port.now in
-    let got = g.P.Port.got c.args.port.now in
-    let sent' = g.P.Port.sent c.advance-progress.new.port in
-    let got' = g.P.Port.got c.advance-progress.new.port in
+    let sent = (g.P.Port.view c.args.port.now).sent in
+    let got = (g.P.Port.view c.args.port.now).got in
+    let sent' = (g.P.Port.view c.advance-progress.new.port).sent in
+    let got' = (g.P.Port.view c.advance-progress.new.port).got in
     let run : Running g.row.Q.Denot = running c.args.run.now in
     let h = c.requires.turns.first in
     let i = c.requires.turns.node in
@@ -190,10 +191,10 @@ returns-clause-in_full g c = record {
       served.crowded (due_at_end c2.cap c2.steady (at_end c2.dims c2.ins c2.done (hop_at c2.dims l)) (out_of c2 l) still);
   waits = λ h is sent_same got_same.
       let R = g.Q.Program.rules in
-      let sent = g.P.Port.sent c.args.port.now in
-      let got = g.P.Port.got c.args.port.now in
-      let sent' = g.P.Port.sent c.advance-progress.new.port in
-      let got' = g.P.Port.got c.advance-progress.new.port in
+      let sent = (g.P.Port.view c.args.port.now).sent in
+      let got = (g.P.Port.view c.args.port.now).got in
+      let sent' = (g.P.Port.view c.advance-progress.new.port).sent in
+      let got' = (g.P.Port.view c.advance-progress.new.port).got in
       let run : Running g.row.Q.Denot = running c.args.run.now in
       let i = is in
       let c0 = c.args.conveyor.now in
@@ -240,7 +241,7 @@ returns-clause-in_full g c = record {
         sound = c.known.ensures.sound;
         taken = λ h rank round next sends v a. c.take_all-run.ensures.takes.taken h rank round next sends sent' got' v a;
       } in
-      let advanced : Advanced c1 c2 g.row.CAP sent sent' got got' (g.P.Port.crowded c.advance-progress.new.port) (g.P.Port.idle c.advance-progress.new.port) = record {
+      let advanced : Advanced c1 c2 g.row.CAP sent sent' got got' (is_crowded (g.P.Port.view c.advance-progress.new.port)) (is_idle (g.P.Port.view c.advance-progress.new.port)) = record {
         epoch = c.advance-progress.ensures.stays.epoch;
         full = c.in_ok-progress.ensures.served.full;
         idles = c.advance-progress.ensures.asked.idle;
@@ -249,7 +250,7 @@ returns-clause-in_full g c = record {
         stopped = c.in_ok-progress.ensures.served.stopped;
         completes = λ over. complete_from c2.phase (sym c.in_ok-progress.ensures.settled.is ∙ c.in_ok-progress.ensures.settled.completes over);
       } in
-      stuck R h run c0 c1 c2 c3 next g.row.CAP done (is_complete c2.phase) voting prog' sum' spoiled' sent got sent' got' (g.P.Port.crowded c.advance-progress.new.port) (g.P.Port.idle c.advance-progress.new.port)
+      stuck R h run c0 c1 c2 c3 next g.row.CAP done (is_complete c2.phase) voting prog' sum' spoiled' sent got sent' got' (is_crowded (g.P.Port.view c.advance-progress.new.port)) (is_idle (g.P.Port.view c.advance-progress.new.port))
       c.known.ensures.grid c.known.ensures.rank push c.push_all-run.ensures.refused c.push_all-run.ensures.receiver all adv advanced takes c.take_all-run.ensures.takes.fewer i sent_same got_same;
 }
 

@@ -9,14 +9,15 @@ use Rattle.exstack.specs.State.{has_exchanged}
 use Rattle.rank_node.proofs.Paced.{Exchanges, exchanges_keep}
 use Rattle.rank_node.proofs.Awaited.{exchanges_onward, exchange_awaits, exchanged_stage}
 use Rattle.rank_node.proofs.stacking.exchange.Goals as goal
+use Rattle.port_bank.specs.Port.{is_crowded, is_idle}
 
 pub returns-in_err-_made-clause-polls : goal.returns-in_err-_made-clause-polls
 returns-in_err-_made-clause-polls g c =
     let R = g.Q.Program.rules in
-    let sent = g.P.Port.sent c.args.port.now in
-    let got = g.P.Port.got c.args.port.now in
-    let sent' = g.P.Port.sent c.poll_exchange-polled.new.port in
-    let got' = g.P.Port.got c.poll_exchange-polled.new.port in
+    let sent = (g.P.Port.view c.args.port.now).sent in
+    let got = (g.P.Port.view c.args.port.now).got in
+    let sent' = (g.P.Port.view c.poll_exchange-polled.new.port).sent in
+    let got' = (g.P.Port.view c.poll_exchange-polled.new.port).got in
     let run : Running g.row.Q.Denot = running c.args.run.now in
     let x0 = c.args.exstack.now in
     let x2 = c.poll_exchange-polled.new.self in
@@ -54,10 +55,10 @@ returns-in_err-_made-clause-polls g c =
 pub returns-clause-polls : goal.returns-clause-polls
 returns-clause-polls g c =
     let R = g.Q.Program.rules in
-    let sent = g.P.Port.sent c.args.port.now in
-    let got = g.P.Port.got c.args.port.now in
-    let sent' = g.P.Port.sent c.poll_exchange-polled.new.port in
-    let got' = g.P.Port.got c.poll_exchange-polled.new.port in
+    let sent = (g.P.Port.view c.args.port.now).sent in
+    let got = (g.P.Port.view c.args.port.now).got in
+    let sent' = (g.P.Port.view c.poll_exchange-polled.new.port).sent in
+    let got' = (g.P.Port.view c.poll_exchange-polled.new.port).got in
     let run : Running g.row.Q.Denot = running c.args.run.now in
     let x0 = c.args.exstack.now in
     let x2 = c.poll_exchange-polled.new.self in
@@ -94,20 +95,20 @@ returns-clause-polls g c =
 
 pub returns-in_err-_made-clause-cycle : goal.returns-in_err-_made-clause-cycle
 returns-in_err-_made-clause-cycle g c = λ quota n i.
-    let sent = g.P.Port.sent c.args.port.now in
-    let got = g.P.Port.got c.args.port.now in
-    let sent' = g.P.Port.sent c.poll_exchange-polled.new.port in
-    let got' = g.P.Port.got c.poll_exchange-polled.new.port in
+    let sent = (g.P.Port.view c.args.port.now).sent in
+    let got = (g.P.Port.view c.args.port.now).got in
+    let sent' = (g.P.Port.view c.poll_exchange-polled.new.port).sent in
+    let got' = (g.P.Port.view c.poll_exchange-polled.new.port).got in
     let e = c.poll_exchange-polled.ensures in
     let p : Exchanges c.args.exstack.now c.poll_exchange-polled.new.self sent got sent' got' = record { same = e.same; made = e.round; agrees = e.cycle; exchanged = ap has_exchanged (c.in_err-_made.ensures.no_memory refl) } in
     exchanges_keep g.Q.Program.rules (running c.args.run.now) c.args.exstack.now c.poll_exchange-polled.new.self sent got sent' got' p quota n i
 
 pub returns-clause-cycle : goal.returns-clause-cycle
 returns-clause-cycle g c = λ quota n i.
-    let sent = g.P.Port.sent c.args.port.now in
-    let got = g.P.Port.got c.args.port.now in
-    let sent' = g.P.Port.sent c.poll_exchange-polled.new.port in
-    let got' = g.P.Port.got c.poll_exchange-polled.new.port in
+    let sent = (g.P.Port.view c.args.port.now).sent in
+    let got = (g.P.Port.view c.args.port.now).got in
+    let sent' = (g.P.Port.view c.poll_exchange-polled.new.port).sent in
+    let got' = (g.P.Port.view c.poll_exchange-polled.new.port).got in
     let e = c.poll_exchange-polled.ensures in
     let p : Exchanges c.args.exstack.now c.poll_exchange-polled.new.self sent got sent' got' = record { same = e.same; made = e.round; agrees = e.cycle; exchanged = ap has_exchanged (c.in_ok-_made.ensures.stage) ∙ exchanged_stage _ } in
     exchanges_keep g.Q.Program.rules (running c.args.run.now) c.args.exstack.now c.poll_exchange-polled.new.self sent got sent' got' p quota n i
@@ -120,7 +121,7 @@ returns-clause-in_full g c =
     record {
       awaits = exchange_awaits g.row.CAP c.poll_exchange-polled.new.self c.known.ensures.standing _ c.in_ok-_made.ensures.answer c.in_ok-_made.ensures.stage;
       due = tt;
-      waits = waits_like x0 (in_exchange x0) c.poll_exchange-polled.new.self (g.P.Port.got c.args.port.now) (g.P.Port.got c.poll_exchange-polled.new.port) (g.P.Port.crowded c.poll_exchange-polled.new.port) (g.P.Port.idle c.poll_exchange-polled.new.port)
+      waits = waits_like x0 (in_exchange x0) c.poll_exchange-polled.new.self (g.P.Port.view c.args.port.now).got (g.P.Port.view c.poll_exchange-polled.new.port).got (is_crowded (g.P.Port.view c.poll_exchange-polled.new.port)) (is_idle (g.P.Port.view c.poll_exchange-polled.new.port))
           begun.ranks begun.rank (record { posts = asks.crowded; collects = λ a w due. (asks.asked a w due).in_vain });
     }
 

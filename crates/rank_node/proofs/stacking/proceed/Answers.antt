@@ -9,12 +9,13 @@ use Rattle.exstack.specs.State.{has_proceeded}
 use Rattle.rank_node.proofs.Paced.{proceeds_of, proceeds_keep}
 use Rattle.rank_node.proofs.Awaited.{proceed_ranks, proceed_rank, proceeds_onward, proceed_awaits, proceeded_stage, filling_open, proceeding_apart}
 use Rattle.rank_node.proofs.stacking.proceed.Goals as goal
+use Rattle.port_bank.specs.Port.{is_crowded, is_idle}
 
 pub poll_proceed-polled-requires : goal.poll_proceed-polled-requires
 poll_proceed-polled-requires g c =
     let R = g.Q.Program.rules in
-    let sent = g.P.Port.sent c.args.port.now in
-    let got = g.P.Port.got c.args.port.now in
+    let sent = (g.P.Port.view c.args.port.now).sent in
+    let got = (g.P.Port.view c.args.port.now).got in
     let run : Running g.row.Q.Denot = running c.args.run.now in
     let x0 = c.args.exstack.now in
     let x1 = c.pop_all-run.new.exstack in
@@ -50,10 +51,10 @@ poll_proceed-polled-requires g c =
 pub returns-in_err-polled-clause-polls : goal.returns-in_err-polled-clause-polls
 returns-in_err-polled-clause-polls g c =
     let R = g.Q.Program.rules in
-    let sent = g.P.Port.sent c.args.port.now in
-    let got = g.P.Port.got c.args.port.now in
-    let sent' = g.P.Port.sent c.poll_proceed-polled.new.port in
-    let got' = g.P.Port.got c.poll_proceed-polled.new.port in
+    let sent = (g.P.Port.view c.args.port.now).sent in
+    let got = (g.P.Port.view c.args.port.now).got in
+    let sent' = (g.P.Port.view c.poll_proceed-polled.new.port).sent in
+    let got' = (g.P.Port.view c.poll_proceed-polled.new.port).got in
     let run : Running g.row.Q.Denot = running c.args.run.now in
     let x0 = c.args.exstack.now in
     let x1 = c.pop_all-run.new.exstack in
@@ -100,10 +101,10 @@ returns-in_err-polled-clause-polls g c =
 pub returns-in-GoOn-clause-polls : goal.returns-in-GoOn-clause-polls
 returns-in-GoOn-clause-polls g c =
     let R = g.Q.Program.rules in
-    let sent = g.P.Port.sent c.args.port.now in
-    let got = g.P.Port.got c.args.port.now in
-    let sent' = g.P.Port.sent c.poll_proceed-polled.new.port in
-    let got' = g.P.Port.got c.poll_proceed-polled.new.port in
+    let sent = (g.P.Port.view c.args.port.now).sent in
+    let got = (g.P.Port.view c.args.port.now).got in
+    let sent' = (g.P.Port.view c.poll_proceed-polled.new.port).sent in
+    let got' = (g.P.Port.view c.poll_proceed-polled.new.port).got in
     let run : Running g.row.Q.Denot = running c.args.run.now in
     let x0 = c.args.exstack.now in
     let x1 = c.pop_all-run.new.exstack in
@@ -150,10 +151,10 @@ returns-in-GoOn-clause-polls g c =
 pub returns-in-AllDone-clause-polls : goal.returns-in-AllDone-clause-polls
 returns-in-AllDone-clause-polls g c =
     let R = g.Q.Program.rules in
-    let sent = g.P.Port.sent c.args.port.now in
-    let got = g.P.Port.got c.args.port.now in
-    let sent' = g.P.Port.sent c.poll_proceed-polled.new.port in
-    let got' = g.P.Port.got c.poll_proceed-polled.new.port in
+    let sent = (g.P.Port.view c.args.port.now).sent in
+    let got = (g.P.Port.view c.args.port.now).got in
+    let sent' = (g.P.Port.view c.poll_proceed-polled.new.port).sent in
+    let got' = (g.P.Port.view c.poll_proceed-polled.new.port).got in
     let run : Running g.row.Q.Denot = running c.args.run.now in
     let x0 = c.args.exstack.now in
     let x1 = c.pop_all-run.new.exstack in
@@ -206,7 +207,7 @@ returns-in-GoOn-clause-in_full g c =
     record {
       awaits = proceed_awaits g.row.CAP c.poll_proceed-polled.new.self c.known.ensures.standing _ c.in_ok-polled.ensures.answer c.in_ok-polled.ensures.stage;
       due = tt;
-      waits = waits_like c.args.exstack.now (in_proceed done x1) c.poll_proceed-polled.new.self (g.P.Port.got c.args.port.now) (g.P.Port.got c.poll_proceed-polled.new.port) (g.P.Port.crowded c.poll_proceed-polled.new.port) (g.P.Port.idle c.poll_proceed-polled.new.port)
+      waits = waits_like c.args.exstack.now (in_proceed done x1) c.poll_proceed-polled.new.self (g.P.Port.view c.args.port.now).got (g.P.Port.view c.poll_proceed-polled.new.port).got (is_crowded (g.P.Port.view c.poll_proceed-polled.new.port)) (is_idle (g.P.Port.view c.poll_proceed-polled.new.port))
           (proceed_ranks done x1 ∙ ap (λ (t : Stack). t.ranks) pops.same) (proceed_rank done x1 ∙ ap (λ (t : Stack). t.rank) pops.same)
           (record { posts = asks.crowded; collects = λ a low due. (asks.asked a low due).in_vain });
     }
@@ -214,10 +215,10 @@ returns-in-GoOn-clause-in_full g c =
 pub returns-in_err-polled-clause-cycle : goal.returns-in_err-polled-clause-cycle
 returns-in_err-polled-clause-cycle g c = λ quota n i.
     let R = g.Q.Program.rules in
-    let sent = g.P.Port.sent c.args.port.now in
-    let got = g.P.Port.got c.args.port.now in
-    let sent' = g.P.Port.sent c.poll_proceed-polled.new.port in
-    let got' = g.P.Port.got c.poll_proceed-polled.new.port in
+    let sent = (g.P.Port.view c.args.port.now).sent in
+    let got = (g.P.Port.view c.args.port.now).got in
+    let sent' = (g.P.Port.view c.poll_proceed-polled.new.port).sent in
+    let got' = (g.P.Port.view c.poll_proceed-polled.new.port).got in
     let run : Running g.row.Q.Denot = running c.args.run.now in
     let x0 = c.args.exstack.now in
     let x1 = c.pop_all-run.new.exstack in
@@ -233,10 +234,10 @@ returns-in_err-polled-clause-cycle g c = λ quota n i.
 pub returns-in-GoOn-clause-cycle : goal.returns-in-GoOn-clause-cycle
 returns-in-GoOn-clause-cycle g c = λ quota n i.
     let R = g.Q.Program.rules in
-    let sent = g.P.Port.sent c.args.port.now in
-    let got = g.P.Port.got c.args.port.now in
-    let sent' = g.P.Port.sent c.poll_proceed-polled.new.port in
-    let got' = g.P.Port.got c.poll_proceed-polled.new.port in
+    let sent = (g.P.Port.view c.args.port.now).sent in
+    let got = (g.P.Port.view c.args.port.now).got in
+    let sent' = (g.P.Port.view c.poll_proceed-polled.new.port).sent in
+    let got' = (g.P.Port.view c.poll_proceed-polled.new.port).got in
     let run : Running g.row.Q.Denot = running c.args.run.now in
     let x0 = c.args.exstack.now in
     let x1 = c.pop_all-run.new.exstack in
@@ -252,10 +253,10 @@ returns-in-GoOn-clause-cycle g c = λ quota n i.
 pub returns-in-AllDone-clause-cycle : goal.returns-in-AllDone-clause-cycle
 returns-in-AllDone-clause-cycle g c = λ quota n i.
     let R = g.Q.Program.rules in
-    let sent = g.P.Port.sent c.args.port.now in
-    let got = g.P.Port.got c.args.port.now in
-    let sent' = g.P.Port.sent c.poll_proceed-polled.new.port in
-    let got' = g.P.Port.got c.poll_proceed-polled.new.port in
+    let sent = (g.P.Port.view c.args.port.now).sent in
+    let got = (g.P.Port.view c.args.port.now).got in
+    let sent' = (g.P.Port.view c.poll_proceed-polled.new.port).sent in
+    let got' = (g.P.Port.view c.poll_proceed-polled.new.port).got in
     let run : Running g.row.Q.Denot = running c.args.run.now in
     let x0 = c.args.exstack.now in
     let x1 = c.pop_all-run.new.exstack in
@@ -277,7 +278,7 @@ returns-in-AllDone-clause-in_full g c =
     record {
       awaits = proceed_awaits g.row.CAP c.poll_proceed-polled.new.self c.known.ensures.standing _ c.in_ok-polled.ensures.answer c.in_ok-polled.ensures.stage;
       due = tt;
-      waits = waits_like c.args.exstack.now (in_proceed done x1) c.poll_proceed-polled.new.self (g.P.Port.got c.args.port.now) (g.P.Port.got c.poll_proceed-polled.new.port) (g.P.Port.crowded c.poll_proceed-polled.new.port) (g.P.Port.idle c.poll_proceed-polled.new.port)
+      waits = waits_like c.args.exstack.now (in_proceed done x1) c.poll_proceed-polled.new.self (g.P.Port.view c.args.port.now).got (g.P.Port.view c.poll_proceed-polled.new.port).got (is_crowded (g.P.Port.view c.poll_proceed-polled.new.port)) (is_idle (g.P.Port.view c.poll_proceed-polled.new.port))
           (proceed_ranks done x1 ∙ ap (λ (t : Stack). t.ranks) pops.same) (proceed_rank done x1 ∙ ap (λ (t : Stack). t.rank) pops.same)
           (record { posts = asks.crowded; collects = λ a low due. (asks.asked a low due).in_vain });
     }

@@ -5,6 +5,7 @@ use Rattle.rank_node.specs.Runs.{running}
 use Rattle.list_laws.proofs.Results.{on_ok_map}
 use Rattle.rank_node.specs.Sending.{to_send}
 use Rattle.rank_node.specs.Pulls.{Fills}
+use Rattle.port_bank.specs.Port.{is_crowded, is_idle}
 use Rattle.port_bank.proofs.Frames.{port_at_first}
 use Rattle.rank_node.proofs.Ballots.{same_sends}
 use Rattle.rank_node.proofs.Polled.{nothing_moved, fill_then, waits_like, not_filling, all_done_apart}
@@ -15,8 +16,8 @@ use Rattle.rank_node.proofs.stacking.turn_exstack.Goals as goal
 
 pub exchange-requires : goal.exchange-requires
 exchange-requires g c =
-    let sent = g.P.Port.sent c.args.port.now in
-    let got = g.P.Port.got c.args.port.now in
+    let sent = (g.P.Port.view c.args.port.now).sent in
+    let got = (g.P.Port.view c.args.port.now).got in
     let same = c.fill.ensures.same in
     let h = c.requires.turns.first in
     let filling = ap (λ (t : Stack). may_exchange t.stage) same ∙ ap may_exchange (sym c.stage.ensures.value ∙ c.in-Filling.is) in
@@ -37,10 +38,10 @@ returns-in-Start-clause-turns g c =
 pub returns-in-Filling-clause-turns : goal.returns-in-Filling-clause-turns
 returns-in-Filling-clause-turns g c =
     let R = g.Q.Program.rules in
-    let sent = g.P.Port.sent c.args.port.now in
-    let got = g.P.Port.got c.args.port.now in
-    let sent' = g.P.Port.sent c.exchange.new.port in
-    let got' = g.P.Port.got c.exchange.new.port in
+    let sent = (g.P.Port.view c.args.port.now).sent in
+    let got = (g.P.Port.view c.args.port.now).got in
+    let sent' = (g.P.Port.view c.exchange.new.port).sent in
+    let got' = (g.P.Port.view c.exchange.new.port).got in
     let x0 = c.args.exstack.now in
     let x1 = c.fill.new.exstack in
     let x2 = c.exchange.new.exstack in
@@ -73,7 +74,7 @@ returns-in-Filling-clause-in_full g c =
     (λ full. record {
       awaits = full.awaits;
       due = tt;
-      waits = waits_like c.args.exstack.now c.fill.new.exstack c.exchange.new.exstack (g.P.Port.got c.args.port.now) (g.P.Port.got c.exchange.new.port) (g.P.Port.crowded c.exchange.new.port) (g.P.Port.idle c.exchange.new.port)
+      waits = waits_like c.args.exstack.now c.fill.new.exstack c.exchange.new.exstack (g.P.Port.view c.args.port.now).got (g.P.Port.view c.exchange.new.port).got (is_crowded (g.P.Port.view c.exchange.new.port)) (is_idle (g.P.Port.view c.exchange.new.port))
           (ap (λ (t : Stack). t.ranks) same) (ap (λ (t : Stack). t.rank) same) full.waits;
     })
     c.exchange.ensures.in_full
@@ -88,9 +89,9 @@ returns-in-Exchanging-clause-turns g c =
       moves = polls.moves;
       leaves = record { pushed = λ s. absurd (not_filling x.stage at s); unpushed = λ apart. polls.next };
       cycle = λ quota n i.
-          subst (λ k. InCycle R quota k (running c.exchange-in-Exchanging.new.run) c.exchange-in-Exchanging.new.exstack (g.P.Port.sent c.exchange-in-Exchanging.new.port) (g.P.Port.got c.exchange-in-Exchanging.new.port)) (sym (ap (cycle_after n) at))
+          subst (λ k. InCycle R quota k (running c.exchange-in-Exchanging.new.run) c.exchange-in-Exchanging.new.exstack (g.P.Port.view c.exchange-in-Exchanging.new.port).sent (g.P.Port.view c.exchange-in-Exchanging.new.port).got) (sym (ap (cycle_after n) at))
           (c.exchange-in-Exchanging.ensures.cycle quota n
-          (still_exchanging R (running c.args.run.now) x (g.P.Port.sent c.args.port.now) (g.P.Port.got c.args.port.now) quota n at i));
+          (still_exchanging R (running c.args.run.now) x (g.P.Port.view c.args.port.now).sent (g.P.Port.view c.args.port.now).got quota n at i));
       onward = polls.onward;
       same_port = polls.same_port;
     }
@@ -100,10 +101,10 @@ returns-in-AllDone-clause-turns g c =
     let x = c.args.exstack.now in
     let at = sym c.stage.ensures.value ∙ c.in-AllDone.is in
     record {
-      moves = nothing_moved g.Q.Program.rules g.row.CAP (running c.args.run.now) x (g.P.Port.sent c.args.port.now) (g.P.Port.got c.args.port.now);
+      moves = nothing_moved g.Q.Program.rules g.row.CAP (running c.args.run.now) x (g.P.Port.view c.args.port.now).sent (g.P.Port.view c.args.port.now).got;
       leaves = record { pushed = λ s. absurd (all_done_apart x.stage at s); unpushed = λ apart. refl };
       cycle = λ quota n i.
-          subst (λ k. InCycle g.Q.Program.rules quota k (running c.args.run.now) x (g.P.Port.sent c.args.port.now) (g.P.Port.got c.args.port.now)) (sym (ap (cycle_after n) at)) i;
+          subst (λ k. InCycle g.Q.Program.rules quota k (running c.args.run.now) x (g.P.Port.view c.args.port.now).sent (g.P.Port.view c.args.port.now).got) (sym (ap (cycle_after n) at)) i;
       onward = subst (λ s. IsOnward s s) (sym at) refl;
       same_port = port_at_first;
     }

@@ -1,8 +1,9 @@
-use Rattle.std.proofs.Common.{◌≡◌, ℕ, ◌<◌, ◌++◌, List, true, false, length, slice_get, Some, None, sym, ap, subst, ◌∙◌, rules}
+use Rattle.std.proofs.Common.{Bool, ◌≡◌, ℕ, ◌<◌, ◌++◌, List, true, false, length, slice_get, Some, None, sym, ap, subst, ◌∙◌, rules}
 use Rattle.std.proofs.lemmas.Bool.{false≢true}
 use Rattle.route_tensor.specs.Link.{links}
 use Rattle.route_tensor.specs.Ends.{hop_at, sender_at, reader_at}
 use Rattle.hop_core.specs.declared.phase.Phase.TheVariants.{Complete}
+use Rattle.port_bank.specs.Port.{is_crowded, is_idle}
 use Rattle.port_bank.specs.Calls.{Call}
 use Rattle.hop_core.specs.State.{State, all_closed, phase_of, at_end}
 use Rattle.hop_core.specs.Standing.{IsState}
@@ -29,8 +30,8 @@ pub returns-in_err-move_on-clause-stays : goal.returns-in_err-move_on-clause-sta
 returns-in_err-move_on-clause-stays g c =
     let now : State = c.args.self.now in
     let mid : State = c.move_on.new.state in
-    let k = subst (λ (t : State). MovesOn t mid c.args.done (g.P.Port.sent c.args.port.now) (g.P.Port.sent c.move_on.new.port) (g.P.Port.got c.args.port.now) (g.P.Port.got c.move_on.new.port)
-    (g.P.Port.noted c.args.port.now) (g.P.Port.noted c.move_on.new.port) (g.P.Port.idle c.move_on.new.port)) c.self.view_is c.move_on.ensures.moves_on in
+    let k = subst (λ (t : State). MovesOn t mid c.args.done (g.P.Port.view c.args.port.now).sent (g.P.Port.view c.move_on.new.port).sent (g.P.Port.view c.args.port.now).got (g.P.Port.view c.move_on.new.port).got
+    (g.P.Port.view c.args.port.now).noted (g.P.Port.view c.move_on.new.port).noted (is_idle (g.P.Port.view c.move_on.new.port))) c.self.view_is c.move_on.ensures.moves_on in
     let open' : is_complete now.phase ≡ false = subst (λ (t : State). is_complete t.phase ≡ false) c.self.view_is (c.in_err-move_on.ensures.incomplete (search rules)) in
     let at = c.move_on.ensures.ready in
     record {
@@ -50,17 +51,17 @@ pub returns-in_err-move_on-clause-grows : goal.returns-in_err-move_on-clause-gro
 returns-in_err-move_on-clause-grows g c =
     let now : State = c.args.self.now in
     let mid : State = c.move_on.new.state in
-    let k = subst (λ (t : State). MovesOn t mid c.args.done (g.P.Port.sent c.args.port.now) (g.P.Port.sent c.move_on.new.port) (g.P.Port.got c.args.port.now) (g.P.Port.got c.move_on.new.port)
-    (g.P.Port.noted c.args.port.now) (g.P.Port.noted c.move_on.new.port) (g.P.Port.idle c.move_on.new.port)) c.self.view_is c.move_on.ensures.moves_on in
-    lists_grow g.P.Port now mid c.args.done c.args.port.now c.move_on.new.port k (subst (λ (t : State). t.cap ≡ g.row.CAP) c.self.view_is c.move_on.ensures.cap)
+    let k = subst (λ (t : State). MovesOn t mid c.args.done (g.P.Port.view c.args.port.now).sent (g.P.Port.view c.move_on.new.port).sent (g.P.Port.view c.args.port.now).got (g.P.Port.view c.move_on.new.port).got
+    (g.P.Port.view c.args.port.now).noted (g.P.Port.view c.move_on.new.port).noted (is_idle (g.P.Port.view c.move_on.new.port))) c.self.view_is c.move_on.ensures.moves_on in
+    lists_grow g.row.CAP now mid c.args.done (g.P.Port.view c.args.port.now) (g.P.Port.view c.move_on.new.port) k (subst (λ (t : State). t.cap ≡ g.row.CAP) c.self.view_is c.move_on.ensures.cap)
 
 pub returns-in_err-move_on-clause-asked : goal.returns-in_err-move_on-clause-asked
 returns-in_err-move_on-clause-asked g c =
     let now : State = c.args.self.now in
     let mid : State = c.move_on.new.state in
-    let k = subst (λ (t : State). MovesOn t mid c.args.done (g.P.Port.sent c.args.port.now) (g.P.Port.sent c.move_on.new.port) (g.P.Port.got c.args.port.now) (g.P.Port.got c.move_on.new.port)
-    (g.P.Port.noted c.args.port.now) (g.P.Port.noted c.move_on.new.port) (g.P.Port.idle c.move_on.new.port)) c.self.view_is c.move_on.ensures.moves_on in
-    were_asked g.P.Port now mid c.args.done c.args.port.now c.move_on.new.port k mid.phase mid.pulled
+    let k = subst (λ (t : State). MovesOn t mid c.args.done (g.P.Port.view c.args.port.now).sent (g.P.Port.view c.move_on.new.port).sent (g.P.Port.view c.args.port.now).got (g.P.Port.view c.move_on.new.port).got
+    (g.P.Port.view c.args.port.now).noted (g.P.Port.view c.move_on.new.port).noted (is_idle (g.P.Port.view c.move_on.new.port))) c.self.view_is c.move_on.ensures.moves_on in
+    were_asked g.row.CAP now mid c.args.done (g.P.Port.view c.args.port.now) (g.P.Port.view c.move_on.new.port) k mid.phase mid.pulled
 
 pub returns-clause-stays : goal.returns-clause-stays
 returns-clause-stays g c =
@@ -69,8 +70,8 @@ returns-clause-stays g c =
     let new : State = c.settle.new.state in
     let e = c.settle.ensures.state in
     let t : IsState new = c.settle.ensures.standing in
-    let k = subst (λ (t : State). MovesOn t mid c.args.done (g.P.Port.sent c.args.port.now) (g.P.Port.sent c.move_on.new.port) (g.P.Port.got c.args.port.now) (g.P.Port.got c.move_on.new.port)
-    (g.P.Port.noted c.args.port.now) (g.P.Port.noted c.move_on.new.port) (g.P.Port.idle c.move_on.new.port)) c.self.view_is c.move_on.ensures.moves_on in
+    let k = subst (λ (t : State). MovesOn t mid c.args.done (g.P.Port.view c.args.port.now).sent (g.P.Port.view c.move_on.new.port).sent (g.P.Port.view c.args.port.now).got (g.P.Port.view c.move_on.new.port).got
+    (g.P.Port.view c.args.port.now).noted (g.P.Port.view c.move_on.new.port).noted (is_idle (g.P.Port.view c.move_on.new.port))) c.self.view_is c.move_on.ensures.moves_on in
     let phase : new.phase ≡ phase_of new = settled_phase mid new e in
     let form : new ≡ record mid { phase = new.phase; pulled = None } = e ∙ ap (λ p. record mid { phase = p; pulled = None }) (sym (ap (λ s. s.phase) e)) in
     let not_yet : now.done ≡ false → c.args.done ≡ true → is_complete new.phase ≡ false = λ not_done says.
@@ -82,7 +83,7 @@ returns-clause-stays g c =
     (sym (ap (λ s. s.done) same) ∙ (sym (ap (λ s. s.done) e) ∙ (is_over new t (sym phase ∙ p)).done), ap is_complete p) in
     let at = c.move_on.ensures.ready in
     record {
-      agrees = subst (λ s. Agrees (buffers_of s) (g.P.Port.sent c.move_on.new.port) (g.P.Port.got c.move_on.new.port)) (sym c.settle.ensures.state) (settled_agrees mid (phase_of mid) _ _ c.move_on.ensures.ready.agrees);
+      agrees = subst (λ s. Agrees (buffers_of s) (g.P.Port.view c.move_on.new.port).sent (g.P.Port.view c.move_on.new.port).got) (sym c.settle.ensures.state) (settled_agrees mid (phase_of mid) _ _ c.move_on.ensures.ready.agrees);
       dims = ap (λ s. s.dims) e ∙ (at.same_dims ∙ c.requires.at_port.same_dims);
       rank = ap (λ s. s.rank) e ∙ (at.same_rank ∙ c.requires.at_port.same_rank);
       steady = ap (λ s. s.steady) e ∙ k.goes_on.steady;
@@ -110,18 +111,18 @@ pub returns-clause-grows : goal.returns-clause-grows
 returns-clause-grows g c =
     let now : State = c.args.self.now in
     let mid : State = c.move_on.new.state in
-    let k = subst (λ (t : State). MovesOn t mid c.args.done (g.P.Port.sent c.args.port.now) (g.P.Port.sent c.move_on.new.port) (g.P.Port.got c.args.port.now) (g.P.Port.got c.move_on.new.port)
-    (g.P.Port.noted c.args.port.now) (g.P.Port.noted c.move_on.new.port) (g.P.Port.idle c.move_on.new.port)) c.self.view_is c.move_on.ensures.moves_on in
-    lists_grow g.P.Port now mid c.args.done c.args.port.now c.move_on.new.port k (subst (λ (t : State). t.cap ≡ g.row.CAP) c.self.view_is c.move_on.ensures.cap)
+    let k = subst (λ (t : State). MovesOn t mid c.args.done (g.P.Port.view c.args.port.now).sent (g.P.Port.view c.move_on.new.port).sent (g.P.Port.view c.args.port.now).got (g.P.Port.view c.move_on.new.port).got
+    (g.P.Port.view c.args.port.now).noted (g.P.Port.view c.move_on.new.port).noted (is_idle (g.P.Port.view c.move_on.new.port))) c.self.view_is c.move_on.ensures.moves_on in
+    lists_grow g.row.CAP now mid c.args.done (g.P.Port.view c.args.port.now) (g.P.Port.view c.move_on.new.port) k (subst (λ (t : State). t.cap ≡ g.row.CAP) c.self.view_is c.move_on.ensures.cap)
 
 pub returns-clause-asked : goal.returns-clause-asked
 returns-clause-asked g c =
     let now : State = c.args.self.now in
     let mid : State = c.move_on.new.state in
-    let k = subst (λ (t : State). MovesOn t mid c.args.done (g.P.Port.sent c.args.port.now) (g.P.Port.sent c.move_on.new.port) (g.P.Port.got c.args.port.now) (g.P.Port.got c.move_on.new.port)
-    (g.P.Port.noted c.args.port.now) (g.P.Port.noted c.move_on.new.port) (g.P.Port.idle c.move_on.new.port)) c.self.view_is c.move_on.ensures.moves_on in
-    subst (λ s. WereAsked g.P.Port now s c.args.port.now c.move_on.new.port) (sym c.settle.ensures.state)
-    (were_asked g.P.Port now mid c.args.done c.args.port.now c.move_on.new.port k (phase_of mid) None)
+    let k = subst (λ (t : State). MovesOn t mid c.args.done (g.P.Port.view c.args.port.now).sent (g.P.Port.view c.move_on.new.port).sent (g.P.Port.view c.args.port.now).got (g.P.Port.view c.move_on.new.port).got
+    (g.P.Port.view c.args.port.now).noted (g.P.Port.view c.move_on.new.port).noted (is_idle (g.P.Port.view c.move_on.new.port))) c.self.view_is c.move_on.ensures.moves_on in
+    subst (λ s. WereAsked now s (g.P.Port.view c.args.port.now) (g.P.Port.view c.move_on.new.port)) (sym c.settle.ensures.state)
+    (were_asked g.row.CAP now mid c.args.done (g.P.Port.view c.args.port.now) (g.P.Port.view c.move_on.new.port) k (phase_of mid) None)
 
 pub returns-clause-served : goal.returns-clause-served
 returns-clause-served g c =
@@ -131,26 +132,26 @@ returns-clause-served g c =
     let e = c.settle.ensures.state in
     let p = c.args.port.now in
     let q = c.move_on.new.port in
-    let sent = g.P.Port.sent p in
-    let sent' = g.P.Port.sent q in
-    let is_crowded = g.P.Port.crowded q in
-    let k = subst (λ (t : State). HasServed t mid sent sent' (g.P.Port.looks_out p) (g.P.Port.looks_out q) is_crowded) c.self.view_is c.in_ok-move_on.ensures.served in
+    let sent = (g.P.Port.view p).sent in
+    let sent' = (g.P.Port.view q).sent in
+    let crowded : ℕ → Bool = is_crowded (g.P.Port.view q) in
+    let k = subst (λ (t : State). HasServed t mid sent sent' (g.P.Port.view p).looks_out (g.P.Port.view q).looks_out crowded) c.self.view_is c.in_ok-move_on.ensures.served in
     let cap : now.cap ≡ g.row.CAP = subst (λ (t : State). t.cap ≡ g.row.CAP) c.self.view_is c.move_on.ensures.cap in
     let same : new.dims ≡ now.dims = ap (λ s. s.dims) e ∙ (c.move_on.ensures.ready.same_dims ∙ c.requires.at_port.same_dims) in
-    let ending : (l : ℕ) → l < links now.dims → sender_at now.dims l ≡ now.rank → at_end new.dims new.ins new.done (hop_at new.dims l) ≡ true → (out_of new l).closed ≡ false → is_crowded l ≡ true = λ l below from ends open'.
+    let ending : (l : ℕ) → l < links now.dims → sender_at now.dims l ≡ now.rank → at_end new.dims new.ins new.done (hop_at new.dims l) ≡ true → (out_of new l).closed ≡ false → crowded l ≡ true = λ l below from ends open'.
     (k.served l below from).crowded (subst (λ s. IsDue s l) e (due_ending new l ends open')) in
     record {
       each = λ l below from.
           let w = k.served l below from in
-          subst (λ s. WasServed s l (g.P.Port.looks_out p l) (g.P.Port.looks_out q l) (is_crowded l)) (sym e) (record { looked = w.looked; crowded = w.crowded });
+          subst (λ s. WasServed s l ((g.P.Port.view p).looks_out l) ((g.P.Port.view q).looks_out l) (crowded l)) (sym e) (record { looked = w.looked; crowded = w.crowded });
       full = λ l below from stays full. k.full l below from stays (full ∙ sym cap);
       ending = ending;
       closing = λ l below from says arrived open'.
           ending l below from (reaches_end new l c.settle.ensures.standing (subst (λ ds. l < links ds) (sym same) below) (λ one. says (sym (ap (λ ds. hop_at ds l) same) ∙ one)) arrived) open';
       stopped = λ l x below to less.
-          subst (λ s. slice_get (in_of s l).parcel.untaken 0 ≡ Some x → NextIs now.dims now.rank l x.tag (HeldUp g.row.CAP s sent sent' is_crowded)) (sym e)
-          (λ at. next_map now.dims now.rank l x.tag (HeldUp now.cap mid sent sent' is_crowded) (HeldUp g.row.CAP (record mid { phase = phase_of mid; pulled = None }) sent sent' is_crowded)
-          (λ m b from hop held. same_held now.cap g.row.CAP mid (phase_of mid) sent sent' is_crowded m cap held) (k.stopped l x below to less at));
+          subst (λ s. slice_get (in_of s l).parcel.untaken 0 ≡ Some x → NextIs now.dims now.rank l x.tag (HeldUp g.row.CAP s sent sent' crowded)) (sym e)
+          (λ at. next_map now.dims now.rank l x.tag (HeldUp now.cap mid sent sent' crowded) (HeldUp g.row.CAP (record mid { phase = phase_of mid; pulled = None }) sent sent' crowded)
+          (λ m b from hop held. same_held now.cap g.row.CAP mid (phase_of mid) sent sent' crowded m cap held) (k.stopped l x below to less at));
     }
 
 pub returns-clause-calls : goal.returns-clause-calls
@@ -158,16 +159,16 @@ returns-clause-calls g c =
     let mid : State = c.move_on.new.state in
     let p = c.args.port.now in
     let q = c.move_on.new.port in
-    let posts : State → List Call = λ s. posts_below s (g.P.Port.sent p) (g.P.Port.sent q) (links s.dims) in
-    c.in_ok-move_on.ensures.calls ∙ ap (λ (t : State). (g.P.Port.calls p ++ collects_of t) ++ posts mid) c.self.view_is
-    ∙ ap (λ s. (g.P.Port.calls p ++ collects_of c.args.self.now) ++ posts s) (sym c.settle.ensures.state)
+    let posts : State → List Call = λ s. posts_below s (g.P.Port.view p).sent (g.P.Port.view q).sent (links s.dims) in
+    c.in_ok-move_on.ensures.calls ∙ ap (λ (t : State). ((g.P.Port.view p).calls ++ collects_of t) ++ posts mid) c.self.view_is
+    ∙ ap (λ s. ((g.P.Port.view p).calls ++ collects_of c.args.self.now) ++ posts s) (sym c.settle.ensures.state)
 
 pub returns-in_err-move_on-clause-stops : goal.returns-in_err-move_on-clause-stops
 returns-in_err-move_on-clause-stops g c =
     let mid : State = c.move_on.new.state in
     let p = c.args.port.now in
     let q = c.move_on.new.port in
-    λ err. subst (λ (t : State). StopsAt mid (g.P.Port.sent p) (g.P.Port.sent q) (g.P.Port.calls p ++ collects_of t) (g.P.Port.calls q)) c.self.view_is (c.in_err-move_on.ensures.stops (search rules))
+    λ err. subst (λ (t : State). StopsAt mid (g.P.Port.view p).sent (g.P.Port.view q).sent ((g.P.Port.view p).calls ++ collects_of t) (g.P.Port.view q).calls) c.self.view_is (c.in_err-move_on.ensures.stops (search rules))
 
 pub invariant_of-self-2 : goal.invariant_of-self-2
 invariant_of-self-2 g c =
@@ -197,8 +198,8 @@ pub returns-in_err-move_on-clause-held : goal.returns-in_err-move_on-clause-held
 returns-in_err-move_on-clause-held g c =
     let now : State = c.args.self.now in
     let mid : State = c.move_on.new.state in
-    let sent = g.P.Port.sent c.args.port.now in
-    let sent' = g.P.Port.sent c.move_on.new.port in
+    let sent = (g.P.Port.view c.args.port.now).sent in
+    let sent' = (g.P.Port.view c.move_on.new.port).sent in
     let cap : now.cap ≡ g.row.CAP = subst (λ (t : State). t.cap ≡ g.row.CAP) c.self.view_is c.move_on.ensures.cap in
     λ l x below to less.
     let k = subst (λ (t : State). l < links t.dims → reader_at t.dims l ≡ t.rank → hop_at t.dims l < length t.dims → slice_get (in_of mid l).parcel.untaken 0 ≡ Some x → NextIs t.dims t.rank l x.tag (WasFull t.cap mid sent sent')) c.self.view_is
@@ -209,8 +210,8 @@ pub returns-clause-held : goal.returns-clause-held
 returns-clause-held g c =
     let now : State = c.args.self.now in
     let mid : State = c.move_on.new.state in
-    let sent = g.P.Port.sent c.args.port.now in
-    let sent' = g.P.Port.sent c.move_on.new.port in
+    let sent = (g.P.Port.view c.args.port.now).sent in
+    let sent' = (g.P.Port.view c.move_on.new.port).sent in
     let cap : now.cap ≡ g.row.CAP = subst (λ (t : State). t.cap ≡ g.row.CAP) c.self.view_is c.move_on.ensures.cap in
     λ l x below to less.
     let k = subst (λ (t : State). l < links t.dims → reader_at t.dims l ≡ t.rank → hop_at t.dims l < length t.dims → slice_get (in_of mid l).parcel.untaken 0 ≡ Some x → NextIs t.dims t.rank l x.tag (WasFull t.cap mid sent sent')) c.self.view_is

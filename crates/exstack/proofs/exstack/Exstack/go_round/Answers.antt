@@ -1,5 +1,6 @@
 use Rattle.std.proofs.Common.{◌≡◌, ℕ, ◌<◌, ◌++◌, Bool, List, length, get_or, refl, sym, ap, subst, ◌∙◌, arith, rules}
 use Rattle.list_laws.specs.Lists.{IsPrefix}
+use Rattle.port_bank.specs.Port.{is_idle}
 use Rattle.port_bank.specs.Logs.{Logs}
 use Rattle.port_bank.specs.Calls.{Call}
 use Rattle.port_bank.proofs.Kept.{law_same}
@@ -27,9 +28,9 @@ invariant_of-self g c =
     let view : st ≡ now = c.self.view_is in
     let s : IsStack g.row.CAP st = c.self.invariant.standing in
     let b : Before st c.args.last c.args.exchange = before st now c.args.last c.args.exchange view c.requires.in_round c.requires.exchange c.requires.last c.requires.forgotten in
-    let sent : Logs = g.P.Port.sent c.args.port.now in
-    let sent' : Logs = g.P.Port.sent c.post_all.new.port in
-    let got : Logs = g.P.Port.got c.args.port.now in
+    let sent : Logs = (g.P.Port.view c.args.port.now).sent in
+    let sent' : Logs = (g.P.Port.view c.post_all.new.port).sent in
+    let got : Logs = (g.P.Port.view c.args.port.now).got in
     let e = c.post_all.ensures in
     let p : PostsDone st c.post_all.new.outs.items c.args.last sent sent' got = record {
       count = e.count;
@@ -60,9 +61,9 @@ returns-in_err-post_all-clause-cycle g c =
     let view : st ≡ now = c.self.view_is in
     let s : IsStack g.row.CAP st = c.self.invariant.standing in
     let b : Before st c.args.last c.args.exchange = before st now c.args.last c.args.exchange view c.requires.in_round c.requires.exchange c.requires.last c.requires.forgotten in
-    let sent : Logs = g.P.Port.sent c.args.port.now in
-    let sent' : Logs = g.P.Port.sent c.post_all.new.port in
-    let got : Logs = g.P.Port.got c.args.port.now in
+    let sent : Logs = (g.P.Port.view c.args.port.now).sent in
+    let sent' : Logs = (g.P.Port.view c.post_all.new.port).sent in
+    let got : Logs = (g.P.Port.view c.args.port.now).got in
     let e = c.post_all.ensures in
     let p : PostsDone st c.post_all.new.outs.items c.args.last sent sent' got = record {
       count = e.count;
@@ -90,9 +91,9 @@ invariant_of-self-2 g c =
     let view : st ≡ now = c.self.view_is in
     let s : IsStack g.row.CAP st = c.self.invariant.standing in
     let b : Before st c.args.last c.args.exchange = before st now c.args.last c.args.exchange view c.requires.in_round c.requires.exchange c.requires.last c.requires.forgotten in
-    let sent : Logs = g.P.Port.sent c.args.port.now in
-    let sent' : Logs = g.P.Port.sent c.post_all.new.port in
-    let got : Logs = g.P.Port.got c.args.port.now in
+    let sent : Logs = (g.P.Port.view c.args.port.now).sent in
+    let sent' : Logs = (g.P.Port.view c.post_all.new.port).sent in
+    let got : Logs = (g.P.Port.view c.args.port.now).got in
     let e = c.post_all.ensures in
     let p : PostsDone st c.post_all.new.outs.items c.args.last sent sent' got = record {
       count = e.count;
@@ -100,13 +101,13 @@ invariant_of-self-2 g c =
       law = law_same _ _ _ _ _ _ _ _ (ap stack_dims view ∙ sym c.requires.at_port.same_dims) (ap (λ (t : Stack). t.rank) view ∙ sym c.requires.at_port.same_rank) refl refl e.law;
       grows = e.left.grows;
     } in
-    let got' : Logs = g.P.Port.got c.collect_all.new.port in
+    let got' : Logs = (g.P.Port.view c.collect_all.new.port).got in
     let f = c.collect_all.ensures in
     let q : CollectsDone st c.collect_all.new.ins.items c.args.exchange sent' got got' = record {
       count = f.count;
       moved = subst (λ (logs : Logs). (a : ℕ) → a < length st.ins → WasCollected c.args.exchange (get_or st.ins a no_stack_in) (get_or c.collect_all.new.ins.items a no_stack_in) (logs (number (length st.ins) a st.rank)) (got' (number (length st.ins) a st.rank))) e.left.same_ins.got f.moved;
       own = subst (λ (logs : Logs). IsPrefix (logs (number (length st.ins) st.rank st.rank)) (sent' (number (length st.ins) st.rank st.rank)) → IsPrefix (got' (number (length st.ins) st.rank st.rank)) (sent' (number (length st.ins) st.rank st.rank))) e.left.same_ins.got
-          (subst (λ (logs : Logs). IsPrefix (g.P.Port.got c.post_all.new.port (number (length st.ins) st.rank st.rank)) (sent' (number (length st.ins) st.rank st.rank)) → IsPrefix (got' (number (length st.ins) st.rank st.rank)) (logs (number (length st.ins) st.rank st.rank))) f.left.same_outs.sent f.own);
+          (subst (λ (logs : Logs). IsPrefix ((g.P.Port.view c.post_all.new.port).got (number (length st.ins) st.rank st.rank)) (sent' (number (length st.ins) st.rank st.rank)) → IsPrefix (got' (number (length st.ins) st.rank st.rank)) (logs (number (length st.ins) st.rank st.rank))) f.left.same_outs.sent f.own);
       grows = subst (λ (logs : Logs). (m : ℕ) → IsPrefix (logs m) (got' m)) e.left.same_ins.got f.left.grows;
     } in
     record {
@@ -131,9 +132,9 @@ returns-clause-cycle g c =
     let view : st ≡ now = c.self.view_is in
     let s : IsStack g.row.CAP st = c.self.invariant.standing in
     let b : Before st c.args.last c.args.exchange = before st now c.args.last c.args.exchange view c.requires.in_round c.requires.exchange c.requires.last c.requires.forgotten in
-    let sent : Logs = g.P.Port.sent c.args.port.now in
-    let sent' : Logs = g.P.Port.sent c.post_all.new.port in
-    let got : Logs = g.P.Port.got c.args.port.now in
+    let sent : Logs = (g.P.Port.view c.args.port.now).sent in
+    let sent' : Logs = (g.P.Port.view c.post_all.new.port).sent in
+    let got : Logs = (g.P.Port.view c.args.port.now).got in
     let e = c.post_all.ensures in
     let p : PostsDone st c.post_all.new.outs.items c.args.last sent sent' got = record {
       count = e.count;
@@ -141,13 +142,13 @@ returns-clause-cycle g c =
       law = law_same _ _ _ _ _ _ _ _ (ap stack_dims view ∙ sym c.requires.at_port.same_dims) (ap (λ (t : Stack). t.rank) view ∙ sym c.requires.at_port.same_rank) refl refl e.law;
       grows = e.left.grows;
     } in
-    let got' : Logs = g.P.Port.got c.collect_all.new.port in
+    let got' : Logs = (g.P.Port.view c.collect_all.new.port).got in
     let f = c.collect_all.ensures in
     let q : CollectsDone st c.collect_all.new.ins.items c.args.exchange sent' got got' = record {
       count = f.count;
       moved = subst (λ (logs : Logs). (a : ℕ) → a < length st.ins → WasCollected c.args.exchange (get_or st.ins a no_stack_in) (get_or c.collect_all.new.ins.items a no_stack_in) (logs (number (length st.ins) a st.rank)) (got' (number (length st.ins) a st.rank))) e.left.same_ins.got f.moved;
       own = subst (λ (logs : Logs). IsPrefix (logs (number (length st.ins) st.rank st.rank)) (sent' (number (length st.ins) st.rank st.rank)) → IsPrefix (got' (number (length st.ins) st.rank st.rank)) (sent' (number (length st.ins) st.rank st.rank))) e.left.same_ins.got
-          (subst (λ (logs : Logs). IsPrefix (g.P.Port.got c.post_all.new.port (number (length st.ins) st.rank st.rank)) (sent' (number (length st.ins) st.rank st.rank)) → IsPrefix (got' (number (length st.ins) st.rank st.rank)) (logs (number (length st.ins) st.rank st.rank))) f.left.same_outs.sent f.own);
+          (subst (λ (logs : Logs). IsPrefix ((g.P.Port.view c.post_all.new.port).got (number (length st.ins) st.rank st.rank)) (sent' (number (length st.ins) st.rank st.rank)) → IsPrefix (got' (number (length st.ins) st.rank st.rank)) (logs (number (length st.ins) st.rank st.rank))) f.left.same_outs.sent f.own);
       grows = subst (λ (logs : Logs). (m : ℕ) → IsPrefix (logs m) (got' m)) e.left.same_ins.got f.left.grows;
     } in
     λ n a. subst (λ (logs : Logs). AgreesIn n (after_round st c.post_all.new.outs.items c.collect_all.new.ins.items) logs got') (sym f.left.same_outs.sent)
@@ -169,9 +170,9 @@ returns-clause-round g c =
     let view : st ≡ now = c.self.view_is in
     let s : IsStack g.row.CAP st = c.self.invariant.standing in
     let b : Before st c.args.last c.args.exchange = before st now c.args.last c.args.exchange view c.requires.in_round c.requires.exchange c.requires.last c.requires.forgotten in
-    let sent : Logs = g.P.Port.sent c.args.port.now in
-    let sent' : Logs = g.P.Port.sent c.post_all.new.port in
-    let got : Logs = g.P.Port.got c.args.port.now in
+    let sent : Logs = (g.P.Port.view c.args.port.now).sent in
+    let sent' : Logs = (g.P.Port.view c.post_all.new.port).sent in
+    let got : Logs = (g.P.Port.view c.args.port.now).got in
     let e = c.post_all.ensures in
     let p : PostsDone st c.post_all.new.outs.items c.args.last sent sent' got = record {
       count = e.count;
@@ -179,13 +180,13 @@ returns-clause-round g c =
       law = law_same _ _ _ _ _ _ _ _ (ap stack_dims view ∙ sym c.requires.at_port.same_dims) (ap (λ (t : Stack). t.rank) view ∙ sym c.requires.at_port.same_rank) refl refl e.law;
       grows = e.left.grows;
     } in
-    let got' : Logs = g.P.Port.got c.collect_all.new.port in
+    let got' : Logs = (g.P.Port.view c.collect_all.new.port).got in
     let f = c.collect_all.ensures in
     let q : CollectsDone st c.collect_all.new.ins.items c.args.exchange sent' got got' = record {
       count = f.count;
       moved = subst (λ (logs : Logs). (a : ℕ) → a < length st.ins → WasCollected c.args.exchange (get_or st.ins a no_stack_in) (get_or c.collect_all.new.ins.items a no_stack_in) (logs (number (length st.ins) a st.rank)) (got' (number (length st.ins) a st.rank))) e.left.same_ins.got f.moved;
       own = subst (λ (logs : Logs). IsPrefix (logs (number (length st.ins) st.rank st.rank)) (sent' (number (length st.ins) st.rank st.rank)) → IsPrefix (got' (number (length st.ins) st.rank st.rank)) (sent' (number (length st.ins) st.rank st.rank))) e.left.same_ins.got
-          (subst (λ (logs : Logs). IsPrefix (g.P.Port.got c.post_all.new.port (number (length st.ins) st.rank st.rank)) (sent' (number (length st.ins) st.rank st.rank)) → IsPrefix (got' (number (length st.ins) st.rank st.rank)) (logs (number (length st.ins) st.rank st.rank))) f.left.same_outs.sent f.own);
+          (subst (λ (logs : Logs). IsPrefix ((g.P.Port.view c.post_all.new.port).got (number (length st.ins) st.rank st.rank)) (sent' (number (length st.ins) st.rank st.rank)) → IsPrefix (got' (number (length st.ins) st.rank st.rank)) (logs (number (length st.ins) st.rank st.rank))) f.left.same_outs.sent f.own);
       grows = subst (λ (logs : Logs). (m : ℕ) → IsPrefix (logs m) (got' m)) e.left.same_ins.got f.left.grows;
     } in
     subst (λ (logs : Logs). MadeRound c.args.last c.args.exchange now (after_round st c.post_all.new.outs.items c.collect_all.new.ins.items) sent logs got got') (sym f.left.same_outs.sent)
@@ -208,20 +209,20 @@ returns-clause-asks g c =
     let view : st ≡ now = c.self.view_is in
     let s : IsStack g.row.CAP st = c.self.invariant.standing in
     let n : ℕ = length st.ins in
-    let noted' : ℕ → ℕ = g.P.Port.noted c.collect_all.new.port in
-    let idle' : ℕ → Bool = g.P.Port.idle c.collect_all.new.port in
+    let noted' : ℕ → ℕ = (g.P.Port.view c.collect_all.new.port).noted in
+    let idle' : ℕ → Bool = is_idle (g.P.Port.view c.collect_all.new.port) in
     record {
       looked = search rules;
       crowded = search rules;
       asked = λ a w due.
           let u : a < n = omega (arith, w, s.all_ins, ap (λ (t : Stack). t.ranks) view) in
           let number_is : number n a st.rank ≡ stack_link_from now a = ap (λ m. number m a st.rank) s.all_ins ∙ ap (λ (t : Stack). stack_link_from t a) view in
-          subst (λ l. InVain (g.P.Port.noted c.args.port.now l) (noted' l) (idle' l)) number_is
+          subst (λ l. InVain ((g.P.Port.view c.args.port.now).noted l) (noted' l) (idle' l)) number_is
           (subst (λ (counts : ℕ → ℕ). InVain (counts (number n a st.rank)) (noted' (number n a st.rank)) (idle' (number n a st.rank))) c.post_all.ensures.left.same_ins.noted (c.collect_all.ensures.in_vain a u due));
       calls =
-          let before : List Call = g.P.Port.calls c.args.port.now in
+          let before : List Call = (g.P.Port.view c.args.port.now).calls in
           let posted = c.in_ok-post_all.ensures.calls ∙ ap (λ m. before ++ posts_to m st.rank st.outs m) s.all_outs in
-          let collected = c.collect_all.ensures.calls ∙ ap (λ m. g.P.Port.calls c.post_all.new.port ++ collects_from m st.rank st.ins m) s.all_ins in
+          let collected = c.collect_all.ensures.calls ∙ ap (λ m. (g.P.Port.view c.post_all.new.port).calls ++ collects_from m st.rank st.ins m) s.all_ins in
           collected ∙ ap (λ cs. cs ++ collects_from st.ranks st.rank st.ins st.ranks) posted
           ∙ ap (λ (t : Stack). (before ++ posts_to t.ranks t.rank t.outs t.ranks) ++ collects_from t.ranks t.rank t.ins t.ranks) view;
     }
@@ -240,8 +241,8 @@ returns-in_err-post_all-clause-stops g c =
     } in
     let view : st ≡ c.args.self.now = c.self.view_is in
     let all : length st.outs ≡ st.ranks = c.self.invariant.standing.all_outs in
-    let before : List Call = g.P.Port.calls c.args.port.now in
-    let calls : List Call = g.P.Port.calls c.post_all.new.port in
+    let before : List Call = (g.P.Port.view c.args.port.now).calls in
+    let calls : List Call = (g.P.Port.view c.post_all.new.port).calls in
     λ err. subst (λ (t : Stack). StackStopsAt st.ranks st.rank t.outs c.post_all.new.outs.items before calls) view
     (subst (λ m. StackStopsAt m st.rank st.outs c.post_all.new.outs.items before calls) all (c.in_err-post_all.ensures.stops (search rules)))
 
@@ -261,9 +262,9 @@ returns-in_err-post_all-clause-round g c =
     let view : st ≡ now = c.self.view_is in
     let s : IsStack g.row.CAP st = c.self.invariant.standing in
     let b : Before st c.args.last c.args.exchange = before st now c.args.last c.args.exchange view c.requires.in_round c.requires.exchange c.requires.last c.requires.forgotten in
-    let sent : Logs = g.P.Port.sent c.args.port.now in
-    let sent' : Logs = g.P.Port.sent c.post_all.new.port in
-    let got : Logs = g.P.Port.got c.args.port.now in
+    let sent : Logs = (g.P.Port.view c.args.port.now).sent in
+    let sent' : Logs = (g.P.Port.view c.post_all.new.port).sent in
+    let got : Logs = (g.P.Port.view c.args.port.now).got in
     let e = c.post_all.ensures in
     let p : PostsDone st c.post_all.new.outs.items c.args.last sent sent' got = record {
       count = e.count;

@@ -23,8 +23,8 @@ pub go_round-requires : goal.go_round-requires
 go_round-requires g c =
     let now : Stack = c.args.self.now in
     let b : Stack = c.begin_exchange.new.self in
-    let sent : Logs = g.P.Port.sent c.args.port.now in
-    let got : Logs = g.P.Port.got c.args.port.now in
+    let sent : Logs = (g.P.Port.view c.args.port.now).sent in
+    let got : Logs = (g.P.Port.view c.args.port.now).got in
     let is : b ≡ in_exchange now = c.begin_exchange.ensures.state in
     let s : IsStack g.row.CAP now = c.begin_exchange.ensures.standing in
     let k : Begun b Exchanging now.done now = subst (λ (t : Stack). Begun t Exchanging now.done now) (sym is) (exchange_begun now) in
@@ -49,8 +49,8 @@ pub returns-in_err-missing-clause-agrees : goal.returns-in_err-missing-clause-ag
 returns-in_err-missing-clause-agrees g c =
     let now : Stack = c.args.self.now in
     let b : Stack = c.begin_exchange.new.self in
-    let sent : Logs = g.P.Port.sent c.args.port.now in
-    let got : Logs = g.P.Port.got c.args.port.now in
+    let sent : Logs = (g.P.Port.view c.args.port.now).sent in
+    let got : Logs = (g.P.Port.view c.args.port.now).got in
     let is : b ≡ in_exchange now = c.begin_exchange.ensures.state in
     let s : IsStack g.row.CAP now = c.begin_exchange.ensures.standing in
     let k : Begun b Exchanging now.done now = subst (λ (t : Stack). Begun t Exchanging now.done now) (sym is) (exchange_begun now) in
@@ -61,8 +61,8 @@ pub returns-in_err-missing-clause-cycle : goal.returns-in_err-missing-clause-cyc
 returns-in_err-missing-clause-cycle g c =
     let now : Stack = c.args.self.now in
     let b : Stack = c.begin_exchange.new.self in
-    let sent : Logs = g.P.Port.sent c.args.port.now in
-    let got : Logs = g.P.Port.got c.args.port.now in
+    let sent : Logs = (g.P.Port.view c.args.port.now).sent in
+    let got : Logs = (g.P.Port.view c.args.port.now).got in
     let is : b ≡ in_exchange now = c.begin_exchange.ensures.state in
     let s : IsStack g.row.CAP now = c.begin_exchange.ensures.standing in
     let k : Begun b Exchanging now.done now = subst (λ (t : Stack). Begun t Exchanging now.done now) (sym is) (exchange_begun now) in
@@ -73,16 +73,16 @@ pub returns-clause-agrees : goal.returns-clause-agrees
 returns-clause-agrees g c =
     let now : Stack = c.args.self.now in
     let b : Stack = c.begin_exchange.new.self in
-    let sent : Logs = g.P.Port.sent c.args.port.now in
-    let got : Logs = g.P.Port.got c.args.port.now in
+    let sent : Logs = (g.P.Port.view c.args.port.now).sent in
+    let got : Logs = (g.P.Port.view c.args.port.now).got in
     let is : b ≡ in_exchange now = c.begin_exchange.ensures.state in
     let s : IsStack g.row.CAP now = c.begin_exchange.ensures.standing in
     let k : Begun b Exchanging now.done now = subst (λ (t : Stack). Begun t Exchanging now.done now) (sym is) (exchange_begun now) in
     let agrees : (n : ℕ) → AgreesIn n now sent got → AgreesIn n b sent got = λ n a. subst (λ (t : Stack). AgreesIn n t sent got) (sym is) (exchange_agrees g.row.CAP n now sent got s c.requires.may a) in
     let h : Stack = c.go_round.new.self in
     let r = c.settle_exchange.result in
-    let sent' : Logs = g.P.Port.sent c.go_round.new.port in
-    let got' : Logs = g.P.Port.got c.go_round.new.port in
+    let sent' : Logs = (g.P.Port.view c.go_round.new.port).sent in
+    let got' : Logs = (g.P.Port.view c.go_round.new.port).got in
     let stage : h.stage ≡ Exchanging = ap (λ (t : Stack). t.stage) c.go_round.ensures.same ∙ k.stage_is in
     let over : (n : ℕ) → AgreesIn n now sent got → AgreesIn n c.settle_exchange.new.self sent' got' = λ n a.
     subst (λ (t : Stack). AgreesIn n t sent' got') (sym c.settle_exchange.ensures.state)
@@ -93,16 +93,16 @@ pub returns-clause-cycle : goal.returns-clause-cycle
 returns-clause-cycle g c =
     let now : Stack = c.args.self.now in
     let b : Stack = c.begin_exchange.new.self in
-    let sent : Logs = g.P.Port.sent c.args.port.now in
-    let got : Logs = g.P.Port.got c.args.port.now in
+    let sent : Logs = (g.P.Port.view c.args.port.now).sent in
+    let got : Logs = (g.P.Port.view c.args.port.now).got in
     let is : b ≡ in_exchange now = c.begin_exchange.ensures.state in
     let s : IsStack g.row.CAP now = c.begin_exchange.ensures.standing in
     let k : Begun b Exchanging now.done now = subst (λ (t : Stack). Begun t Exchanging now.done now) (sym is) (exchange_begun now) in
     let agrees : (n : ℕ) → AgreesIn n now sent got → AgreesIn n b sent got = λ n a. subst (λ (t : Stack). AgreesIn n t sent got) (sym is) (exchange_agrees g.row.CAP n now sent got s c.requires.may a) in
     let h : Stack = c.go_round.new.self in
     let r = c.settle_exchange.result in
-    let sent' : Logs = g.P.Port.sent c.go_round.new.port in
-    let got' : Logs = g.P.Port.got c.go_round.new.port in
+    let sent' : Logs = (g.P.Port.view c.go_round.new.port).sent in
+    let got' : Logs = (g.P.Port.view c.go_round.new.port).got in
     let stage : h.stage ≡ Exchanging = ap (λ (t : Stack). t.stage) c.go_round.ensures.same ∙ k.stage_is in
     let over : (n : ℕ) → AgreesIn n now sent got → AgreesIn n c.settle_exchange.new.self sent' got' = λ n a.
     subst (λ (t : Stack). AgreesIn n t sent' got') (sym c.settle_exchange.ensures.state)
@@ -115,19 +115,19 @@ returns-clause-asks g c =
     let b : Stack = c.begin_exchange.new.self in
     let h : Stack = c.go_round.new.self in
     let is : b ≡ in_exchange now = c.begin_exchange.ensures.state in
-    subst (λ (t : Stack). AsksOnce g.P.Port t c.settle_exchange.new.self c.args.port.now c.go_round.new.port) is
-    (subst (λ (t : Stack). AsksOnce g.P.Port b t c.args.port.now c.go_round.new.port) (sym c.settle_exchange.ensures.state)
-    (asks_staged g.P.Port b h (stage_of_exchange c.settle_exchange.result) c.args.port.now c.go_round.new.port c.in_ok-missing.ensures.asks))
+    subst (λ (t : Stack). AsksOnce t c.settle_exchange.new.self (g.P.Port.view c.args.port.now) (g.P.Port.view c.go_round.new.port)) is
+    (subst (λ (t : Stack). AsksOnce b t (g.P.Port.view c.args.port.now) (g.P.Port.view c.go_round.new.port)) (sym c.settle_exchange.ensures.state)
+    (asks_staged b h (stage_of_exchange c.settle_exchange.result) (g.P.Port.view c.args.port.now) (g.P.Port.view c.go_round.new.port) c.in_ok-missing.ensures.asks))
 
 pub returns-in_err-missing-clause-step : goal.returns-in_err-missing-clause-step
 returns-in_err-missing-clause-step g c =
     let now : Stack = c.args.self.now in
     let b : Stack = c.begin_exchange.new.self in
     let h : Stack = c.go_round.new.self in
-    let sent : Logs = g.P.Port.sent c.args.port.now in
-    let got : Logs = g.P.Port.got c.args.port.now in
-    let sent' : Logs = g.P.Port.sent c.go_round.new.port in
-    let got' : Logs = g.P.Port.got c.go_round.new.port in
+    let sent : Logs = (g.P.Port.view c.args.port.now).sent in
+    let got : Logs = (g.P.Port.view c.args.port.now).got in
+    let sent' : Logs = (g.P.Port.view c.go_round.new.port).sent in
+    let got' : Logs = (g.P.Port.view c.go_round.new.port).got in
     let is : b ≡ in_exchange now = c.begin_exchange.ensures.state in
     let s : IsStack g.row.CAP now = c.begin_exchange.ensures.standing in
     let k : Begun b Exchanging now.done now = subst (λ (t : Stack). Begun t Exchanging now.done now) (sym is) (exchange_begun now) in
@@ -155,10 +155,10 @@ returns-clause-step g c =
     let now : Stack = c.args.self.now in
     let b : Stack = c.begin_exchange.new.self in
     let h : Stack = c.go_round.new.self in
-    let sent : Logs = g.P.Port.sent c.args.port.now in
-    let got : Logs = g.P.Port.got c.args.port.now in
-    let sent' : Logs = g.P.Port.sent c.go_round.new.port in
-    let got' : Logs = g.P.Port.got c.go_round.new.port in
+    let sent : Logs = (g.P.Port.view c.args.port.now).sent in
+    let got : Logs = (g.P.Port.view c.args.port.now).got in
+    let sent' : Logs = (g.P.Port.view c.go_round.new.port).sent in
+    let got' : Logs = (g.P.Port.view c.go_round.new.port).got in
     let is : b ≡ in_exchange now = c.begin_exchange.ensures.state in
     let s : IsStack g.row.CAP now = c.begin_exchange.ensures.standing in
     let k : Begun b Exchanging now.done now = subst (λ (t : Stack). Begun t Exchanging now.done now) (sym is) (exchange_begun now) in
@@ -191,9 +191,9 @@ returns-in_err-missing-clause-whole g c =
     let now : Stack = c.args.self.now in
     let b : Stack = c.begin_exchange.new.self in
     let h : Stack = c.go_round.new.self in
-    let sent : Logs = g.P.Port.sent c.args.port.now in
-    let got : Logs = g.P.Port.got c.args.port.now in
-    let got' : Logs = g.P.Port.got c.go_round.new.port in
+    let sent : Logs = (g.P.Port.view c.args.port.now).sent in
+    let got : Logs = (g.P.Port.view c.args.port.now).got in
+    let got' : Logs = (g.P.Port.view c.go_round.new.port).got in
     let is : b ≡ in_exchange now = c.begin_exchange.ensures.state in
     let s : IsStack g.row.CAP now = c.begin_exchange.ensures.standing in
     let k : Begun b Exchanging now.done now = subst (λ (t : Stack). Begun t Exchanging now.done now) (sym is) (exchange_begun now) in
@@ -212,9 +212,9 @@ returns-clause-whole g c =
     let now : Stack = c.args.self.now in
     let b : Stack = c.begin_exchange.new.self in
     let h : Stack = c.go_round.new.self in
-    let sent : Logs = g.P.Port.sent c.args.port.now in
-    let got : Logs = g.P.Port.got c.args.port.now in
-    let got' : Logs = g.P.Port.got c.go_round.new.port in
+    let sent : Logs = (g.P.Port.view c.args.port.now).sent in
+    let got : Logs = (g.P.Port.view c.args.port.now).got in
+    let got' : Logs = (g.P.Port.view c.go_round.new.port).got in
     let is : b ≡ in_exchange now = c.begin_exchange.ensures.state in
     let s : IsStack g.row.CAP now = c.begin_exchange.ensures.standing in
     let k : Begun b Exchanging now.done now = subst (λ (t : Stack). Begun t Exchanging now.done now) (sym is) (exchange_begun now) in

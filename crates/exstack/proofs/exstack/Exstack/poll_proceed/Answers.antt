@@ -18,8 +18,8 @@ pub go_round-requires : goal.go_round-requires
 go_round-requires g c =
     let now : Stack = c.args.self.now in
     let b : Stack = c.begin_proceed.new.self in
-    let sent : Logs = g.P.Port.sent c.args.port.now in
-    let got : Logs = g.P.Port.got c.args.port.now in
+    let sent : Logs = (g.P.Port.view c.args.port.now).sent in
+    let got : Logs = (g.P.Port.view c.args.port.now).got in
     let is : b ≡ in_proceed c.args.done now = c.begin_proceed.ensures.state in
     let s : IsStack g.row.CAP now = c.begin_proceed.ensures.standing in
     let k : Begun b Proceeding c.args.done now = subst (λ (t : Stack). Begun t Proceeding c.args.done now) (sym is) (proceed_begun c.args.done now c.requires.same_done) in
@@ -44,8 +44,8 @@ pub returns-in_err-missing-clause-agrees : goal.returns-in_err-missing-clause-ag
 returns-in_err-missing-clause-agrees g c =
     let now : Stack = c.args.self.now in
     let b : Stack = c.begin_proceed.new.self in
-    let sent : Logs = g.P.Port.sent c.args.port.now in
-    let got : Logs = g.P.Port.got c.args.port.now in
+    let sent : Logs = (g.P.Port.view c.args.port.now).sent in
+    let got : Logs = (g.P.Port.view c.args.port.now).got in
     let is : b ≡ in_proceed c.args.done now = c.begin_proceed.ensures.state in
     let s : IsStack g.row.CAP now = c.begin_proceed.ensures.standing in
     let k : Begun b Proceeding c.args.done now = subst (λ (t : Stack). Begun t Proceeding c.args.done now) (sym is) (proceed_begun c.args.done now c.requires.same_done) in
@@ -56,8 +56,8 @@ pub returns-in_err-missing-clause-cycle : goal.returns-in_err-missing-clause-cyc
 returns-in_err-missing-clause-cycle g c =
     let now : Stack = c.args.self.now in
     let b : Stack = c.begin_proceed.new.self in
-    let sent : Logs = g.P.Port.sent c.args.port.now in
-    let got : Logs = g.P.Port.got c.args.port.now in
+    let sent : Logs = (g.P.Port.view c.args.port.now).sent in
+    let got : Logs = (g.P.Port.view c.args.port.now).got in
     let is : b ≡ in_proceed c.args.done now = c.begin_proceed.ensures.state in
     let s : IsStack g.row.CAP now = c.begin_proceed.ensures.standing in
     let k : Begun b Proceeding c.args.done now = subst (λ (t : Stack). Begun t Proceeding c.args.done now) (sym is) (proceed_begun c.args.done now c.requires.same_done) in
@@ -68,16 +68,16 @@ pub returns-clause-agrees : goal.returns-clause-agrees
 returns-clause-agrees g c =
     let now : Stack = c.args.self.now in
     let b : Stack = c.begin_proceed.new.self in
-    let sent : Logs = g.P.Port.sent c.args.port.now in
-    let got : Logs = g.P.Port.got c.args.port.now in
+    let sent : Logs = (g.P.Port.view c.args.port.now).sent in
+    let got : Logs = (g.P.Port.view c.args.port.now).got in
     let is : b ≡ in_proceed c.args.done now = c.begin_proceed.ensures.state in
     let s : IsStack g.row.CAP now = c.begin_proceed.ensures.standing in
     let k : Begun b Proceeding c.args.done now = subst (λ (t : Stack). Begun t Proceeding c.args.done now) (sym is) (proceed_begun c.args.done now c.requires.same_done) in
     let agrees : (n : ℕ) → AgreesIn n now sent got → AgreesIn (cycle_after n now.stage) b sent got = λ n a. subst (λ (t : Stack). AgreesIn (cycle_after n now.stage) t sent got) (sym is) (proceed_agrees g.row.CAP n now c.args.done sent got s c.requires.may a) in
     let h : Stack = c.go_round.new.self in
     let r = c.settle_proceed.result in
-    let sent' : Logs = g.P.Port.sent c.go_round.new.port in
-    let got' : Logs = g.P.Port.got c.go_round.new.port in
+    let sent' : Logs = (g.P.Port.view c.go_round.new.port).sent in
+    let got' : Logs = (g.P.Port.view c.go_round.new.port).got in
     let stage : h.stage ≡ Proceeding = ap (λ (t : Stack). t.stage) c.go_round.ensures.same ∙ k.stage_is in
     let over : (n : ℕ) → AgreesIn n now sent got → AgreesIn (cycle_after n now.stage) c.settle_proceed.new.self sent' got' = λ n a.
     subst (λ (t : Stack). AgreesIn (cycle_after n now.stage) t sent' got') (sym c.settle_proceed.ensures.state)
@@ -88,16 +88,16 @@ pub returns-clause-cycle : goal.returns-clause-cycle
 returns-clause-cycle g c =
     let now : Stack = c.args.self.now in
     let b : Stack = c.begin_proceed.new.self in
-    let sent : Logs = g.P.Port.sent c.args.port.now in
-    let got : Logs = g.P.Port.got c.args.port.now in
+    let sent : Logs = (g.P.Port.view c.args.port.now).sent in
+    let got : Logs = (g.P.Port.view c.args.port.now).got in
     let is : b ≡ in_proceed c.args.done now = c.begin_proceed.ensures.state in
     let s : IsStack g.row.CAP now = c.begin_proceed.ensures.standing in
     let k : Begun b Proceeding c.args.done now = subst (λ (t : Stack). Begun t Proceeding c.args.done now) (sym is) (proceed_begun c.args.done now c.requires.same_done) in
     let agrees : (n : ℕ) → AgreesIn n now sent got → AgreesIn (cycle_after n now.stage) b sent got = λ n a. subst (λ (t : Stack). AgreesIn (cycle_after n now.stage) t sent got) (sym is) (proceed_agrees g.row.CAP n now c.args.done sent got s c.requires.may a) in
     let h : Stack = c.go_round.new.self in
     let r = c.settle_proceed.result in
-    let sent' : Logs = g.P.Port.sent c.go_round.new.port in
-    let got' : Logs = g.P.Port.got c.go_round.new.port in
+    let sent' : Logs = (g.P.Port.view c.go_round.new.port).sent in
+    let got' : Logs = (g.P.Port.view c.go_round.new.port).got in
     let stage : h.stage ≡ Proceeding = ap (λ (t : Stack). t.stage) c.go_round.ensures.same ∙ k.stage_is in
     let over : (n : ℕ) → AgreesIn n now sent got → AgreesIn (cycle_after n now.stage) c.settle_proceed.new.self sent' got' = λ n a.
     subst (λ (t : Stack). AgreesIn (cycle_after n now.stage) t sent' got') (sym c.settle_proceed.ensures.state)
@@ -110,19 +110,19 @@ returns-clause-asks g c =
     let b : Stack = c.begin_proceed.new.self in
     let h : Stack = c.go_round.new.self in
     let is : b ≡ in_proceed c.args.done now = c.begin_proceed.ensures.state in
-    subst (λ (t : Stack). AsksOnce g.P.Port t c.settle_proceed.new.self c.args.port.now c.go_round.new.port) is
-    (subst (λ (t : Stack). AsksOnce g.P.Port b t c.args.port.now c.go_round.new.port) (sym c.settle_proceed.ensures.state)
-    (asks_staged g.P.Port b h (stage_of_proceed c.settle_proceed.result) c.args.port.now c.go_round.new.port c.in_ok-missing.ensures.asks))
+    subst (λ (t : Stack). AsksOnce t c.settle_proceed.new.self (g.P.Port.view c.args.port.now) (g.P.Port.view c.go_round.new.port)) is
+    (subst (λ (t : Stack). AsksOnce b t (g.P.Port.view c.args.port.now) (g.P.Port.view c.go_round.new.port)) (sym c.settle_proceed.ensures.state)
+    (asks_staged b h (stage_of_proceed c.settle_proceed.result) (g.P.Port.view c.args.port.now) (g.P.Port.view c.go_round.new.port) c.in_ok-missing.ensures.asks))
 
 pub returns-in_err-missing-clause-steps : goal.returns-in_err-missing-clause-steps
 returns-in_err-missing-clause-steps g c =
     let now : Stack = c.args.self.now in
     let b : Stack = c.begin_proceed.new.self in
     let h : Stack = c.go_round.new.self in
-    let sent : Logs = g.P.Port.sent c.args.port.now in
-    let got : Logs = g.P.Port.got c.args.port.now in
-    let sent' : Logs = g.P.Port.sent c.go_round.new.port in
-    let got' : Logs = g.P.Port.got c.go_round.new.port in
+    let sent : Logs = (g.P.Port.view c.args.port.now).sent in
+    let got : Logs = (g.P.Port.view c.args.port.now).got in
+    let sent' : Logs = (g.P.Port.view c.go_round.new.port).sent in
+    let got' : Logs = (g.P.Port.view c.go_round.new.port).got in
     let is : b ≡ in_proceed c.args.done now = c.begin_proceed.ensures.state in
     let s : IsStack g.row.CAP now = c.begin_proceed.ensures.standing in
     let k : Begun b Proceeding c.args.done now = subst (λ (t : Stack). Begun t Proceeding c.args.done now) (sym is) (proceed_begun c.args.done now c.requires.same_done) in
@@ -150,10 +150,10 @@ returns-clause-steps g c =
     let now : Stack = c.args.self.now in
     let b : Stack = c.begin_proceed.new.self in
     let h : Stack = c.go_round.new.self in
-    let sent : Logs = g.P.Port.sent c.args.port.now in
-    let got : Logs = g.P.Port.got c.args.port.now in
-    let sent' : Logs = g.P.Port.sent c.go_round.new.port in
-    let got' : Logs = g.P.Port.got c.go_round.new.port in
+    let sent : Logs = (g.P.Port.view c.args.port.now).sent in
+    let got : Logs = (g.P.Port.view c.args.port.now).got in
+    let sent' : Logs = (g.P.Port.view c.go_round.new.port).sent in
+    let got' : Logs = (g.P.Port.view c.go_round.new.port).got in
     let is : b ≡ in_proceed c.args.done now = c.begin_proceed.ensures.state in
     let s : IsStack g.row.CAP now = c.begin_proceed.ensures.standing in
     let k : Begun b Proceeding c.args.done now = subst (λ (t : Stack). Begun t Proceeding c.args.done now) (sym is) (proceed_begun c.args.done now c.requires.same_done) in

@@ -17,14 +17,14 @@ use Rattle.link_slots.proofs.seat.SlotSeat.post.Goals as goal
 
 pub post_on-answer-requires : goal.post_on-answer-requires
 post_on-answer-requires g c =
-    let wire : Wire = c.index-wire.result.now in let way : IsWire c.bank.inside.board.shared.key.dims c.args.link wire.bell wire.mask wire.hop = subst (λ (z : Wire). IsWire c.bank.inside.board.shared.key.dims c.args.link z.bell z.mask z.hop) (sym c.index-wire.ensures) (c.bank.invariant.each c.args.link wire (subst (λ (z : Shape). c.args.link < links z.dims) (c.requires.bank.1 ∙ sym (ap (λ (z : Identity). z.shape) c.bank.view_is)) c.requires.link)) in
+    let wire : Wire = c.index-wire.result.now in let way : IsWire c.bank.inside.board.shared.key.dims c.args.link wire.bell wire.mask wire.hop = subst (λ (z : Wire). IsWire c.bank.inside.board.shared.key.dims c.args.link z.bell z.mask z.hop) (sym c.index-wire.ensures) (c.bank.invariant.each c.args.link wire (subst (λ (z : Shape). c.args.link < links z.dims) (c.requires.bank.1 ∙ sym (ap (λ (z : Identity). z.shape) c.bank.view_is)) c.requires.may.link)) in
     let s = c.self.invariant in let v = c.self.inside.place.me.0 in let key : Shape = c.bank.inside.board.shared.key in let l : ℕ = c.args.link in
     let e : v.shape ≡ key = ap (λ (z : Manning). z.shape) c.self.view_is ∙ (c.requires.bank.1 ∙ sym (ap (λ (z : Identity). z.shape) c.bank.view_is)) in
-    let inside : l < links v.shape.dims = subst (λ (z : Manning). l < links z.shape.dims) (sym c.self.view_is) c.requires.link in
-    let mine : sender_at v.shape.dims l ≡ c.self.inside.rank = subst (λ (z : Manning). sender_at z.shape.dims l ≡ z.rank) (sym c.self.view_is) c.requires.starts_here in
+    let inside : l < links v.shape.dims = subst (λ (z : Manning). l < links z.shape.dims) (sym c.self.view_is) c.requires.may.link in
+    let mine : sender_at v.shape.dims l ≡ c.self.inside.rank = subst (λ (z : Manning). sender_at z.shape.dims l ≡ z.rank) (sym c.self.view_is) c.requires.may.starts_here in
     let law : RelayLaw v.shape.dims c.self.inside.rank (with_parcel (shipped_all (sent_of (own_logs v))) l (as_shipped c.args.parcel.now)) (shipped_all (got_of (own_logs v))) =
-    subst (λ (z : Manning). RelayLaw z.shape.dims z.rank (with_parcel (posted_on z) l (as_shipped c.args.parcel.now)) (collected_from z)) (sym c.self.view_is) c.requires.law in
-    let epoch : c.args.parcel.now.epoch ≡ lasts (map as_shipped (sent_of (own_logs v) l)) = subst (λ (z : Manning). c.args.parcel.now.epoch ≡ lasts (posted_on z l)) (sym c.self.view_is) c.requires.epoch in
+    subst (λ (z : Manning). RelayLaw z.shape.dims z.rank (with_parcel (posted_on z) l (as_shipped c.args.parcel.now)) (collected_from z)) (sym c.self.view_is) c.requires.may.law in
+    let epoch : c.args.parcel.now.epoch ≡ lasts (map as_shipped (sent_of (own_logs v) l)) = subst (λ (z : Manning). c.args.parcel.now.epoch ≡ lasts (posted_on z l)) (sym c.self.view_is) c.requires.may.epoch in
     let long : l < length (own_logs v).outs = (let n = s.lists_out in omega arith) in
     let end : OutEnd = c.index_mut-end.result.now in
     let counts : IsOutEnd v.shape.slots (out_of (own_logs v) l) end.sent end.spare =
@@ -51,7 +51,7 @@ post_on-answer-requires g c =
               way,
               (
                 subst (λ (z : Shape). MayFollow z.dims g.row.CAP l (out_of (own_logs v) l).sent c.args.parcel.now) e
-                    (may_follow v.shape.dims g.row.CAP c.self.inside.rank l (own_logs v) c.args.parcel.now inside mine c.requires.fresh c.known.ensures.fresh c.known.ensures.within epoch law),
+                    (may_follow v.shape.dims g.row.CAP c.self.inside.rank l (own_logs v) c.args.parcel.now inside mine c.requires.may.fresh c.known.ensures.fresh c.known.ensures.within epoch law),
                 subst (λ (z : Shape × ℕ). KeepsLaw z.0.dims z.1 (sent_of (with_out (own_logs v) l (sent_more (out_of (own_logs v) l) c.args.parcel.now))) (got_of (own_logs v))) (λ k. (e k, sym s.rank_is k))
                     (law_for v.shape.dims c.self.inside.rank l (own_logs v) c.args.parcel.now long law),
               ),
@@ -65,8 +65,8 @@ pub invariant_of-self : goal.invariant_of-self
 invariant_of-self g c =
     let s = c.self.invariant in let v = c.self.inside.place.me.0 in let key : Shape = c.bank.inside.board.shared.key in let l : ℕ = c.args.link in
     let e : v.shape ≡ key = ap (λ (z : Manning). z.shape) c.self.view_is ∙ (c.requires.bank.1 ∙ sym (ap (λ (z : Identity). z.shape) c.bank.view_is)) in
-    let inside : l < links v.shape.dims = subst (λ (z : Manning). l < links z.shape.dims) (sym c.self.view_is) c.requires.link in
-    let mine : sender_at v.shape.dims l ≡ c.self.inside.rank = subst (λ (z : Manning). sender_at z.shape.dims l ≡ z.rank) (sym c.self.view_is) c.requires.starts_here in
+    let inside : l < links v.shape.dims = subst (λ (z : Manning). l < links z.shape.dims) (sym c.self.view_is) c.requires.may.link in
+    let mine : sender_at v.shape.dims l ≡ c.self.inside.rank = subst (λ (z : Manning). sender_at z.shape.dims l ≡ z.rank) (sym c.self.view_is) c.requires.may.starts_here in
     seat_posted g.row.CAP v.shape c.self.inside.place.me c.post_on-answer.new.place.me c.self.inside.rank l c.self.inside.outs.items c.self.inside.ins.items c.self.inside.ears c.self.inside.ended.items s
     (subst (λ (z : Shape). IsManned z c.post_on-answer.new.place.me) (sym e) c.post_on-answer.ensures.left.stays.seat) inside c.post_on-answer.new.end c.post_on-answer.ensures.left.here mine
     (subst (λ (z : Shape). IsOutEnd z.slots (out_of (own_logs c.post_on-answer.new.place.me.0) l) c.post_on-answer.new.end.sent c.post_on-answer.new.end.spare) (sym e) c.post_on-answer.ensures.left.end)
@@ -75,8 +75,8 @@ invariant_of-self g c =
 pub returns-clause-within : goal.returns-clause-within
 returns-clause-within g c =
     let s = c.self.invariant in let v = c.self.inside.place.me.0 in let l : ℕ = c.args.link in
-    let inside : l < links v.shape.dims = subst (λ (z : Manning). l < links z.shape.dims) (sym c.self.view_is) c.requires.link in
-    let mine : sender_at v.shape.dims l ≡ c.self.inside.rank = subst (λ (z : Manning). sender_at z.shape.dims l ≡ z.rank) (sym c.self.view_is) c.requires.starts_here in
+    let inside : l < links v.shape.dims = subst (λ (z : Manning). l < links z.shape.dims) (sym c.self.view_is) c.requires.may.link in
+    let mine : sender_at v.shape.dims l ≡ c.self.inside.rank = subst (λ (z : Manning). sender_at z.shape.dims l ≡ z.rank) (sym c.self.view_is) c.requires.may.starts_here in
     let counts = s.each_out l c.index_mut-end.result.now inside mine in
     let spare = counts.spare_is in
     subst (λ (z : Manning). length (out_of z.lists l).sent ≤ (out_of z.lists l).room) c.self.view_is (omega (arith, spare))

@@ -1,10 +1,12 @@
 use Rattle.port_bank.specs.Flow.{IsPrefix}
-use Rattle.std.proofs.Common.{arith, ◌≡◌, ◌+◌, ◌-◌, ◌<◌, ◌^◌, ℕ, suc, refl, sym, ap, subst, ◌∙◌, length, min, false, eqb}
+use mathlib.Core.Option.{some}
+use lib.ListN.{get_elem?}
+use Rattle.std.proofs.Common.{take, ◌≤◌, rules, arith, ◌≡◌, ◌-◌, ◌<◌, ℕ, suc, refl, sym, ap, subst, ◌∙◌, length, false}
 use Rattle.item_buffer.specs.Contents.{Contents}
 use Rattle.route_tensor.specs.Ends.{hop_at}
-use Rattle.link_slots.specs.Logs.{InLog, Lists, out_of, in_of, with_in, taken_more}
+use Rattle.link_slots.specs.Logs.{InLog, Lists, out_of, in_of, with_in, taken_more, listens}
 use Rattle.link_slots.specs.View.{own_logs, with_logs, Speaks}
-use Rattle.link_slots.specs.Shape.{Shape, wiring}
+use Rattle.link_slots.specs.Shape.{Shape}
 use Rattle.link_slots.specs.WordSteps.{Knowing}
 use Rattle.list_laws.specs.Counts.{saturated_count}
 use Rattle.link_slots.specs.Counts.{IsInEnd, IsHeard, ElseKept}
@@ -12,8 +14,8 @@ use Rattle.link_slots.specs.Doorbell.{is_due, HeardWhere}
 use Rattle.link_slots.proofs.Moves.{own_with, in_here, in_there, in_same}
 use Rattle.link_slots.proofs.Manning.{with_twice}
 use Rattle.link_slots.proofs.Counting.{end_taken}
-use Rattle.link_slots.proofs.Due.{not_due_heard, heard_nowhere, looked_for, unmarked_same, looked_then_taken}
-use Rattle.link_slots.proofs.Hearing.{bit_unset, else_kept, in_elsewhere, good_same, heard_same}
+use Rattle.link_slots.proofs.Due.{looked_then_taken}
+use Rattle.link_slots.proofs.Hearing.{else_kept, in_elsewhere, good_same, heard_same}
 use Rattle.link_slots.proofs.seat.collect.collect_now.Goals as goal
 
 -- the seat's lists after the release, and the link's own part of them
@@ -56,41 +58,46 @@ returns-clause-left g c =
           (subst (ElseKept key v.pick l (own_logs v2)) (sym o) (in_elsewhere key c.requires.reads.at.board.shape v.pick l c.requires.reads.at.below c.requires.reads.at.own (own_logs v2) (f.left.others.long ∙ c.requires.reads.long) (taken_more (in_of (own_logs v2) l) (in_of (own_logs v3) l).released_at))));
     }
 
-pub returns-clause-good : goal.returns-clause-good
-returns-clause-good g c =
-    let key : Shape = c.args.top.now.key in let f = c.find_parcel.ensures in let v2 : Knowing = c.find_parcel.new.place.me.0 in let v3 : Knowing = c.receive.new.place.me.0 in let l : ℕ = c.args.link in
-    let a = at v2 v3 l c.receive.ensures.released f.left.stays.seat.speaks (let w = f.left.others.long in let u = c.requires.reads.long in let h = c.requires.reads.at.below in omega arith) in
-    good_same g.row.CAP key l (in_of (own_logs v2) l) (in_of (own_logs v3) l) (ap (λ (z : InLog Contents). z.seen) a) f.good
-
-pub returns-clause-own : goal.returns-clause-own
-returns-clause-own g c _ from =
-    let f = c.find_parcel.ensures in let v2 : Knowing = c.find_parcel.new.place.me.0 in let v3 : Knowing = c.receive.new.place.me.0 in let l : ℕ = c.args.link in
-    let o = own v2 v3 l c.receive.ensures.released f.left.stays.seat.speaks in
-    let a = at v2 v3 l c.receive.ensures.released f.left.stays.seat.speaks (let w = f.left.others.long in let u = c.requires.reads.long in let h = c.requires.reads.at.below in omega arith) in
-    let p : v2.pick ≡ c.args.place.now.me.0.pick = ap (λ (z : Knowing). z.pick) f.left.here in
-    subst (λ (z : InLog Contents × Lists Contents). IsPrefix z.0.seen (out_of z.1 l).sent) (λ k. (sym a k, sym o k)) (c.receive.ensures.own (from ∙ sym p))
-
-pub returns-clause-no_looking : goal.returns-clause-no_looking
-returns-clause-no_looking g c some =
-    let v2 : Knowing = c.find_parcel.new.place.me.0 in let v3 : Knowing = c.receive.new.place.me.0 in let l : ℕ = c.args.link in
-    own v2 v3 l c.receive.ensures.released c.find_parcel.ensures.left.stays.seat.speaks ∙ ap (λ (z : Knowing). with_in (own_logs z) l (taken_more (in_of (own_logs z) l) (in_of (own_logs v3) l).released_at)) (c.find_parcel.ensures.at_hand some)
-
-pub returns-clause-heard : goal.returns-clause-heard
-returns-clause-heard g c none m inside mine hop ne =
-    let v : Knowing = c.args.place.now.me.0 in let v2 : Knowing = c.find_parcel.new.place.me.0 in let v3 : Knowing = c.receive.new.place.me.0 in let l : ℕ = c.args.link in
-    let same : in_of (own_logs v3) m ≡ in_of (own_logs v2) m = ap (λ (z : Lists Contents). in_of z m) (own v2 v3 l c.receive.ensures.released c.find_parcel.ensures.left.stays.seat.speaks) ∙ in_there (own_logs v2) l (taken_more (in_of (own_logs v2) l) (in_of (own_logs v3) l).released_at) m ne in
-    subst (HeardWhere (is_due c.args.end.now.noted (in_of (own_logs v) l)) (in_of (own_logs v) m)) (sym same) (c.find_parcel.ensures.heard none m inside mine hop ne)
-
-pub returns-clause-looked : goal.returns-clause-looked
-returns-clause-looked g c none =
+pub returns-clause-collects : goal.returns-clause-collects
+returns-clause-collects g c =
     let f = c.find_parcel.ensures in let v : Knowing = c.args.place.now.me.0 in let v2 : Knowing = c.find_parcel.new.place.me.0 in let v3 : Knowing = c.receive.new.place.me.0 in let l : ℕ = c.args.link in
-    looked_then_taken c.args.end.now.noted (in_of (own_logs v) l) (in_of (own_logs v2) l) (in_of (own_logs v3) l) (in_of (own_logs v3) l).released_at
-    (at v2 v3 l c.receive.ensures.released f.left.stays.seat.speaks (let w = f.left.others.long in let u = c.requires.reads.long in let h = c.requires.reads.at.below in omega arith)) (f.looked none)
-
-pub returns-clause-noted : goal.returns-clause-noted
-returns-clause-noted g c =
-    let f = c.find_parcel.ensures in let v2 : Knowing = c.find_parcel.new.place.me.0 in let v3 : Knowing = c.receive.new.place.me.0 in let l : ℕ = c.args.link in
-    let i2 : InLog Contents = in_of (own_logs v2) l in
     let a = at v2 v3 l c.receive.ensures.released f.left.stays.seat.speaks (let w = f.left.others.long in let u = c.requires.reads.long in let h = c.requires.reads.at.below in omega arith) in
-    let hs : c.find_parcel.new.ear.hears ≡ saturated_count i2.hears = f.left.ear.heard l c.requires.reads.at.below c.requires.reads.at.own refl in
-    hs ∙ sym (ap (λ (z : InLog Contents). saturated_count z.hears) a)
+    record {
+      good =
+          let key : Shape = c.args.top.now.key in let f = c.find_parcel.ensures in let v2 : Knowing = c.find_parcel.new.place.me.0 in let v3 : Knowing = c.receive.new.place.me.0 in let l : ℕ = c.args.link in
+          let a = at v2 v3 l c.receive.ensures.released f.left.stays.seat.speaks (let w = f.left.others.long in let u = c.requires.reads.long in let h = c.requires.reads.at.below in omega arith) in
+          good_same g.row.CAP key l (in_of (own_logs v2) l) (in_of (own_logs v3) l) (ap (λ (z : InLog Contents). z.seen) a) f.good;
+      seen = ap (λ (z : InLog Contents). take (length (in_of (own_logs v) l).seen) z.seen) a ∙ f.seen;
+      more = subst (λ (z : InLog Contents). listens (in_of (own_logs v) l) ≤ listens z) (sym a) f.more;
+      noted =
+          let f = c.find_parcel.ensures in let v2 : Knowing = c.find_parcel.new.place.me.0 in let v3 : Knowing = c.receive.new.place.me.0 in let l : ℕ = c.args.link in
+          let i2 : InLog Contents = in_of (own_logs v2) l in
+          let a = at v2 v3 l c.receive.ensures.released f.left.stays.seat.speaks (let w = f.left.others.long in let u = c.requires.reads.long in let h = c.requires.reads.at.below in omega arith) in
+          let hs : c.find_parcel.new.ear.hears ≡ saturated_count i2.hears = f.left.ear.heard l c.requires.reads.at.below c.requires.reads.at.own refl in
+          hs ∙ sym (ap (λ (z : InLog Contents). saturated_count z.hears) a);
+      taken = λ _. ap (λ (z : InLog Contents). z.taken) a ∙ ap suc f.taken;
+      parcel = λ _. subst (λ (z : InLog Contents). get_elem? z.seen (in_of (own_logs v) l).taken ≡ some c.receive.new.parcel) (sym a) (subst (λ (n : ℕ). get_elem? (in_of (own_logs v2) l).seen n ≡ some c.receive.new.parcel) f.taken c.receive.ensures.parcel);
+      own = λ _ from.
+          let f = c.find_parcel.ensures in let v2 : Knowing = c.find_parcel.new.place.me.0 in let v3 : Knowing = c.receive.new.place.me.0 in let l : ℕ = c.args.link in
+          let o = own v2 v3 l c.receive.ensures.released f.left.stays.seat.speaks in
+          let a = at v2 v3 l c.receive.ensures.released f.left.stays.seat.speaks (let w = f.left.others.long in let u = c.requires.reads.long in let h = c.requires.reads.at.below in omega arith) in
+          let p : v2.pick ≡ c.args.place.now.me.0.pick = ap (λ (z : Knowing). z.pick) f.left.here in
+          subst (λ (z : InLog Contents × Lists Contents). IsPrefix z.0.seen (out_of z.1 l).sent) (λ k. (sym a k, sym o k)) (c.receive.ensures.own (from ∙ sym p));
+      not_taken = search rules;
+      none_known = search rules;
+      unmarked = search rules;
+      listened = search rules;
+      kept = search rules;
+      at_hand = search rules;
+      no_looking = λ some.
+          let v2 : Knowing = c.find_parcel.new.place.me.0 in let v3 : Knowing = c.receive.new.place.me.0 in let l : ℕ = c.args.link in
+          own v2 v3 l c.receive.ensures.released c.find_parcel.ensures.left.stays.seat.speaks ∙ ap (λ (z : Knowing). with_in (own_logs z) l (taken_more (in_of (own_logs z) l) (in_of (own_logs v3) l).released_at)) (c.find_parcel.ensures.at_hand some);
+      heard = λ none m inside mine hop ne.
+          let v : Knowing = c.args.place.now.me.0 in let v2 : Knowing = c.find_parcel.new.place.me.0 in let v3 : Knowing = c.receive.new.place.me.0 in let l : ℕ = c.args.link in
+          let same : in_of (own_logs v3) m ≡ in_of (own_logs v2) m = ap (λ (z : Lists Contents). in_of z m) (own v2 v3 l c.receive.ensures.released c.find_parcel.ensures.left.stays.seat.speaks) ∙ in_there (own_logs v2) l (taken_more (in_of (own_logs v2) l) (in_of (own_logs v3) l).released_at) m ne in
+          subst (HeardWhere (is_due c.args.end.now.noted (in_of (own_logs v) l)) (in_of (own_logs v) m)) (sym same) (c.find_parcel.ensures.heard none m inside mine hop ne);
+      looked = λ none.
+          let f = c.find_parcel.ensures in let v : Knowing = c.args.place.now.me.0 in let v2 : Knowing = c.find_parcel.new.place.me.0 in let v3 : Knowing = c.receive.new.place.me.0 in let l : ℕ = c.args.link in
+          looked_then_taken c.args.end.now.noted (in_of (own_logs v) l) (in_of (own_logs v2) l) (in_of (own_logs v3) l) (in_of (own_logs v3) l).released_at
+          (at v2 v3 l c.receive.ensures.released f.left.stays.seat.speaks (let w = f.left.others.long in let u = c.requires.reads.long in let h = c.requires.reads.at.below in omega arith)) (f.looked none);
+    }

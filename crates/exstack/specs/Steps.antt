@@ -91,7 +91,7 @@ pub record MadeRound (last exchange : Bool) (old new : Stack) (sent sent' got go
 -- What a round asks of its port if it has memory: its posts, and then its collects.
 -- looked, crowded: for a link out whose parcel is due still the port looked for room in this call,
 -- and the link is crowded, unless something was got on it meanwhile.
--- asked: on a link in whose parcel is due still it listened in vain.
+-- asked: on a link in whose parcel is due still it listened without success.
 pub record AsksOnce (begun new : Stack)
     (port port' : PortView) : Type 0 where
   pub looked : (b : ℕ) → b < begun.ranks → (stack_out_at new b).due ≡ true

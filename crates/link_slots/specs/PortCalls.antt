@@ -58,9 +58,9 @@ pub record SeatCollects (cap : ℕ) (s s' : Manning) (l : ℕ) (p : Contents) (r
   pub listens : (m : ℕ) → listens_on s m ≤ listens_on s' m
   pub known_elsewhere : (m : ℕ) → m ≢ l → known_on s' m ≡ known_on s m
 
--- A collect on link l, from the seat s to s'. Where a parcel was at hand it is taken, with no step
--- of looking. Else the doorbell of the link's hop is heard where a hear is due and not else, and
--- the link is looked in where it is then marked and not else.
+-- A collect on link l, from the seat s to s'. If a parcel was at hand it is taken, with no step
+-- of looking. Else the doorbell of the link's hop is heard if a hear is due and not else, and
+-- the link is looked in if it is then marked and not else.
 pub record DidCollect (s s' : Manning) (l : ℕ) (r : Collected) : Type 0 where
   pub here : s' ≡ record s { lists = s'.lists; noted = s'.noted; ended = s'.ended }
   pub outs : s'.lists.outs ≡ s.lists.outs

@@ -1,4 +1,4 @@
-//! A collect: a hear where it is due, a look into the marked link, and the exchange.
+//! A collect: a hear if it is due, a look into the marked link, and the exchange.
 ghost use Rattle.std.specs.Prelude.{◌≡◌, ◌≢◌, ℕ, ◌^◌, ◌<◌, ◌≤◌, false, take, length};
 ghost use Rattle.bale_items.specs.Counters.{RoseOrFull};
 ghost use Rattle.route_tensor.specs.Link.{links};

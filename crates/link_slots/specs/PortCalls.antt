@@ -28,8 +28,8 @@ pub record DidPost (s s' : Manning) (l : ℕ) (p : Contents) (r : Result Posted 
   pub looked : r ≡ Ok NoRoom → out_of s'.lists l ≡ found_full (out_of s.lists l)
   pub once : (out_of s'.lists l).looks ≤ suc (out_of s.lists l).looks
 
--- A collect from link l into parcel p, which leaves p' at hand, from the seat s to s', for parcels of
--- capacity cap.
+-- A collect from link l into parcel p, which leaves p' at hand, from the seat s to s', for parcels
+-- of capacity cap.
 -- If the answer is Got:
 --   got, arrived: the parcel at hand is the last one of the link's log, and may follow those before.
 --   known: the rank knew of a parcel that was not collected.

@@ -28,7 +28,7 @@ use Rattle.rank_node.specs.Nodes.{IsNode}
 use Rattle.rank_group.specs.Ranks.{RankState, AllRanks}
 use Rattle.rank_group.specs.Transcript.{RecordsRun, turns_within}
 use Rattle.route_tensor.proofs.Coordinates.{ranks_some}
-use Rattle.rank_group.proofs.Orders.{lawful}
+use Rattle.rank_group.proofs.Growing.{lawful}
 use Rattle.rank_group.proofs.Movers.{shape_none}
 use Rattle.rank_group.proofs.Telling.{tells_run}
 use Rattle.rank_group.proofs.Worlds.{over_at_last}

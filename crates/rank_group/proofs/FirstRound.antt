@@ -1,7 +1,7 @@
 -- A run whose programs begin in round 0: its rounds are the programs' own.
 use Rattle.std.proofs.Common.{◌≡◌, ℕ, zero, suc, ◌+◌, ◌^◌, ◌<◌, ◌≤◌, ap, sym, ◌∙◌, arith}
 use Rattle.round_program.specs.Rules.{Rules}
-use Rattle.round_program.specs.Epochs.{PairLists, heard, Voted, notified, spoiled, Own}
+use Rattle.round_program.specs.Epochs.{PairLists, heard, Voted, told, spoiled, Own}
 use Rattle.rank_node.specs.Runs.{round_after, from_round}
 
 -- a run that begins in round 0 is in round m after m rounds
@@ -23,5 +23,5 @@ own_first {S} R p c d h l first few own =
       goes = λ m b. ap (λ k. R.goes_on (R.shape (h m)) k (heard p l m)) (sym (round_first (R.round (h 0)) m first (omega (arith, b, few)))) ∙ own.goes m b;
     } where
       by_vote : (m : ℕ) → Voted (from_round (R.round (h 0)) R) p h l m → Voted R p h l m
-      by_vote m (notified es vs) = notified es vs
+      by_vote m (told es vs) = told es vs
       by_vote m (spoiled vs) = spoiled vs

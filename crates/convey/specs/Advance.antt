@@ -1,5 +1,5 @@
 -- What an advance leaves of a conveyor and of its port, from old to new and from port to port'.
-use Rattle.std.specs.Prelude.{◌≡◌, ◌≢◌, ℕ, ◌+◌, ◌<◌, ◌≤◌, Bool, true, false, List, ◌++◌, length, slice_get, Some}
+use Rattle.std.specs.Prelude.{◌≡◌, ◌≢◌, ℕ, ◌+◌, ◌<◌, ◌≤◌, Bool, true, false, List, ◌++◌, length, slice_get, Some, None}
 use Rattle.std.specs.List.{flat_map}
 use Rattle.bale_items.specs.Counters.{RoseOrFull}
 use Rattle.bale_items.specs.declared.item.Entry.{Entry}
@@ -11,14 +11,14 @@ use Rattle.port_bank.specs.Port.{PortView, is_crowded, is_idle}
 use Rattle.port_bank.specs.Frames.{SamePort}
 use Rattle.port_bank.specs.Machine.{IsOwnStep}
 use Rattle.port_bank.specs.Shapes.{IsConveyorShape}
-use Rattle.hop_core.specs.declared.phase.Phase.TheVariants.{Dormant, Working}
+use Rattle.hop_core.specs.declared.phase.Phase.TheVariants.{Dormant, Working, Complete}
 use Rattle.hop_core.specs.State.{State, phase_of, at_end}
 use Rattle.convey.specs.declared.progress.Progress.{Progress}
 use Rattle.convey.specs.declared.progress.Progress.TheVariants as progress
 use Rattle.convey.specs.Arrived.{HasArrived}
 use Rattle.convey.specs.Buffers.{buffers_of, is_complete, out_of, in_of}
-use Rattle.convey.specs.Conveyors.{AgreesWith}
-use Rattle.convey.specs.Due.{Wants, IsOver, WasServed, NextIs, HeldUp}
+use Rattle.convey.specs.Conveyors.{AgreesWith, HoldsAtMost}
+use Rattle.convey.specs.Due.{Wants, IsOver, WasServed, NextIs, HeldUp, WasFull, StopsAt, collects_of, posts_below}
 use Rattle.convey.specs.Parts.{part_of}
 use Rattle.convey.specs.Progress.{progress_of, advance_step}
 
@@ -118,3 +118,48 @@ pub record WereServed (cap : ℕ) (old new : State)
   pub stopped : (l : ℕ) (e : Entry) → l < links old.dims → reader_at old.dims l ≡ old.rank
       → hop_at old.dims l < length old.dims → slice_get (in_of new l).parcel.untaken 0 ≡ Some e
       → NextIs old.dims old.rank l e.tag (HeldUp cap new port.sent port'.sent (is_crowded port'))
+
+-- A conveyor may advance at a port, told whether its rank is done.
+-- begun: it isn't Dormant.
+-- at_port: the port is its own.
+-- done_stays: a rank that was done in this epoch is done still.
+pub record MayAdvance (told : Bool) (st : State) (port : PortView) : Type 0 where
+  pub begun : st.phase ≢ Dormant
+  pub at_port : IsAtPort st port
+  pub done_stays : st.done ≡ true → told ≡ true
+
+-- An advance, whatever it answers.
+-- stays: the conveyor agrees with the port again, and made a step of the exchange machine.
+-- fits: as at every moment, no open parcel held more than its capacity.
+-- complete: in the phase Complete nothing changes but the right to unpull.
+-- grows: the lists only grow.
+-- asked: what the collects answered.
+-- waits: where nothing was sent on a link out, its open parcel begins with what it held.
+-- held: an entry is left in an inbox below the last hop only where the open parcel that it goes to
+-- was full.
+pub record Advances (cap : ℕ) (told : Bool) (old new : State) (port port' : PortView) : Type 0 where
+  pub stays : StaysAtPort told old new port port'
+  pub fits : HoldsAtMost cap old
+  pub complete : old.phase ≡ Complete → new ≡ record old { pulled = None }
+  pub grows : ListsGrow cap old port port'
+  pub asked : WereAsked old new port port'
+  pub waits : (l : ℕ) → l < links old.dims → sender_at old.dims l ≡ old.rank → port'.sent l ≡ port.sent l
+      → IsPrefix (out_of old l).parcel.untaken (out_of new l).parcel.untaken
+  pub held : (l : ℕ) (e : Entry) → l < links old.dims → reader_at old.dims l ≡ old.rank
+      → hop_at old.dims l < length old.dims → slice_get (in_of new l).parcel.untaken 0 ≡ Some e
+      → NextIs old.dims old.rank l e.tag (WasFull cap new port.sent port'.sent)
+
+-- An advance that had memory.
+-- calls: a collect on each link in that wanted a parcel, in ascending order, and then a post on
+-- each link out that was due, in ascending order.
+-- served: what the posts answered.
+pub record AdvancesInFull (cap : ℕ) (old new : State) (port port' : PortView) : Type 0 where
+  pub calls : port'.calls ≡ (port.calls ++ collects_of old) ++ posts_below new port.sent port'.sent (links new.dims)
+  pub served : WereServed cap old new port port'
+
+-- An advance without memory.
+-- phase: the phase is as before.
+-- at: the posts end at one that found no memory.
+pub record AdvanceStops (old new : State) (port port' : PortView) : Type 0 where
+  pub phase : new.phase ≡ old.phase
+  pub at : StopsAt new port.sent port'.sent (port.calls ++ collects_of old) port'.calls

@@ -1,5 +1,5 @@
 -- A conveyor and its port in the midst of an advance.
-use Rattle.std.specs.Prelude.{◌≡◌, ◌⊎◌, ℕ, ◌+◌, ◌<◌, ◌≤◌, Bool, true, false, List, [], ◌∷◌, ◌++◌, length, slice_get}
+use Rattle.std.specs.Prelude.{◌≡◌, ◌≢◌, ◌⊎◌, ℕ, ◌+◌, ◌<◌, ◌≤◌, Bool, true, false, List, [], ◌∷◌, ◌++◌, length, slice_get}
 use Rattle.std.specs.Prelude.{Some, None}
 use Rattle.std.specs.List.{flat_map}
 use Rattle.bale_items.specs.declared.item.Entry.{Entry}
@@ -13,11 +13,14 @@ use Rattle.list_laws.specs.Lists.{IsPrefix, Ends}
 use Rattle.port_bank.specs.Shapes.{IsConveyorShape}
 use Rattle.item_buffer.specs.Contents.{Shipped}
 use Rattle.port_bank.specs.Machine.{Part}
+use Rattle.hop_core.specs.declared.phase.Phase.TheVariants.{Dormant, Complete}
+use Rattle.hop_core.specs.Standing.{IsState}
 use Rattle.hop_core.specs.State.{State}
-use Rattle.convey.specs.Buffers.{out_of, in_of, buffers_of}
+use Rattle.convey.specs.Buffers.{out_of, in_of, buffers_of, is_complete}
 use Rattle.convey.specs.Agreement.{Agrees}
 use Rattle.convey.specs.Parts.{part_of}
-use Rattle.convey.specs.Due.{Wants, IsOver, WasServed, NextIs, HeldUp}
+use Rattle.convey.specs.Conveyors.{IsConveyor}
+use Rattle.convey.specs.Due.{Wants, IsOver, WasServed, NextIs, HeldUp, WasFull, StopsAt, collects_of, posts_below}
 
 -- A state whose buffers agree with the lists of its port.
 pub record IsReady (dims : List ℕ) (rank : ℕ) (st : State) (sent got : Logs) : Type 0 where
@@ -136,3 +139,37 @@ pub record HasServed (old new : State) (sent sent' : Logs) (looks looks' : ℕ �
   pub stopped : (l : ℕ) (e : Entry) → l < links old.dims → reader_at old.dims l ≡ old.rank
       → hop_at old.dims l < length old.dims → slice_get (in_of new l).parcel.untaken 0 ≡ Some e
       → NextIs old.dims old.rank l e.tag (HeldUp old.cap new sent sent' is_crowded)
+
+-- A rank of so many hops may move its exchange on at a port, told whether it is done.
+pub record MayMoveOn (hops : ℕ) (told : Bool) (st : State) (port : PortView) : Type 0 where
+  pub conveyor : IsConveyor hops st
+  pub begun : st.phase ≢ Dormant
+  pub done_stays : st.done ≡ true → told ≡ true
+  pub ready : IsReady port.dims port.rank st port.sent port.got
+
+-- What it makes of the rank and of the port, whatever it answers.
+-- held: an entry is left in an inbox below the last hop only where the open parcel that it goes to
+-- was full.
+-- complete: a rank that is complete has nothing left to move.
+pub record MovesAtPort (hops cap : ℕ) (told : Bool) (old new : State) (port port' : PortView) : Type 0 where
+  pub conveyor : IsConveyor hops new
+  pub ready : IsReady port.dims port.rank new port'.sent port'.got
+  pub moves_on : MovesOn old new told port.sent port'.sent port.got port'.got port.noted port'.noted (is_idle port')
+  pub held : (l : ℕ) (e : Entry) → l < links old.dims → reader_at old.dims l ≡ old.rank
+      → hop_at old.dims l < length old.dims → slice_get (in_of new l).parcel.untaken 0 ≡ Some e
+      → NextIs old.dims old.rank l e.tag (WasFull old.cap new port.sent port'.sent)
+  pub complete : old.phase ≡ Complete → new ≡ old
+  pub cap_is : old.cap ≡ cap
+  pub standing : IsState old
+  pub same_port : SamePort port port'
+
+-- And where it had memory: what the posts answered, and which calls were made on the port.
+pub record MovesInFull (old new : State) (port port' : PortView) : Type 0 where
+  pub served : HasServed old new port.sent port'.sent port.looks_out port'.looks_out (is_crowded port')
+  pub calls : port'.calls ≡ (port.calls ++ collects_of old) ++ posts_below new port.sent port'.sent (links new.dims)
+
+-- And where a post had none: the rank isn't complete, and the calls end at that post.
+pub record MoveStops (old new : State) (port port' : PortView) : Type 0 where
+  pub incomplete : is_complete old.phase ≡ false
+  pub forgotten : new.pulled ≡ None
+  pub at : StopsAt new port.sent port'.sent (port.calls ++ collects_of old) port'.calls

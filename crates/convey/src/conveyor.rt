@@ -1,10 +1,9 @@
 //! The conveyor of one rank: what a program pushes, advances and pulls.
-ghost use Rattle.std.specs.Prelude.{◌≡◌, ◌≢◌, ℕ, ◌+◌, ◌<◌, ◌^◌, ◌++◌, true, false, [], length, sum, replicate, map, is_some, slice_get, Some, None, IfOk, IfSome, OnOk, IsOk, IsErr, Ok};
+ghost use Rattle.std.specs.Prelude.{◌≡◌, ◌≢◌, ℕ, ◌+◌, ◌<◌, ◌^◌, true, false, [], length, sum, replicate, map, is_some, slice_get, Some, None, IfOk, IfSome, OnOk, IsOk, IsErr, Ok};
 ghost use Rattle.bale_items.specs.declared.item.Entry.{Entry};
 ghost use Rattle.route_tensor.specs.Grid.{ranks};
 ghost use Rattle.route_tensor.specs.Link.{links};
-ghost use Rattle.route_tensor.specs.Ends.{hop_at, sender_at, reader_at};
-ghost use Rattle.list_laws.specs.Lists.{IsPrefix};
+ghost use Rattle.route_tensor.specs.Ends.{hop_at};
 ghost use Rattle.hop_core.specs.Lent.Lent.{Given};
 ghost use Rattle.hop_core.specs.Link.{no_out, no_in};
 ghost use Rattle.hop_core.specs.State.{phase_of, in_at, lowest_unread, pull_from, pulled_from, pulls, after_unpull, with_pushed, out_in_new_epoch, in_in_new_epoch};
@@ -12,13 +11,12 @@ ghost use Rattle.route_tensor.specs.Neighbour.{hop_to, neighbour};
 ghost use Rattle.route_tensor.specs.Tag.{IsFair, sender_of};
 ghost use Rattle.std.specs.List.{All};
 ghost use Rattle.port_bank.specs.Machine.Step.{Push, Pull, Unpull, Reset, Idle};
-ghost use Rattle.convey.specs.Buffers.{out_of, in_of};
-ghost use Rattle.convey.specs.Advance.{IsAtPort, StaysAtPort, HasSettled, ListsGrow, WereAsked, WereServed};
-ghost use Rattle.convey.specs.Conveyors.{Stands, AgreesWith, HoldsAtMost, IsStepOf, KeepsAgreement, GivesNext, standing_toward};
+ghost use Rattle.convey.specs.Buffers.{in_of};
+ghost use Rattle.convey.specs.Advance.{HasSettled, MayAdvance, Advances, AdvancesInFull, AdvanceStops};
+ghost use Rattle.convey.specs.Conveyors.{Stands, AgreesWith, IsStepOf, KeepsAgreement, GivesNext, standing_toward};
 ghost use Rattle.convey.specs.Progress.{progress_of};
 ghost use Rattle.item_buffer.specs.Capacity.{IsCap};
 ghost use Rattle.hop_core.specs.Standing.{IsState};
-ghost use Rattle.convey.specs.Due.{StopsAt, NextIs, WasFull, collects_of, posts_below};
 
 use crate::moving::move_on;
 use crate::progress::Progress;
@@ -241,50 +239,13 @@ impl<const CAP: usize, const HOPS: usize> Conveyor<CAP, HOPS> {
     /// `NoMemory` comes only from the port's post. What was collected, relayed and posted before it
     /// stands, done stays noted, the phase is as before, and advance may be called again.
     pub fn advance<P: Port<CAP>>(&mut self, port: &mut P, done: bool) -> Result<Progress, NoMemory>
-        requires begun { self.old.phase ≢ Phase.Dormant }
-        requires at_port { IsAtPort self.old (P.view port.old) }
-        requires done_stays { self.old.done ≡ true → done ≡ true }
-
-        // The conveyor agrees with the port again, and made a step of the exchange machine.
-        ensures stays { StaysAtPort done self.old self.new (P.view port.old) (P.view port.new) }
-
-        // Answers.
+        requires may { MayAdvance done self.old (P.view port.old) }
+        ensures advances { Advances CAP done self.old self.new (P.view port.old) (P.view port.new) }
         ensures settled { IfOk result (λ p. HasSettled done self.new p) }
-        ensures no_memory { IsErr result → self.new.phase ≡ self.old.phase }
+        ensures in_full { OnOk result (AdvancesInFull CAP self.old self.new (P.view port.old) (P.view port.new)) }
+        ensures stops { IsErr result → AdvanceStops self.old self.new (P.view port.old) (P.view port.new) }
         ensures memory { P.Memory.GROWS ≡ false → IsOk result }
-
-        // As at every moment, no open parcel held more than its capacity.
-        ensures fits { HoldsAtMost CAP self.old }
-
-        // In the phase Complete nothing changes but the right to unpull.
-        ensures complete { self.old.phase ≡ Phase.Complete → self.new ≡ record self.old { pulled = None } }
         ensures complete_port { self.old.phase ≡ Phase.Complete → port.new ≡ port.old }
-
-        // The lists only grow.
-        ensures grows { ListsGrow CAP self.old (P.view port.old) (P.view port.new) }
-
-        // The calls on the port: a collect on each link in that wanted a parcel, in ascending
-        // order, and then a post on each link out that was due, in ascending order, up to one that
-        // found no memory.
-        ensures calls { OnOk result ((P.view port.new).calls ≡ ((P.view port.old).calls ++ collects_of self.old)
-            ++ posts_below self.new (P.view port.old).sent (P.view port.new).sent (links self.new.dims)) }
-        ensures stops { IsErr result → StopsAt self.new (P.view port.old).sent (P.view port.new).sent
-            ((P.view port.old).calls ++ collects_of self.old) (P.view port.new).calls }
-
-        // What they answered.
-        ensures asked { WereAsked self.old self.new (P.view port.old) (P.view port.new) }
-        ensures served { OnOk result (WereServed CAP self.old self.new (P.view port.old) (P.view port.new)) }
-
-        // If nothing was sent on a link out, its open parcel begins with what it held. An entry
-        // is left in an inbox below the last hop only if the open parcel that it goes to was
-        // full.
-        ensures waits { (l : ℕ) → l < links self.old.dims → sender_at self.old.dims l ≡ self.old.rank
-            → (P.view port.new).sent l ≡ (P.view port.old).sent l
-            → IsPrefix (out_of self.old l).parcel.untaken (out_of self.new l).parcel.untaken }
-        ensures held { (l : ℕ) (e : Entry) → l < links self.old.dims → reader_at self.old.dims l ≡ self.old.rank
-            → hop_at self.old.dims l < length self.old.dims → slice_get (in_of self.new l).parcel.untaken 0 ≡ Some e
-            → NextIs self.old.dims self.old.rank l e.tag
-            (WasFull CAP self.new (P.view port.old).sent (P.view port.new).sent) }
     {
         move_on(&mut self.state, &mut self.spare, port, done)?;
         Ok(settle(&mut self.state))

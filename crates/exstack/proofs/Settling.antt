@@ -16,7 +16,7 @@ use Rattle.exstack.specs.Links.{StackOut, StackIn, no_stack_out, no_stack_in}
 use Rattle.exstack.specs.State.{Stack, stack_out_at, stack_in_at, stack_link_to, stack_link_from, missing_link, missing_out, missing_in, all_ended, stage_of_proceed, stage_of_exchange}
 use Rattle.exstack.specs.Standing.{IsStackOut, IsStackIn, IsStack, IsKeptStack}
 use Rattle.exstack.specs.Agreement.{LinkAgrees, AgreesIn, rounds_in}
-use Rattle.exstack.specs.Steps.{AsksOnce}
+use Rattle.exstack.specs.Steps.{AsksOnce, MadeRound}
 use Rattle.exstack.proofs.Calls.{not_both}
 use Rattle.exstack.proofs.Places.{none_passes}
 
@@ -138,3 +138,8 @@ exchange_rounds n (poll.NotYet link) = refl
 -- the stage says nothing of what was asked
 pub asks_staged : (begun st : Stack) (stage : Stage) (port port' : PortView) → AsksOnce begun st port port' → AsksOnce begun (record st { stage = stage }) port port'
 asks_staged begun st stage port port' a = record { looked = a.looked; crowded = a.crowded; asked = a.asked; calls = a.calls }
+
+-- nor of what was posted and collected
+pub round_staged : (last exchange : Bool) (begun st : Stack) (stage : Stage) (sent sent' got got' : Logs) → MadeRound last exchange begun st sent sent' got got'
+    → MadeRound last exchange begun (record st { stage = stage }) sent sent' got got'
+round_staged last exchange begun st stage sent sent' got got' r = record { posted = r.posted; collected = r.collected; sent_grows = r.sent_grows; got_grows = r.got_grows }

@@ -4,6 +4,7 @@ pub mod Steps
 pub mod Cycles
 pub mod Agreement
 pub mod Parts
+pub mod Polls
 pub mod Standing
 pub mod Demands
 pub mod Law

@@ -1,15 +1,12 @@
 //! The polls of an exstack: each begins a round or goes on with it.
 ghost use Rattle.std.specs.Prelude.{◌≡◌, ℕ, ◌<◌, ◌&&◌, ◌||◌, not, true, false, None, IfOk, OnOk, IsOk, IsErr, Ok};
-ghost use Rattle.port_bank.specs.Machine.{IsOwnStep};
-ghost use Rattle.port_bank.specs.Machine.Step.{Idle};
 ghost use Rattle.port_bank.specs.Frames.{SamePort};
-ghost use Rattle.exstack.specs.State.{stack_in_at, stack_link_from, stack_unread};
+ghost use Rattle.exstack.specs.State.{stack_unread};
 ghost use Rattle.exstack.specs.State.{is_proceeding, is_exchanging, may_proceed, may_exchange, in_proceed, in_exchange, missing_link, all_ended, proceed_answer, exchange_answer, stage_of_proceed, stage_of_exchange};
 ghost use Rattle.exstack.specs.Steps.{MadeRound, AsksOnce, StopsShort};
-ghost use Rattle.exstack.specs.Agreement.{AgreesIn, StackAgrees, cycle_after};
-ghost use Rattle.exstack.specs.Cycles.{exchange_parcel, entries_if_any};
-ghost use Rattle.exstack.specs.Parts.{AreOwnSteps, proceed_steps, stack_part, IsStackAtPort};
-ghost use Rattle.exstack.specs.State.{is_all_done};
+ghost use Rattle.exstack.specs.Agreement.{AgreesIn};
+ghost use Rattle.exstack.specs.Parts.{IsStackAtPort};
+ghost use Rattle.exstack.specs.Polls.{MayPollProceed, PollsProceed, MayPollExchange, PollsExchange};
 ghost use Rattle.exstack.specs.Standing.{IsStack};
 
 use crate::exstack::Exstack;
@@ -31,24 +28,8 @@ impl<const CAP: usize> Exstack<CAP> {
         port: &mut P,
         done: bool,
     ) -> Result<Proceed, NoMemory>
-        requires may { may_proceed self.old.stage ≡ true }
-        requires at_port { IsStackAtPort self.old (P.view port.old) }
-        requires read { stack_unread self.old ≡ 0 }
-        requires done_stays { self.old.done ≡ true → done ≡ true }
-        requires same_done { self.old.stage ≡ Stage.Proceeding → done ≡ self.old.done }
-
-        // The exstack agrees with the port again.
-        ensures agrees { StackAgrees self.new (P.view port.new).sent (P.view port.new).got }
-        ensures cycle { (n : ℕ) → AgreesIn n self.old (P.view port.old).sent (P.view port.old).got
-            → AgreesIn (cycle_after n self.old.stage) self.new (P.view port.new).sent (P.view port.new).got }
-        ensures same { self.new ≡ record self.old {
-          stage = self.new.stage;
-          done = done;
-          outs = self.new.outs;
-          ins = self.new.ins;
-          popped = None;
-        } }
-        ensures same_port { SamePort (P.view port.old) (P.view port.new) }
+        requires may { MayPollProceed done self.old (P.view port.old) }
+        ensures polls { PollsProceed done self.old self.new (P.view port.old) (P.view port.new) }
 
         // Answers.
         ensures answer { IfOk result (λ p. p ≡ proceed_answer (missing_link self.new) (all_ended self.new)) }
@@ -56,18 +37,10 @@ impl<const CAP: usize> Exstack<CAP> {
         ensures no_memory { IsErr result → self.new.stage ≡ Stage.Proceeding }
         ensures memory { P.Memory.GROWS ≡ false → IsOk result }
 
-        // It is these steps of the rank's part of the exchange machine.
-        ensures steps { AreOwnSteps (proceed_steps self.old.done done (is_all_done self.new.stage))
-            (stack_part self.old (P.view port.old).sent (P.view port.old).got)
-            (stack_part self.new (P.view port.new).sent (P.view port.new).got) }
-
-        // What was posted and collected.
-        ensures round { MadeRound done false (in_proceed done self.old) self.new (P.view port.old).sent (P.view port.new).sent
-            (P.view port.old).got (P.view port.new).got }
-
         // What the port was asked, with memory and without.
         ensures asks { OnOk result (AsksOnce (in_proceed done self.old) self.new (P.view port.old) (P.view port.new)) }
-        ensures stops { IsErr result → StopsShort (in_proceed done self.old) self.new (P.view port.old) (P.view port.new) }
+        ensures stops { IsErr result
+            → StopsShort (in_proceed done self.old) self.new (P.view port.old) (P.view port.new) }
     {
         self.begin_proceed(done);
         let missing = self.go_round(port, done, false)?;
@@ -81,20 +54,8 @@ impl<const CAP: usize> Exstack<CAP> {
     /// `NoMemory` comes only from the port's post. What was posted before it stays posted, and the
     /// poll may be made again.
     pub fn poll_exchange<P: Port<CAP>>(&mut self, port: &mut P) -> Result<Poll, NoMemory>
-        requires may { may_exchange self.old.stage ≡ true }
-        requires at_port { IsStackAtPort self.old (P.view port.old) }
-
-        // The exstack agrees with the port again.
-        ensures agrees { StackAgrees self.new (P.view port.new).sent (P.view port.new).got }
-        ensures cycle { (n : ℕ) → AgreesIn n self.old (P.view port.old).sent (P.view port.old).got
-            → AgreesIn n self.new (P.view port.new).sent (P.view port.new).got }
-        ensures same { self.new ≡ record self.old {
-          stage = self.new.stage;
-          outs = self.new.outs;
-          ins = self.new.ins;
-          popped = None;
-        } }
-        ensures same_port { SamePort (P.view port.old) (P.view port.new) }
+        requires may { MayPollExchange self.old (P.view port.old) }
+        ensures polls { PollsExchange self.old self.new (P.view port.old) (P.view port.new) }
 
         // Answers.
         ensures answer { IfOk result (λ p. p ≡ exchange_answer (missing_link self.new)) }
@@ -102,24 +63,10 @@ impl<const CAP: usize> Exstack<CAP> {
         ensures no_memory { IsErr result → self.new.stage ≡ Stage.Exchanging }
         ensures memory { P.Memory.GROWS ≡ false → IsOk result }
 
-        // It is a step of the rank's part of the exchange machine.
-        ensures step { IsOwnStep Idle (stack_part self.old (P.view port.old).sent (P.view port.old).got)
-            (stack_part self.new (P.view port.new).sent (P.view port.new).got) }
-
-        // What was posted and collected.
-        ensures round { MadeRound false true (in_exchange self.old) self.new (P.view port.old).sent (P.view port.new).sent
-            (P.view port.old).got (P.view port.new).got }
-
         // What the port was asked, with memory and without.
         ensures asks { OnOk result (AsksOnce (in_exchange self.old) self.new (P.view port.old) (P.view port.new)) }
-        ensures stops { IsErr result → StopsShort (in_exchange self.old) self.new (P.view port.old) (P.view port.new) }
-
-        // A parcel that this poll collected is the exchange parcel of its cycle, and all of it is
-        // unread.
-        ensures whole { (n a : ℕ) → AgreesIn n self.old (P.view port.old).sent (P.view port.old).got → a < self.old.ranks
-            → (stack_in_at (in_exchange self.old) a).due ≡ true → (stack_in_at self.new a).due ≡ false
-            → (stack_in_at self.new a).unread
-            ≡ entries_if_any (exchange_parcel self.old.epoch n ((P.view port.new).got (stack_link_from self.old a))) }
+        ensures stops { IsErr result
+            → StopsShort (in_exchange self.old) self.new (P.view port.old) (P.view port.new) }
     {
         self.begin_exchange();
         let missing = self.go_round(port, false, true)?;

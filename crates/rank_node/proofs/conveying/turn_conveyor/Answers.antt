@@ -44,13 +44,11 @@ advance-progress-requires g c =
       low = c.push_all-run.ensures.low;
     } in (
       search rules,
-      (
-        λ d. i.moving.begun (sym (ap (λ (t : State). t.phase) push.same) ∙ d),
-        (
-          record { same_dims = c.requires.turns.same_dims ∙ sym (ap (λ (t : State). t.dims) push.same); same_rank = c.requires.turns.same_rank ∙ sym (ap (λ (t : State). t.rank) push.same); agrees = push.agrees },
-          λ d. ap (λ m. next == m) c.count_of.ensures ∙ done_stays R h run c0 c1 next sent got push i d,
-        ),
-      ),
+      record {
+        begun = λ d. i.moving.begun (sym (ap (λ (t : State). t.phase) push.same) ∙ d);
+        at_port = record { same_dims = c.requires.turns.same_dims ∙ sym (ap (λ (t : State). t.dims) push.same); same_rank = c.requires.turns.same_rank ∙ sym (ap (λ (t : State). t.rank) push.same); agrees = push.agrees };
+        done_stays = λ d. ap (λ m. next == m) c.count_of.ensures ∙ done_stays R h run c0 c1 next sent got push i d;
+      },
     )
 
 pub returns-in_err-progress-clause-turns : goal.returns-in_err-progress-clause-turns
@@ -82,23 +80,23 @@ returns-in_err-progress-clause-turns g c =
     let done = next == c.count_of.result in
     let all : done ≡ (next == length (to_send R run.prog run.sends)) = ap (λ m. next == m) c.count_of.ensures in
     let adv : AfterAdvance c1 c2 done (is_complete c2.phase) sent got sent' got' = record {
-      agrees = c.advance-progress.ensures.stays.agrees;
-      dims = c.advance-progress.ensures.stays.dims;
-      rank = c.advance-progress.ensures.stays.rank;
-      done_is = c.advance-progress.ensures.stays.done;
-      begun = c.advance-progress.ensures.stays.begun;
-      working = λ d. c.in_err-progress.ensures.no_memory refl ∙ still_working R h run c0 c1 next sent got push i (sym all ∙ d);
-      step = c.advance-progress.ensures.stays.step;
+      agrees = c.advance-progress.ensures.advances.stays.agrees;
+      dims = c.advance-progress.ensures.advances.stays.dims;
+      rank = c.advance-progress.ensures.advances.stays.rank;
+      done_is = c.advance-progress.ensures.advances.stays.done;
+      begun = c.advance-progress.ensures.advances.stays.begun;
+      working = λ d. (c.in_err-progress.ensures.stops refl).phase ∙ still_working R h run c0 c1 next sent got push i (sym all ∙ d);
+      step = c.advance-progress.ensures.advances.stays.step;
     } in
     let grown : Grown c1 c2 g.row.CAP sent sent' got got' = record {
-      steady = c.advance-progress.ensures.stays.steady;
-      epoch = c.advance-progress.ensures.stays.epoch;
-      sent_grows = c.advance-progress.ensures.grows.sent_grows;
-      got_grows = c.advance-progress.ensures.grows.got_grows;
-      one_sent = c.advance-progress.ensures.grows.one_sent;
-      one_got = c.advance-progress.ensures.grows.one_got;
-      shape = c.advance-progress.ensures.grows.shape;
-      lies = c.advance-progress.ensures.asked.lies;
+      steady = c.advance-progress.ensures.advances.stays.steady;
+      epoch = c.advance-progress.ensures.advances.stays.epoch;
+      sent_grows = c.advance-progress.ensures.advances.grows.sent_grows;
+      got_grows = c.advance-progress.ensures.advances.grows.got_grows;
+      one_sent = c.advance-progress.ensures.advances.grows.one_sent;
+      one_got = c.advance-progress.ensures.advances.grows.one_got;
+      shape = c.advance-progress.ensures.advances.grows.shape;
+      lies = c.advance-progress.ensures.advances.asked.lies;
     } in
     let takes : AfterTakes R voting c2 c3 run.prog prog' run.sum sum' run.spoiled spoiled' sent' got' = record {
       same = c.take_all-run.ensures.takes.same;
@@ -109,10 +107,10 @@ returns-in_err-progress-clause-turns g c =
     } in
     record {
       moves = advanced_moves R g.row.CAP run c0 c1 c2 c3 next prog' sum' spoiled' done (is_complete c2.phase) voting sent got sent' got' push all adv grown (sym c.votes_now-voting.ensures) takes;
-      leaves = advanced_leaves R g.row.CAP run c0 c1 c2 c3 next prog' sum' spoiled' done (is_complete c2.phase) voting sent got sent' got' push all adv grown (sym c.votes_now-voting.ensures) takes c.advance-progress.ensures.fits c.take_all-run.ensures.takes.fewer c.take_all-run.ensures.takes.emissions c.push_all-run.ensures;
+      leaves = advanced_leaves R g.row.CAP run c0 c1 c2 c3 next prog' sum' spoiled' done (is_complete c2.phase) voting sent got sent' got' push all adv grown (sym c.votes_now-voting.ensures) takes c.advance-progress.ensures.advances.fits c.take_all-run.ensures.takes.fewer c.take_all-run.ensures.takes.emissions c.push_all-run.ensures;
       cycle = λ quota n i. tt;
       onward = tt;
-      same_port = c.advance-progress.ensures.stays.same_port;
+      same_port = c.advance-progress.ensures.advances.stays.same_port;
     }
 
 pub returns-clause-turns : goal.returns-clause-turns
@@ -144,23 +142,23 @@ returns-clause-turns g c =
     let done = next == c.count_of.result in
     let all : done ≡ (next == length (to_send R run.prog run.sends)) = ap (λ m. next == m) c.count_of.ensures in
     let adv : AfterAdvance c1 c2 done (is_complete c2.phase) sent got sent' got' = record {
-      agrees = c.advance-progress.ensures.stays.agrees;
-      dims = c.advance-progress.ensures.stays.dims;
-      rank = c.advance-progress.ensures.stays.rank;
-      done_is = c.advance-progress.ensures.stays.done;
-      begun = c.advance-progress.ensures.stays.begun;
+      agrees = c.advance-progress.ensures.advances.stays.agrees;
+      dims = c.advance-progress.ensures.advances.stays.dims;
+      rank = c.advance-progress.ensures.advances.stays.rank;
+      done_is = c.advance-progress.ensures.advances.stays.done;
+      begun = c.advance-progress.ensures.advances.stays.begun;
       working = c.in_ok-progress.ensures.settled.working;
-      step = c.advance-progress.ensures.stays.step;
+      step = c.advance-progress.ensures.advances.stays.step;
     } in
     let grown : Grown c1 c2 g.row.CAP sent sent' got got' = record {
-      steady = c.advance-progress.ensures.stays.steady;
-      epoch = c.advance-progress.ensures.stays.epoch;
-      sent_grows = c.advance-progress.ensures.grows.sent_grows;
-      got_grows = c.advance-progress.ensures.grows.got_grows;
-      one_sent = c.advance-progress.ensures.grows.one_sent;
-      one_got = c.advance-progress.ensures.grows.one_got;
-      shape = c.advance-progress.ensures.grows.shape;
-      lies = c.advance-progress.ensures.asked.lies;
+      steady = c.advance-progress.ensures.advances.stays.steady;
+      epoch = c.advance-progress.ensures.advances.stays.epoch;
+      sent_grows = c.advance-progress.ensures.advances.grows.sent_grows;
+      got_grows = c.advance-progress.ensures.advances.grows.got_grows;
+      one_sent = c.advance-progress.ensures.advances.grows.one_sent;
+      one_got = c.advance-progress.ensures.advances.grows.one_got;
+      shape = c.advance-progress.ensures.advances.grows.shape;
+      lies = c.advance-progress.ensures.advances.asked.lies;
     } in
     let takes : AfterTakes R voting c2 c3 run.prog prog' run.sum sum' run.spoiled spoiled' sent' got' = record {
       same = c.take_all-run.ensures.takes.same;
@@ -171,10 +169,10 @@ returns-clause-turns g c =
     } in
     record {
       moves = advanced_moves R g.row.CAP run c0 c1 c2 c3 next prog' sum' spoiled' done (is_complete c2.phase) voting sent got sent' got' push all adv grown (sym c.votes_now-voting.ensures) takes;
-      leaves = advanced_leaves R g.row.CAP run c0 c1 c2 c3 next prog' sum' spoiled' done (is_complete c2.phase) voting sent got sent' got' push all adv grown (sym c.votes_now-voting.ensures) takes c.advance-progress.ensures.fits c.take_all-run.ensures.takes.fewer c.take_all-run.ensures.takes.emissions c.push_all-run.ensures;
+      leaves = advanced_leaves R g.row.CAP run c0 c1 c2 c3 next prog' sum' spoiled' done (is_complete c2.phase) voting sent got sent' got' push all adv grown (sym c.votes_now-voting.ensures) takes c.advance-progress.ensures.advances.fits c.take_all-run.ensures.takes.fewer c.take_all-run.ensures.takes.emissions c.push_all-run.ensures;
       cycle = λ quota n i. tt;
       onward = tt;
-      same_port = c.advance-progress.ensures.stays.same_port;
+      same_port = c.advance-progress.ensures.advances.stays.same_port;
     }
 
 pub returns-clause-in_full : goal.returns-clause-in_full
@@ -184,10 +182,10 @@ returns-clause-in_full g c = record {
       let c1 = c.push_all-run.new.conveyor in
       let c2 = c.advance-progress.new.self in
       let c3 = c.take_all-run.new.conveyor in
-      let dims : c3.dims ≡ c1.dims = ap (λ (s : State). s.dims) c.take_all-run.ensures.takes.same ∙ c.advance-progress.ensures.stays.dims in
-      let rank : c3.rank ≡ c1.rank = ap (λ (s : State). s.rank) c.take_all-run.ensures.takes.same ∙ c.advance-progress.ensures.stays.rank in
+      let dims : c3.dims ≡ c1.dims = ap (λ (s : State). s.dims) c.take_all-run.ensures.takes.same ∙ c.advance-progress.ensures.advances.stays.dims in
+      let rank : c3.rank ≡ c1.rank = ap (λ (s : State). s.rank) c.take_all-run.ensures.takes.same ∙ c.advance-progress.ensures.advances.stays.rank in
       let still : is_due c2.cap c2.steady false (out_of c2 l) ≡ true = subst (λ (s : State). is_due s.cap s.steady false (out_of s l) ≡ true) c.take_all-run.ensures.takes.same due in
-      let served = c.in_ok-progress.ensures.served.each l (subst (λ (d : List ℕ). l < links d) dims below) (subst (λ (d : List ℕ). sender_at d l ≡ c1.rank) dims (own ∙ rank)) in
+      let served = c.in_ok-progress.ensures.in_full.served.each l (subst (λ (d : List ℕ). l < links d) dims below) (subst (λ (d : List ℕ). sender_at d l ≡ c1.rank) dims (own ∙ rank)) in
       served.crowded (due_at_end c2.cap c2.steady (at_end c2.dims c2.ins c2.done (hop_at c2.dims l)) (out_of c2 l) still);
   waits = λ h is sent_same got_same.
       let R = g.Q.Program.rules in
@@ -216,23 +214,23 @@ returns-clause-in_full g c = record {
       let done = next == c.count_of.result in
       let all : done ≡ (next == length (to_send R run.prog run.sends)) = ap (λ m. next == m) c.count_of.ensures in
       let adv : AfterAdvance c1 c2 done (is_complete c2.phase) sent got sent' got' = record {
-        agrees = c.advance-progress.ensures.stays.agrees;
-        dims = c.advance-progress.ensures.stays.dims;
-        rank = c.advance-progress.ensures.stays.rank;
-        done_is = c.advance-progress.ensures.stays.done;
-        begun = c.advance-progress.ensures.stays.begun;
+        agrees = c.advance-progress.ensures.advances.stays.agrees;
+        dims = c.advance-progress.ensures.advances.stays.dims;
+        rank = c.advance-progress.ensures.advances.stays.rank;
+        done_is = c.advance-progress.ensures.advances.stays.done;
+        begun = c.advance-progress.ensures.advances.stays.begun;
         working = c.in_ok-progress.ensures.settled.working;
-        step = c.advance-progress.ensures.stays.step;
+        step = c.advance-progress.ensures.advances.stays.step;
       } in
       let grown : Grown c1 c2 g.row.CAP sent sent' got got' = record {
-        steady = c.advance-progress.ensures.stays.steady;
-        epoch = c.advance-progress.ensures.stays.epoch;
-        sent_grows = c.advance-progress.ensures.grows.sent_grows;
-        got_grows = c.advance-progress.ensures.grows.got_grows;
-        one_sent = c.advance-progress.ensures.grows.one_sent;
-        one_got = c.advance-progress.ensures.grows.one_got;
-        shape = c.advance-progress.ensures.grows.shape;
-        lies = c.advance-progress.ensures.asked.lies;
+        steady = c.advance-progress.ensures.advances.stays.steady;
+        epoch = c.advance-progress.ensures.advances.stays.epoch;
+        sent_grows = c.advance-progress.ensures.advances.grows.sent_grows;
+        got_grows = c.advance-progress.ensures.advances.grows.got_grows;
+        one_sent = c.advance-progress.ensures.advances.grows.one_sent;
+        one_got = c.advance-progress.ensures.advances.grows.one_got;
+        shape = c.advance-progress.ensures.advances.grows.shape;
+        lies = c.advance-progress.ensures.advances.asked.lies;
       } in
       let takes : AfterTakes R voting c2 c3 run.prog prog' run.sum sum' run.spoiled spoiled' sent' got' = record {
         same = c.take_all-run.ensures.takes.same;
@@ -242,12 +240,12 @@ returns-clause-in_full g c = record {
         taken = λ h rank round next sends v a. c.take_all-run.ensures.takes.taken h rank round next sends sent' got' v a;
       } in
       let advanced : Advanced c1 c2 g.row.CAP sent sent' got got' (is_crowded (g.P.Port.view c.advance-progress.new.port)) (is_idle (g.P.Port.view c.advance-progress.new.port)) = record {
-        epoch = c.advance-progress.ensures.stays.epoch;
-        full = c.in_ok-progress.ensures.served.full;
-        idles = c.advance-progress.ensures.asked.idle;
-        lies = c.advance-progress.ensures.asked.lies;
-        closing = c.in_ok-progress.ensures.served.closing;
-        stopped = c.in_ok-progress.ensures.served.stopped;
+        epoch = c.advance-progress.ensures.advances.stays.epoch;
+        full = c.in_ok-progress.ensures.in_full.served.full;
+        idles = c.advance-progress.ensures.advances.asked.idle;
+        lies = c.advance-progress.ensures.advances.asked.lies;
+        closing = c.in_ok-progress.ensures.in_full.served.closing;
+        stopped = c.in_ok-progress.ensures.in_full.served.stopped;
         completes = λ over. complete_from c2.phase (sym c.in_ok-progress.ensures.settled.is ∙ c.in_ok-progress.ensures.settled.completes over);
       } in
       stuck R h run c0 c1 c2 c3 next g.row.CAP done (is_complete c2.phase) voting prog' sum' spoiled' sent got sent' got' (is_crowded (g.P.Port.view c.advance-progress.new.port)) (is_idle (g.P.Port.view c.advance-progress.new.port))

@@ -21,7 +21,7 @@ returns-in_err-_made-clause-polls g c =
     let run : Running g.row.Q.Denot = running c.args.run.now in
     let x0 = c.args.exstack.now in
     let x2 = c.poll_exchange-polled.new.self in
-    let e = c.poll_exchange-polled.ensures in
+    let e = c.poll_exchange-polled.ensures.polls in
     let p : AfterExchange g.row.CAP x0 x2 sent got sent' got' = record {
       standing = c.known.ensures.standing;
       agrees = e.agrees;
@@ -62,7 +62,7 @@ returns-clause-polls g c =
     let run : Running g.row.Q.Denot = running c.args.run.now in
     let x0 = c.args.exstack.now in
     let x2 = c.poll_exchange-polled.new.self in
-    let e = c.poll_exchange-polled.ensures in
+    let e = c.poll_exchange-polled.ensures.polls in
     let p : AfterExchange g.row.CAP x0 x2 sent got sent' got' = record {
       standing = c.known.ensures.standing;
       agrees = e.agrees;
@@ -99,7 +99,7 @@ returns-in_err-_made-clause-cycle g c = λ quota n i.
     let got = (g.P.Port.view c.args.port.now).got in
     let sent' = (g.P.Port.view c.poll_exchange-polled.new.port).sent in
     let got' = (g.P.Port.view c.poll_exchange-polled.new.port).got in
-    let e = c.poll_exchange-polled.ensures in
+    let e = c.poll_exchange-polled.ensures.polls in
     let p : Exchanges c.args.exstack.now c.poll_exchange-polled.new.self sent got sent' got' = record { same = e.same; made = e.round; agrees = e.cycle; exchanged = ap has_exchanged (c.in_err-_made.ensures.no_memory refl) } in
     exchanges_keep g.Q.Program.rules (running c.args.run.now) c.args.exstack.now c.poll_exchange-polled.new.self sent got sent' got' p quota n i
 
@@ -109,7 +109,7 @@ returns-clause-cycle g c = λ quota n i.
     let got = (g.P.Port.view c.args.port.now).got in
     let sent' = (g.P.Port.view c.poll_exchange-polled.new.port).sent in
     let got' = (g.P.Port.view c.poll_exchange-polled.new.port).got in
-    let e = c.poll_exchange-polled.ensures in
+    let e = c.poll_exchange-polled.ensures.polls in
     let p : Exchanges c.args.exstack.now c.poll_exchange-polled.new.self sent got sent' got' = record { same = e.same; made = e.round; agrees = e.cycle; exchanged = ap has_exchanged (c.in_ok-_made.ensures.stage) ∙ exchanged_stage _ } in
     exchanges_keep g.Q.Program.rules (running c.args.run.now) c.args.exstack.now c.poll_exchange-polled.new.self sent got sent' got' p quota n i
 

@@ -29,23 +29,17 @@ poll_proceed-polled-requires g c =
     let i = c.requires.turns.node in
     let a = i.moving.agrees in (
       search rules,
-      (
-        ap (λ (t : Stack). may_proceed t.stage) pops.same ∙ c.requires.may,
-        (
-          record {
+      record {
+        may = ap (λ (t : Stack). may_proceed t.stage) pops.same ∙ c.requires.may;
+        at_port = record {
             same_dims = c.requires.turns.same_dims ∙ sym (ap (λ (t : Stack). stack_dims t) pops.same);
             same_rank = c.requires.turns.same_rank ∙ sym (ap (λ (t : Stack). t.rank) pops.same);
             agrees = record { cycle = a.cycle; agrees = pops.kept a.cycle sent got a.agrees };
-          },
-          (
-            c.pop_all-run.ensures.read,
-            (
-              λ d. done_keeps R (c.requires.turns.first) run g.row.CAP x0 x1 prog' sum' spoiled' voting done sent got pops all i d,
-              λ q. same_done R (c.requires.turns.first) run g.row.CAP x0 x1 prog' sum' spoiled' voting done sent got pops all i q,
-            ),
-          ),
-        ),
-      ),
+          };
+        read = c.pop_all-run.ensures.read;
+        done_stays = λ d. done_keeps R (c.requires.turns.first) run g.row.CAP x0 x1 prog' sum' spoiled' voting done sent got pops all i d;
+        same_done = λ q. same_done R (c.requires.turns.first) run g.row.CAP x0 x1 prog' sum' spoiled' voting done sent got pops all i q;
+      },
     )
 
 pub returns-in_err-polled-clause-polls : goal.returns-in_err-polled-clause-polls
@@ -65,7 +59,7 @@ returns-in_err-polled-clause-polls g c =
     let voting = c.votes_now-voting.result in
     let done = run.next == c.count_of.result in
     let pops = c.pop_all-run.ensures.pops in
-    let e = c.poll_proceed-polled.ensures in
+    let e = c.poll_proceed-polled.ensures.polls in
     let all : done ≡ (run.next == length (to_send R prog' run.sends)) = ap (λ m. run.next == m) c.count_of.ensures in
     let p : AfterProceed g.row.CAP x1 x2 done sent got sent' got' = record {
       standing = c.known.ensures.standing;
@@ -115,7 +109,7 @@ returns-in-GoOn-clause-polls g c =
     let voting = c.votes_now-voting.result in
     let done = run.next == c.count_of.result in
     let pops = c.pop_all-run.ensures.pops in
-    let e = c.poll_proceed-polled.ensures in
+    let e = c.poll_proceed-polled.ensures.polls in
     let all : done ≡ (run.next == length (to_send R prog' run.sends)) = ap (λ m. run.next == m) c.count_of.ensures in
     let p : AfterProceed g.row.CAP x1 x2 done sent got sent' got' = record {
       standing = c.known.ensures.standing;
@@ -165,7 +159,7 @@ returns-in-AllDone-clause-polls g c =
     let voting = c.votes_now-voting.result in
     let done = run.next == c.count_of.result in
     let pops = c.pop_all-run.ensures.pops in
-    let e = c.poll_proceed-polled.ensures in
+    let e = c.poll_proceed-polled.ensures.polls in
     let all : done ≡ (run.next == length (to_send R prog' run.sends)) = ap (λ m. run.next == m) c.count_of.ensures in
     let p : AfterProceed g.row.CAP x1 x2 done sent got sent' got' = record {
       standing = c.known.ensures.standing;
@@ -225,7 +219,7 @@ returns-in_err-polled-clause-cycle g c = λ quota n i.
     let x2 = c.poll_proceed-polled.new.self in
     let taken = c.pop_all-run.result in
     let done = run.next == c.count_of.result in
-    let e = c.poll_proceed-polled.ensures in
+    let e = c.poll_proceed-polled.ensures.polls in
     let all : done ≡ (run.next == length (to_send R c.pop_all-run.new.prog.value run.sends)) = ap (λ m. run.next == m) c.count_of.ensures in
     let p = proceeds_of R (c.requires.turns.first) run g.row.CAP x0 x1 x2 c.pop_all-run.new.prog.value taken.sum taken.spoiled c.votes_now-voting.result done sent got sent' got'
     c.pop_all-run.ensures.pops all c.requires.turns.node c.known.ensures.standing c.requires.may e.same e.round e.cycle (ap has_proceeded (c.in_err-polled.ensures.no_memory refl)) (λ f. absurd (proceeding_apart x2.stage (c.in_err-polled.ensures.no_memory refl) f)) in
@@ -244,7 +238,7 @@ returns-in-GoOn-clause-cycle g c = λ quota n i.
     let x2 = c.poll_proceed-polled.new.self in
     let taken = c.pop_all-run.result in
     let done = run.next == c.count_of.result in
-    let e = c.poll_proceed-polled.ensures in
+    let e = c.poll_proceed-polled.ensures.polls in
     let all : done ≡ (run.next == length (to_send R c.pop_all-run.new.prog.value run.sends)) = ap (λ m. run.next == m) c.count_of.ensures in
     let p = proceeds_of R (c.requires.turns.first) run g.row.CAP x0 x1 x2 c.pop_all-run.new.prog.value taken.sum taken.spoiled c.votes_now-voting.result done sent got sent' got'
     c.pop_all-run.ensures.pops all c.requires.turns.node c.known.ensures.standing c.requires.may e.same e.round e.cycle (ap has_proceeded (c.in_ok-polled.ensures.stage) ∙ proceeded_stage _) (λ f. filling_open _ _ _ c.in_ok-polled.ensures.answer (sym (c.in_ok-polled.ensures.stage) ∙ f)) in
@@ -263,7 +257,7 @@ returns-in-AllDone-clause-cycle g c = λ quota n i.
     let x2 = c.poll_proceed-polled.new.self in
     let taken = c.pop_all-run.result in
     let done = run.next == c.count_of.result in
-    let e = c.poll_proceed-polled.ensures in
+    let e = c.poll_proceed-polled.ensures.polls in
     let all : done ≡ (run.next == length (to_send R c.pop_all-run.new.prog.value run.sends)) = ap (λ m. run.next == m) c.count_of.ensures in
     let p = proceeds_of R (c.requires.turns.first) run g.row.CAP x0 x1 x2 c.pop_all-run.new.prog.value taken.sum taken.spoiled c.votes_now-voting.result done sent got sent' got'
     c.pop_all-run.ensures.pops all c.requires.turns.node c.known.ensures.standing c.requires.may e.same e.round e.cycle (ap has_proceeded (c.in_ok-polled.ensures.stage) ∙ proceeded_stage _) (λ f. filling_open _ _ _ c.in_ok-polled.ensures.answer (sym (c.in_ok-polled.ensures.stage) ∙ f)) in

@@ -134,8 +134,8 @@ pub record MayAdvance (told : Bool) (st : State) (port : PortView) : Type 0 wher
 -- complete: in the phase Complete nothing changes but the right to unpull.
 -- grows: the lists only grow.
 -- asked: what the collects answered.
--- waits: where nothing was sent on a link out, its open parcel begins with what it held.
--- held: an entry is left in an inbox below the last hop only where the open parcel that it goes to
+-- waits: if nothing was sent on a link out, its open parcel begins with what it held.
+-- held: an entry is left in an inbox below the last hop only if the open parcel that it goes to
 -- was full.
 pub record Advances (cap : ℕ) (told : Bool) (old new : State) (port port' : PortView) : Type 0 where
   pub stays : StaysAtPort told old new port port'

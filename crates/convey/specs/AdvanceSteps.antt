@@ -148,7 +148,7 @@ pub record MayMoveOn (hops : ℕ) (told : Bool) (st : State) (port : PortView) :
   pub ready : IsReady port.dims port.rank st port.sent port.got
 
 -- What it makes of the rank and of the port, whatever it answers.
--- held: an entry is left in an inbox below the last hop only where the open parcel that it goes to
+-- held: an entry is left in an inbox below the last hop only if the open parcel that it goes to
 -- was full.
 -- complete: a rank that is complete has nothing left to move.
 pub record MovesAtPort (hops cap : ℕ) (told : Bool) (old new : State) (port port' : PortView) : Type 0 where
@@ -163,12 +163,12 @@ pub record MovesAtPort (hops cap : ℕ) (told : Bool) (old new : State) (port po
   pub standing : IsState old
   pub same_port : SamePort port port'
 
--- And where it had memory: what the posts answered, and which calls were made on the port.
+-- And if it had memory: what the posts answered, and which calls were made on the port.
 pub record MovesInFull (old new : State) (port port' : PortView) : Type 0 where
   pub served : HasServed old new port.sent port'.sent port.looks_out port'.looks_out (is_crowded port')
   pub calls : port'.calls ≡ (port.calls ++ collects_of old) ++ posts_below new port.sent port'.sent (links new.dims)
 
--- And where a post had none: the rank isn't complete, and the calls end at that post.
+-- And if a post had none: the rank isn't complete, and the calls end at that post.
 pub record MoveStops (old new : State) (port port' : PortView) : Type 0 where
   pub incomplete : is_complete old.phase ≡ false
   pub forgotten : new.pulled ≡ None

@@ -8,7 +8,7 @@ use Rattle.list_laws.proofs.Lists.{find}
 use Rattle.route_tensor.specs.Grid.{ranks, IsGrid}
 use Rattle.route_tensor.specs.Link.{links}
 use Rattle.route_tensor.specs.Ends.{sender_at, reader_at}
-use Rattle.port_bank.specs.declared.port.Port.{Ghosts}
+use Rattle.port_bank.specs.Port.{PortView}
 use Rattle.port_bank.specs.Logs.{Logs}
 use Rattle.port_bank.specs.Shapes.{IsConveyorShape}
 use Rattle.hop_core.specs.declared.phase.Phase.{Phase}
@@ -67,9 +67,9 @@ once ends c c1 log log' same one l b e =
     one l (subst (λ ds. l < links ds) (sym d) b) (subst (λ (ds : List ℕ). ends ds l ≡ c1.rank) (sym d) (e ∙ sym r))
 
 -- one way of a turn: pushes, an advance and pulls
-pub advances_once : {P : Type 0} {cap : ℕ} {M : Type 0} (G : Ghosts P cap M) (told : Bool) (c c1 c2 c3 : State) (port port' : P) → c1 ≡ record c { outs = c1.outs; pulled = c1.pulled }
-    → StaysAtPort G told c1 c2 port port' → ListsGrow G c1 port port' → WereAsked G c1 c2 port port' → c3 ≡ record c2 { ins = c3.ins; pulled = c3.pulled } → NoMore c2 c3 → AdvancesOnce G c c3 port port'
-advances_once {P} {cap} G told c c1 c2 c3 port port' same stays grows asked took fewer =
+pub advances_once : (cap : ℕ) (told : Bool) (c c1 c2 c3 : State) (port port' : PortView) → c1 ≡ record c { outs = c1.outs; pulled = c1.pulled }
+    → StaysAtPort told c1 c2 port port' → ListsGrow cap c1 port port' → WereAsked c1 c2 port port' → c3 ≡ record c2 { ins = c3.ins; pulled = c3.pulled } → NoMore c2 c3 → AdvancesOnce cap c c3 port port'
+advances_once cap told c c1 c2 c3 port port' same stays grows asked took fewer =
     let steady : c1.steady ≡ c.steady = ap (λ (t : State). t.steady) same in
     record {
       steady = ap (λ (t : State). t.steady) took ∙ (stays.steady ∙ steady);
@@ -77,12 +77,12 @@ advances_once {P} {cap} G told c c1 c2 c3 port port' same stays grows asked took
       grows = record {
         sent_grows = grows.sent_grows;
         got_grows = grows.got_grows;
-        one_sent = once sender_at c c1 (G.sent port) (G.sent port') same grows.one_sent;
-        one_got = once reader_at c c1 (G.got port) (G.got port') same grows.one_got;
+        one_sent = once sender_at c c1 port.sent port'.sent same grows.one_sent;
+        one_got = once reader_at c c1 port.got port'.got same grows.one_got;
         fills = λ l more grew. subst (λ b. IsConveyorShape b cap more) steady (grows.fills l more grew);
-        shape = λ l was. subst (λ b. IsConveyorShape b cap (G.sent port' l)) steady (grows.shape l (subst (λ b. IsConveyorShape b cap (G.sent port l)) (sym steady) was));
+        shape = λ l was. subst (λ b. IsConveyorShape b cap (port'.sent l)) steady (grows.shape l (subst (λ b. IsConveyorShape b cap (port.sent l)) (sym steady) was));
       };
-      lie = lies_left c c1 c2 c3 (G.got port) (G.got port') same fewer asked.lies;
+      lie = lies_left c c1 c2 c3 port.got port'.got same fewer asked.lies;
     }
 
 -- done asking, or a push was refused

@@ -2,7 +2,7 @@
 use Rattle.std.specs.Prelude.{◌≡◌, ◌⊎◌, ℕ, ◌<◌, List}
 use Rattle.route_tensor.specs.Grid.{ranks}
 use Rattle.list_laws.specs.Lists.{IsPrefix}
-use Rattle.port_bank.specs.declared.port.Port.{Ghosts}
+use Rattle.port_bank.specs.Port.{PortView}
 use Rattle.round_program.specs.Talks.{Talk}
 use Rattle.round_program.specs.Replies.{replies_of}
 use Rattle.query_node.specs.Banks.{IsLawfulBank, got_from}
@@ -10,14 +10,13 @@ use Rattle.query_node.specs.States.{BiState, Sides, IsBiNode}
 use Rattle.query_node.specs.Ranks.{sides_at}
 
 -- The logs of a port of queries and of a port of replies.
-abbrev pub sides_of_ports : {P Q : Type 0} {cap : ℕ} {M N : Type 0} → Ghosts P cap M
-    → Ghosts Q cap N → P → Q → Sides
-sides_of_ports G H queries replies =
+abbrev pub sides_of_ports : PortView → PortView → Sides
+sides_of_ports queries replies =
     record {
-      asking = G.sent queries;
-      asked = G.got queries;
-      replying = H.sent replies;
-      replied = H.got replies;
+      asking = queries.sent;
+      asked = queries.got;
+      replying = replies.sent;
+      replied = replies.got;
     }
 
 -- Each log is a prefix of the later one.

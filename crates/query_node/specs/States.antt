@@ -5,7 +5,7 @@ use Rattle.item_buffer.specs.Contents.{Shipped}
 use Rattle.route_tensor.specs.Grid.{ranks}
 use Rattle.route_tensor.specs.Link.{links}
 use Rattle.route_tensor.specs.Ends.{reader_at}
-use Rattle.port_bank.specs.declared.port.Port.{Ghosts}
+use Rattle.port_bank.specs.Port.{PortView}
 use Rattle.port_bank.specs.Frames.{SamePort}
 use Rattle.port_bank.specs.Logs.{Logs}
 use Rattle.hop_core.specs.declared.phase.Phase.TheVariants.{Dormant, Working, Complete}
@@ -83,20 +83,20 @@ pub record IsBiNode {S : Type 0} (T : Talk S) (start : S) (n : BiState S)
   pub read : AllRead n.replies
 
 -- A port has a conveyor's grid and rank.
-pub record IsPortOf {P : Type 0} {cap : ℕ} {M : Type 0} (G : Ghosts P cap M) (c : State) (port : P) : Type 0 where
-  pub same_dims : G.dims port ≡ c.dims
-  pub same_rank : G.rank port ≡ c.rank
+pub record IsPortOf (c : State) (port : PortView) : Type 0 where
+  pub same_dims : port.dims ≡ c.dims
+  pub same_rank : port.rank ≡ c.rank
 
 -- What a turn does in one direction, for queries or for replies: it advances once.
 -- grows: its logs only grow, each by one parcel at most, with parcels of the conveyor's shape.
 -- lie: an inbox holds at most what it held and what came in.
-pub record AdvancesOnce {P : Type 0} {cap : ℕ} {M : Type 0} (G : Ghosts P cap M) (c c' : State)
-    (port port' : P) : Type 0 where
+pub record AdvancesOnce (cap : ℕ) (c c' : State)
+    (port port' : PortView) : Type 0 where
   pub steady : c'.steady ≡ c.steady
-  pub same_port : SamePort G port port'
-  pub grows : ListsGrow G c port port'
+  pub same_port : SamePort port port'
+  pub grows : ListsGrow cap c port port'
   pub lie : (l : ℕ) (more : List Shipped) → l < links c.dims → reader_at c.dims l ≡ c.rank
-      → G.got port' l ≡ G.got port l ++ more
+      → port'.got l ≡ port.got l ++ more
       → length (in_of c' l).parcel.untaken ≤ length (in_of c l).parcel.untaken + length (flat_map (λ p. p.entries) more)
 
 -- The queries of a turn that takes a rank from n to n': it pushes those from number n.next on, up

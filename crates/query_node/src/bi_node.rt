@@ -9,6 +9,7 @@ ghost use Rattle.query_node.specs.Banks.{IsOwnSide};
 ghost use Rattle.query_node.specs.Moments.{IsMoment, sides_of_ports};
 ghost use Rattle.query_node.specs.Still.{IsStuckBoth};
 ghost use Rattle.rank_node.specs.Fits.{FitsGrid};
+ghost use Rattle.port_bank.specs.Port.{is_crowded, is_idle};
 
 use crate::answering::{answer_open, is_over};
 use crate::asking::push_queries;
@@ -93,31 +94,31 @@ impl<A: Asker, const CAP: usize, const HOPS: usize> BiNode<A, CAP, HOPS> {
         replies: &mut R,
         steps: &mut Steps<L>,
     ) -> Result<Turn, NoMemory>
-        requires queries { IsPortOf P.Port self.old.queries queries.old }
-        requires replies { IsPortOf R.Port self.old.replies replies.old }
-        requires node { (start : A) × IsBiNode A.talk start self.old (P.sent queries.old) (P.got queries.old)
-            (R.sent replies.old) (R.got replies.old) }
-        ensures kept { (start : A) → IsBiNode A.talk start self.old (P.sent queries.old) (P.got queries.old)
-            (R.sent replies.old) (R.got replies.old)
-            → IsBiNode A.talk start self.new (P.sent queries.new) (P.got queries.new) (R.sent replies.new)
-            (R.got replies.new) }
+        requires queries { IsPortOf self.old.queries (P.view queries.old) }
+        requires replies { IsPortOf self.old.replies (R.view replies.old) }
+        requires node { (start : A) × IsBiNode A.talk start self.old (P.view queries.old).sent (P.view queries.old).got
+            (R.view replies.old).sent (R.view replies.old).got }
+        ensures kept { (start : A) → IsBiNode A.talk start self.old (P.view queries.old).sent (P.view queries.old).got
+            (R.view replies.old).sent (R.view replies.old).got
+            → IsBiNode A.talk start self.new (P.view queries.new).sent (P.view queries.new).got (R.view replies.new).sent
+            (R.view replies.new).got }
         ensures steps { steps.new ≡ steps.old + 1 }
 
         // Between its two advances, when the queries' port is as the turn leaves it and the
         // replies' port as the turn found it, the rank is one that is between two turns: so
         // what holds of those moments holds of this one.
-        ensures between { (mid : BiState A) × ((start : A) → IsBiNode A.talk start self.old (P.sent queries.old)
-            (P.got queries.old) (R.sent replies.old) (R.got replies.old)
-            → IsBiNode A.talk start mid (P.sent queries.new) (P.got queries.new) (R.sent replies.old)
-            (R.got replies.old)) }
+        ensures between { (mid : BiState A) × ((start : A) → IsBiNode A.talk start self.old (P.view queries.old).sent
+            (P.view queries.old).got (R.view replies.old).sent (R.view replies.old).got
+            → IsBiNode A.talk start mid (P.view queries.new).sent (P.view queries.new).got (R.view replies.old).sent
+            (R.view replies.old).got) }
 
         // After each post and each collect: by its own lists at any moment of the turn, the rank
         // has sent its queries in order, and its answers, in order, to queries that it has got.
         ensures moments { (start : A) (now : Sides)
-            → IsBiNode A.talk start self.old (P.sent queries.old) (P.got queries.old)
-            (R.sent replies.old) (R.got replies.old)
-            → IsMoment (sides_of_ports P.Port R.Port queries.old replies.old)
-            (sides_of_ports P.Port R.Port queries.new replies.new) now
+            → IsBiNode A.talk start self.old (P.view queries.old).sent (P.view queries.old).got
+            (R.view replies.old).sent (R.view replies.old).got
+            → IsMoment (sides_of_ports (P.view queries.old) (R.view replies.old))
+            (sides_of_ports (P.view queries.new) (R.view replies.new)) now
             → IsOwnSide A.talk self.old.queries.dims (λ r. start) self.old.queries.rank
             now.asking now.replying now.asked }
         ensures memory { P.Memory.GROWS ≡ false → R.Memory.GROWS ≡ false → IsOk result }
@@ -132,8 +133,8 @@ impl<A: Asker, const CAP: usize, const HOPS: usize> BiNode<A, CAP, HOPS> {
         // if its answer was. The rank is done asking if and only if all its queries are pushed,
         // and done replying if and only if the queries are over.
         ensures unasked { HasAsked A.talk CAP self.old self.new }
-        ensures unanswered { HasAnswered A.talk CAP self.old self.new (P.sent queries.old) (P.got queries.old)
-            (P.sent queries.new) (P.got queries.new) }
+        ensures unanswered { HasAnswered A.talk CAP self.old self.new (P.view queries.old).sent (P.view queries.old).got
+            (P.view queries.new).sent (P.view queries.new).got }
         ensures asked_all { self.new.queries.done ≡ (self.new.next == length (asks_of A.talk self.new.asker)) }
         ensures replied_all { self.new.replies.done ≡ is_complete self.new.queries.phase }
 
@@ -142,34 +143,34 @@ impl<A: Asker, const CAP: usize, const HOPS: usize> BiNode<A, CAP, HOPS> {
         ensures rank { self.new.queries.rank ≡ self.old.queries.rank }
 
         // Each way advances once.
-        ensures queries { AdvancesOnce P.Port self.old.queries self.new.queries queries.old queries.new }
-        ensures replies { AdvancesOnce R.Port self.old.replies self.new.replies replies.old replies.new }
+        ensures queries { AdvancesOnce CAP self.old.queries self.new.queries (P.view queries.old) (P.view queries.new) }
+        ensures replies { AdvancesOnce CAP self.old.replies self.new.replies (R.view replies.old) (R.view replies.new) }
 
         // If no parcel was moved on either way, something outside keeps the rank.
-        ensures stuck { OnOk result ((start : A) → IsBiNode A.talk start self.old (P.sent queries.old)
-            (P.got queries.old) (R.sent replies.old) (R.got replies.old)
-            → ((l : ℕ) → P.sent queries.new l ≡ P.sent queries.old l)
-            → ((l : ℕ) → P.got queries.new l ≡ P.got queries.old l)
-            → ((l : ℕ) → R.sent replies.new l ≡ R.sent replies.old l)
-            → ((l : ℕ) → R.got replies.new l ≡ R.got replies.old l)
+        ensures stuck { OnOk result ((start : A) → IsBiNode A.talk start self.old (P.view queries.old).sent
+            (P.view queries.old).got (R.view replies.old).sent (R.view replies.old).got
+            → ((l : ℕ) → (P.view queries.new).sent l ≡ (P.view queries.old).sent l)
+            → ((l : ℕ) → (P.view queries.new).got l ≡ (P.view queries.old).got l)
+            → ((l : ℕ) → (R.view replies.new).sent l ≡ (R.view replies.old).sent l)
+            → ((l : ℕ) → (R.view replies.new).got l ≡ (R.view replies.old).got l)
             → IsStuckBoth self.old self.new
             (record {
-              asking = P.sent queries.old;
-              asked = P.got queries.old;
-              replying = R.sent replies.old;
-              replied = R.got replies.old;
+              asking = (P.view queries.old).sent;
+              asked = (P.view queries.old).got;
+              replying = (R.view replies.old).sent;
+              replied = (R.view replies.old).got;
             })
             (record {
-              asking = P.sent queries.new;
-              asked = P.got queries.new;
-              replying = R.sent replies.new;
-              replied = R.got replies.new;
+              asking = (P.view queries.new).sent;
+              asked = (P.view queries.new).got;
+              replying = (R.view replies.new).sent;
+              replied = (R.view replies.new).got;
             })
             (record {
-              crowded = P.crowded queries.new;
-              idle = P.idle queries.new;
-              replies_crowded = R.crowded replies.new;
-              replies_idle = R.idle replies.new;
+              crowded = is_crowded (P.view queries.new);
+              idle = is_idle (P.view queries.new);
+              replies_crowded = is_crowded (R.view replies.new);
+              replies_idle = is_idle (R.view replies.new);
             })) }
     {
         steps.tick();

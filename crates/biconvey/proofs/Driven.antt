@@ -70,27 +70,27 @@ module _ {S : Type 0} (T : Talk S) (laws : TalkLaws T) (law : ClosesLaw) (dims :
               let one : one_if (list_all is_over ns') ≡ 1 = ap one_if (all_from ns' (ended light)) in
               omega (arith, none, one, g)
         ] where
-          rested : all_moves dims ns' s' ≤ all_moves dims ns s → (r : ℕ) → r < ranks dims → IsBlockedBiRank T dims slots r (nth T laws law dims cap slots steady starts ns' s' v.world r) s'
+          rested : all_moves dims ns' s' ≤ all_moves dims ns s → (r : ℕ) → r < ranks dims → IsBlockedBiRank T dims slots r (nth T laws law dims cap slots steady starts ns' s' v.on_bank r) s'
           rested light r b =
               let place = is.each r b in
-              v.rests light place.0 r (within order place.0 r place.1) place.1 (nth T laws law dims cap slots steady starts ns' s' v.world r) (at T laws law dims cap slots steady starts ns' s' v.world r b)
+              v.rests light place.0 r (within order place.0 r place.1) place.1 (nth T laws law dims cap slots steady starts ns' s' v.on_bank r) (at T laws law dims cap slots steady starts ns' s' v.on_bank r b)
 
-          over : all_moves dims ns' s' ≤ all_moves dims ns s → AllComplete dims (nth T laws law dims cap slots steady starts ns' s' v.world)
+          over : all_moves dims ns' s' ≤ all_moves dims ns s → AllComplete dims (nth T laws law dims cap slots steady starts ns' s' v.on_bank)
           over light =
-              all_complete T rest dims cap slots v.world.some (nth T laws law dims cap slots steady starts ns' s' v.world) s' v.world.queries.lawful.grid v.world.queries.lawful.links_keep v.world.replies.lawful.links_keep
-              (λ r b. (v.world.each r (nth T laws law dims cap slots steady starts ns' s' v.world r) (at T laws law dims cap slots steady starts ns' s' v.world r b)).same_dims)
-              (λ r b. (v.world.each r (nth T laws law dims cap slots steady starts ns' s' v.world r) (at T laws law dims cap slots steady starts ns' s' v.world r b)).same_rank) (rested light)
+              all_complete T rest dims cap slots v.on_bank.some (nth T laws law dims cap slots steady starts ns' s' v.on_bank) s' v.on_bank.queries.lawful.grid v.on_bank.queries.lawful.links_keep v.on_bank.replies.lawful.links_keep
+              (λ r b. (v.on_bank.each r (nth T laws law dims cap slots steady starts ns' s' v.on_bank r) (at T laws law dims cap slots steady starts ns' s' v.on_bank r b)).same_dims)
+              (λ r b. (v.on_bank.each r (nth T laws law dims cap slots steady starts ns' s' v.on_bank r) (at T laws law dims cap slots steady starts ns' s' v.on_bank r b)).same_rank) (rested light)
 
           ended : all_moves dims ns' s' ≤ all_moves dims ns s → (r : ℕ) (n : BiState S) → slice_get ns' r ≡ Some n → is_over n ≡ true
           ended light r n from =
-              let b : r < ranks dims = let l = size T laws law dims cap slots steady starts ns' s' v.world in omega (arith, within ns' r n from, l) in
-              let e : nth T laws law dims cap slots steady starts ns' s' v.world r ≡ n = get_once ns' r (nth T laws law dims cap slots steady starts ns' s' v.world r) n (at T laws law dims cap slots steady starts ns' s' v.world r b) from in
+              let b : r < ranks dims = let l = size T laws law dims cap slots steady starts ns' s' v.on_bank in omega (arith, within ns' r n from, l) in
+              let e : nth T laws law dims cap slots steady starts ns' s' v.on_bank r ≡ n = get_once ns' r (nth T laws law dims cap slots steady starts ns' s' v.on_bank r) n (at T laws law dims cap slots steady starts ns' s' v.on_bank r b) from in
               let o = over light in
-              ap is_over (sym e) ∙ (ap (λ p. is_complete p && is_complete (nth T laws law dims cap slots steady starts ns' s' v.world r).replies.phase) (o.queries r b) ∙ ap is_complete (o.replies r b))
+              ap is_over (sym e) ∙ (ap (λ p. is_complete p && is_complete (nth T laws law dims cap slots steady starts ns' s' v.on_bank r).replies.phase) (o.queries r b) ∙ ap is_complete (o.replies r b))
 
 -- the loop over all sweeps
 pub record Reached {S : Type 0} (T : Talk S) (dims : List ℕ) (cap slots : ℕ) (steady : Bool) (starts : ℕ → S) (steps0 : ℕ) (ns : List (BiState S)) (s : Sides) (steps : ℕ) : Type 0 where
-  pub world : BiRanksOnBanks T dims cap slots steady starts ns s
+  pub on_bank : BiRanksOnBanks T dims cap slots steady starts ns s
   pub count : steps ≤ steps0 + ranks dims * progress dims ns s
 
 pub record Driving {S : Type 0} (T : Talk S) (cap : ℕ) (dims : List ℕ) (slots : ℕ) (ns0 : List (BiState S)) (s0 : Sides) (steps0 : ℕ) (ns : List (BiState S)) (q r : Bank) (steps : ℕ) : Type 0 where
@@ -107,7 +107,7 @@ module _ {S : Type 0} (T : Talk S) (laws : TalkLaws T) (law : ClosesLaw) (rest :
   pub steps_low : (steady : Bool) (starts : ℕ → S) → BiRanksOnBanks T dims cap slots steady starts ns0 s0 → steps ≤ steps0 + bi_turns_of dims (queries_in T ns0)
   steps_low steady starts w0 =
       let x = v.reached steady starts w0 in
-      let a = mul-le-mul_left (ranks dims) (low T laws law dims cap slots steady starts ns0 ns s0 (sides_of q r) w0 x.world) in
+      let a = mul-le-mul_left (ranks dims) (low T laws law dims cap slots steady starts ns0 ns s0 (sides_of q r) w0 x.on_bank) in
       let b = turns_low (ranks dims) (length dims) (links dims) (queries_in T ns0) in
       omega (arith, x.count, a, b)
 
@@ -116,7 +116,7 @@ module _ {S : Type 0} (T : Talk S) (laws : TalkLaws T) (law : ClosesLaw) (rest :
     pub steps_lower : (steady : Bool) (starts : ℕ → S) → BiRanksOnBanks T dims cap slots steady starts ns0 s0 → steps' ≤ steps0 + bi_turns_of dims (queries_in T ns0)
     steps_lower steady starts w0 =
         let x = v.reached steady starts w0 in
-        let few = all_few T laws law dims cap slots steady starts ns (sides_of q r) x.world in
+        let few = all_few T laws law dims cap slots steady starts ns (sides_of q r) x.on_bank in
         let b = counted T laws law dims cap slots steady starts ns0 s0 w0 in
         let none : one_if (list_all is_over ns) ≡ 0 = ap one_if on in
         let c = ap (λ k. 6 * (length dims * k)) b in
@@ -133,19 +133,19 @@ module _ {S : Type 0} (T : Talk S) (laws : TalkLaws T) (law : ClosesLaw) (rest :
         banks = banks;
         reached = λ steady starts w0.
             let x = v.reached steady starts w0 in
-            let y = swept steady starts x.world in
+            let y = swept steady starts x.on_bank in
             let m = mul-le-mul_left (ranks dims) (more T laws law dims cap slots steady starts rest order is ns ns' (sides_of q r) (sides_of q' r') on y) in
             let e = is.size in
-            record { world = y.world; count = omega (arith, x.count, turned, m, e) };
+            record { on_bank = y.on_bank; count = omega (arith, x.count, turned, m, e) };
       }
 
       pub fewer_left : (steady : Bool) (starts : ℕ → S) → BiRanksOnBanks T dims cap slots steady starts ns0 s0 → left T dims ns0 ns' q' r' < left T dims ns0 ns q r
       fewer_left steady starts w0 =
           let x = v.reached steady starts w0 in
-          let y = swept steady starts x.world in
+          let y = swept steady starts x.on_bank in
           let m = more T laws law dims cap slots steady starts rest order is ns ns' (sides_of q r) (sides_of q' r') on y in
-          let l = low T laws law dims cap slots steady starts ns0 ns' s0 (sides_of q' r') w0 y.world in
+          let l = low T laws law dims cap slots steady starts ns0 ns' s0 (sides_of q' r') w0 y.on_bank in
           omega (arith, m, l)
 
 pub driving_none : {S : Type 0} (T : Talk S) (cap : ℕ) (dims : List ℕ) (slots : ℕ) (ns0 : List (BiState S)) (steps0 : ℕ) (q r : Bank) → AreBanks cap dims slots q r → Driving T cap dims slots ns0 (sides_of q r) steps0 ns0 q r steps0
-driving_none T cap dims slots ns0 steps0 q r b = record { banks = b; reached = λ steady starts w. record { world = w; count = omega arith } }
+driving_none T cap dims slots ns0 steps0 q r b = record { banks = b; reached = λ steady starts w. record { on_bank = w; count = omega arith } }

@@ -152,15 +152,15 @@ module _ {S : Type 0} (T : Talk S) (cap : ℕ) (dims : List ℕ) (slots : ℕ) (
       subst (λ (x : Bank). AreBanks cap x.dims x.slots x r) (sym eq) (subst (λ (y : Bank). AreBanks cap dims slots (empty_bank dims slots) y) (sym er)
       (record { queries = is; replies = is; queries_dims = refl; replies_dims = refl; queries_slots = refl; replies_slots = refl }))
 
-  pub world_first : BiRanksOnBanks T q.dims cap q.slots steady begins ns (sides_of q r)
-  world_first =
+  pub on_bank_first : BiRanksOnBanks T q.dims cap q.slots steady begins ns (sides_of q r)
+  on_bank_first =
       subst (λ (x : Bank). BiRanksOnBanks T x.dims cap x.slots steady begins ns (sides_of x r)) (sym eq)
       (subst (λ (y : Bank). BiRanksOnBanks T dims cap slots steady begins ns (sides_of (empty_bank dims slots) y)) (sym er) (begun T cap dims slots steady askers first.0 ns fresh all some is))
 
   pub steps_at : (steps steps' : ℕ) → ((steady : Bool) (starts : ℕ → S) → BiRanksOnBanks T q.dims cap q.slots steady starts ns (sides_of q r) → steps' ≤ steps + bi_turns_of q.dims (queries_in T ns)) → steps' ≤ steps + bi_turns_of dims (sum_by (λ s. length (T.queries s)) askers)
   steps_at steps steps' notified =
       subst (λ ds. steps' ≤ steps + bi_turns_of ds (sum_by (λ s. length (T.queries s)) askers)) (ap (λ (x : Bank). x.dims) eq)
-      (subst (λ k. steps' ≤ steps + bi_turns_of q.dims k) (same_count T dims steady askers ns fresh) (notified steady begins world_first))
+      (subst (λ k. steps' ≤ steps + bi_turns_of q.dims k) (same_count T dims steady askers ns fresh) (notified steady begins on_bank_first))
 
   -- no rank is over as an exchange begins, so each is turned
   none_over : list_all is_over ns ≡ false
@@ -172,8 +172,8 @@ module _ {S : Type 0} (T : Talk S) (cap : ℕ) (dims : List ℕ) (slots : ℕ) (
   pub fewest_at : (steps steps' : ℕ) → (list_all is_over ns ≡ false → steps + ranks q.dims ≤ steps') → steps + ranks dims ≤ steps'
   fewest_at steps steps' notified = subst (λ ds. steps + ranks ds ≤ steps') (ap (λ (x : Bank). x.dims) eq) (notified none_over)
 
-  pub world_last : (ns' : List (BiState S)) (q' r' : Bank) → ((steady : Bool) (starts : ℕ → S) → BiRanksOnBanks T q.dims cap q.slots steady starts ns (sides_of q r) → BiRanksOnBanks T q.dims cap q.slots steady starts ns' (sides_of q' r')) → BiRanksOnBanks T dims cap slots steady begins ns' (sides_of q' r')
-  world_last ns' q' r' notified = subst (λ (x : Bank). BiRanksOnBanks T x.dims cap x.slots steady begins ns' (sides_of q' r')) eq (notified steady begins world_first)
+  pub on_bank_last : (ns' : List (BiState S)) (q' r' : Bank) → ((steady : Bool) (starts : ℕ → S) → BiRanksOnBanks T q.dims cap q.slots steady starts ns (sides_of q r) → BiRanksOnBanks T q.dims cap q.slots steady starts ns' (sides_of q' r')) → BiRanksOnBanks T dims cap slots steady begins ns' (sides_of q' r')
+  on_bank_last ns' q' r' notified = subst (λ (x : Bank). BiRanksOnBanks T x.dims cap x.slots steady begins ns' (sides_of q' r')) eq (notified steady begins on_bank_first)
 
   pub banks_last : (q' r' : Bank) → AreBanks cap q.dims q.slots q' r' → AreBanks cap dims slots q' r'
   banks_last q' r' b = subst (λ (x : Bank). AreBanks cap x.dims x.slots q' r') eq b

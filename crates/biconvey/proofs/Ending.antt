@@ -17,7 +17,7 @@ use Rattle.round_program.specs.Talks.{Talk}
 use Rattle.rank_node.specs.Movers.{AllRead}
 use Rattle.rank_node.specs.Stuck.{IsStill}
 use Rattle.rank_group.specs.Ranks.{crowded_in, idle_in}
-use Rattle.rank_group.proofs.Still.{below, reader, kept_all, all_got, next_busy, busy_of, at_rest}
+use Rattle.rank_group.proofs.Still.{below, reader, kept_all, all_got, next_busy, busy_of, without_latest}
 use Rattle.query_node.specs.States.{BiState, Sides}
 use Rattle.biconvey.specs.ConveyorsOverBank.{conveyor_in}
 use Rattle.biconvey.specs.RanksOverBanks.{IsBlockedBiRank}
@@ -141,7 +141,7 @@ module _ {S : Type 0} (T : Talk S) (law : RestLaw) (dims : List ℕ) (cap slots 
           same_rank = t.rank_after ∙ (t.rank_before ∙ e.has.same_rank);
           first = t.epoch_after ∙ (t.epoch_before ∙ e.has.node.asks.first);
           agrees = t.agrees_after;
-          rest = at_rest dims slots r e.before.queries (ns r).queries s.asking s.asked some e.has.same_dims e.has.same_rank t e.kept_queries
+          rest = without_latest dims slots r e.before.queries (ns r).queries s.asking s.asked some e.has.same_dims e.has.same_rank t e.kept_queries
               (elim e.stuck.asked [
                 | inl done ↦ inl (t.done_after ∙ done)
                 | inr x ↦ inr (busy_of dims slots r e.before.queries (ns r).queries s.asking s.asked some e.has.same_dims e.has.same_rank t e.kept_queries x)
@@ -162,7 +162,7 @@ module _ {S : Type 0} (T : Talk S) (law : RestLaw) (dims : List ℕ) (cap slots 
           same_rank = t.rank_after ∙ (t.rank_before ∙ rank_r r b);
           first = t.epoch_after ∙ (t.epoch_before ∙ e.has.node.replies.first);
           agrees = t.agrees_after;
-          rest = at_rest dims slots r e.before.replies (ns r).replies s.replying s.replied some (dims_r r b) (rank_r r b) t e.kept_replies (inl (t.done_after ∙ e.stuck.done (queries_over r b))) (λ l low to o. t.ins_before l ∙ read_r r b l low to o);
+          rest = without_latest dims slots r e.before.replies (ns r).replies s.replying s.replied some (dims_r r b) (rank_r r b) t e.kept_replies (inl (t.done_after ∙ e.stuck.done (queries_over r b))) (λ l low to o. t.ins_before l ∙ read_r r b l low to o);
           over = t.over;
         },
       ))

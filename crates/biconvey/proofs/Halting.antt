@@ -14,7 +14,7 @@ use Rattle.hop_core.specs.Link.{In, is_wanted}
 use Rattle.hop_core.specs.State.{State}
 use Rattle.convey.specs.Buffers.{out_of, in_of}
 use Rattle.convey.specs.Conveyors.{AgreesWith}
-use Rattle.convey.specs.Due.{Wants, NextIs, next_link}
+use Rattle.convey.specs.Due.{WantsParcel, NextIs, next_link}
 use Rattle.convey.specs.Rest.{IsBusy}
 use Rattle.convey.proofs.OneRank.{starting-own, ending-own}
 
@@ -27,7 +27,7 @@ pub record IsHalted (dims : List ℕ) (r : ℕ) (old new : State) (sent got : Lo
   pub agrees : AgreesWith old (starting_at dims r sent) (ending_at dims r got)
   pub lies : (l : ℕ) → l < links dims → reader_at dims l ≡ r → (in_of new l).parcel.untaken ≡ (in_of old l).parcel.untaken
   pub read : (l : ℕ) → l < links dims → reader_at dims l ≡ r → hop_at dims l ≡ length dims → (in_of old l).parcel.untaken ≡ []
-  pub idle : (l : ℕ) → l < links dims → reader_at dims l ≡ r → Wants old l → length (got l) ≡ length (sent l)
+  pub idle : (l : ℕ) → l < links dims → reader_at dims l ≡ r → WantsParcel old l → length (got l) ≡ length (sent l)
   pub stopped : (l : ℕ) (e : Entry) → l < links dims → reader_at dims l ≡ r → hop_at dims l < length dims → slice_get (in_of new l).parcel.untaken 0 ≡ Some e → NextIs dims r l e.tag (IsBusy sent got)
 
 wants_now : (x : In) → x.parcel.untaken ≡ [] → x.ended ≡ false → is_wanted x ≡ true

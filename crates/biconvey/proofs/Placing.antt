@@ -10,7 +10,7 @@ use Rattle.route_tensor.specs.Link.{links}
 use Rattle.port_bank.specs.Logs.{Logs}
 use Rattle.port_bank.specs.Shapes.{IsConveyorShape}
 use Rattle.link_slots.specs.Gathering.{Gathering}
-use Rattle.link_slots.specs.SeatView.{Identity, Manning, posted_on, collected_from}
+use Rattle.link_slots.specs.SeatView.{BankIdentity, SeatView, posted_on, collected_from}
 use Rattle.link_slots.specs.Shape.{shipped_all}
 use Rattle.link_slots.specs.View.{no_logs}
 use Rattle.link_slots.proofs.Opening.{no_sent, no_got}
@@ -22,11 +22,11 @@ use Rattle.biconvey.specs.Drives.{IsFreshBiRank, AreFreshBiRanks}
 use Rattle.biconvey.specs.Seats.{BiSeatedState, bank_at, IsSeatedBiRank, AreSeatedBiRanks}
 
 -- the first so many seats of a bank are given out
-pub record IsGiven (b : Identity) (gather : Gathering) (n : ℕ) : Type 0 where
+pub record IsGiven (b : BankIdentity) (gather : Gathering) (n : ℕ) : Type 0 where
   pub bank : (gather.id ≡ b.id) × (gather.shape ≡ b.shape)
   pub none : (r : ℕ) → n ≤ r → r < ranks b.shape.dims → get_or gather.given r true ≡ false
 
-one_given : (b : Identity) (gather gather' : Gathering) (n m : ℕ) (lists : _) → IsGiven b gather n → n ≡ m → gather' ≡ record gather { lists = lists; given = slice_set gather.given m true } → IsGiven b gather' (n + 1)
+one_given : (b : BankIdentity) (gather gather' : Gathering) (n m : ℕ) (lists : _) → IsGiven b gather n → n ≡ m → gather' ≡ record gather { lists = lists; given = slice_set gather.given m true } → IsGiven b gather' (n + 1)
 one_given b gather gather' n m lists is same gave =
     record {
       bank = (ap (λ (g : Gathering). g.id) gave ∙ is.bank.0, ap (λ (g : Gathering). g.shape) gave ∙ is.bank.1);
@@ -34,17 +34,17 @@ one_given b gather gather' n m lists is same gave =
     }
 
 -- a seat as it is given out
-record IsNewSeat (b : Identity) (n : ℕ) (seat : Manning) : Type 0 where
+record IsNewSeat (b : BankIdentity) (n : ℕ) (seat : SeatView) : Type 0 where
   bank : bank_at seat ≡ b
   number : seat.rank ≡ n
   sent : ◌≡◌ {A = Logs} (posted_on seat) (λ l. [])
   got : ◌≡◌ {A = Logs} (collected_from seat) (λ l. [])
 
-new_seat : (b : Identity) (n : ℕ) (seat : Manning) (noted ended : List ℕ) → seat ≡ record { id = b.id; shape = b.shape; rank = n; lists = no_logs (links b.shape.dims); noted = noted; ended = ended } → IsNewSeat b n seat
+new_seat : (b : BankIdentity) (n : ℕ) (seat : SeatView) (noted ended : List ℕ) → seat ≡ record { id = b.id; shape = b.shape; rank = n; lists = no_logs (links b.shape.dims); noted = noted; ended = ended } → IsNewSeat b n seat
 new_seat b n seat noted ended is =
     record {
       bank = ap bank_at is;
-      number = ap (λ (m : Manning). m.rank) is;
+      number = ap (λ (m : SeatView). m.rank) is;
       sent = ap posted_on is ∙ ap shipped_all (no_sent Contents (links b.shape.dims));
       got = ap collected_from is ∙ ap shipped_all (no_got Contents (links b.shape.dims));
     }
@@ -53,7 +53,7 @@ no_parcels : (steady : Bool) (cap : ℕ) (a : Logs) → ◌≡◌ {A = Logs} a (
 no_parcels steady cap a none l = subst (IsConveyorShape steady cap) (sym (ap (λ (b : Logs). b l) none)) (λ i d below. absurd (omega (arith, below)))
 
 -- some ranks have their seats
-pub record Seating {S : Type 0} (T : Talk S) (cap : ℕ) (b p : Identity) (gq gp : Gathering) (number : ℕ) (all taken rest : List (BiState S)) (xs : List (BiSeatedState S)) : Type 0 where
+pub record Seating {S : Type 0} (T : Talk S) (cap : ℕ) (b p : BankIdentity) (gq gp : Gathering) (number : ℕ) (all taken rest : List (BiState S)) (xs : List (BiSeatedState S)) : Type 0 where
   pub left : taken ++ rest ≡ all
   pub queries : IsGiven b gq (length taken)
   pub replies : IsGiven p gp (length taken)
@@ -61,13 +61,13 @@ pub record Seating {S : Type 0} (T : Talk S) (cap : ℕ) (b p : Identity) (gq gp
   pub nodes_are : map (λ x. x.node) xs ≡ taken
   pub each : (steady : Bool) (askers : List S) → AreFreshBiRanks T b.shape.dims steady askers all → AreSeatedBiRanks T cap steady b p xs
 
-module _ {S : Type 0} (T : Talk S) (cap : ℕ) (b p : Identity) (same : p.shape ≡ b.shape) (gq gp : Gathering) (number : ℕ) (all taken rest now : List (BiState S)) (xs : List (BiSeatedState S)) (s : Seating T cap b p gq gp number all taken now xs) where
+module _ {S : Type 0} (T : Talk S) (cap : ℕ) (b p : BankIdentity) (same : p.shape ≡ b.shape) (gq gp : Gathering) (number : ℕ) (all taken rest now : List (BiState S)) (xs : List (BiSeatedState S)) (s : Seating T cap b p gq gp number all taken now xs) where
   -- one more gets its seats
   -- there is room for one more
   pub seat_left : (node : BiState S) → now ≡ node ∷ rest → (room : ℕ) → length all ≤ room → length xs < room
   seat_left node is room below = omega (arith, below, ap length s.left, ap length is, length-append taken now, length-map xs (λ (y : BiSeatedState S). y.node), ap length s.nodes_are)
 
-  module _ (gq' gp' : Gathering) (node : BiState S) (sq sp : Manning) (is : now ≡ node ∷ rest)
+  module _ (gq' gp' : Gathering) (node : BiState S) (sq sp : SeatView) (is : now ≡ node ∷ rest)
       (lists_q lists_p : _) (gave_q : gq' ≡ record gq { lists = lists_q; given = slice_set gq.given number true }) (gave_p : gp' ≡ record gp { lists = lists_p; given = slice_set gp.given number true })
       (noted_q ended_q noted_p ended_p : List ℕ)
       (is_q : sq ≡ record { id = b.id; shape = b.shape; rank = number; lists = no_logs (links b.shape.dims); noted = noted_q; ended = ended_q })
@@ -87,8 +87,8 @@ module _ {S : Type 0} (T : Talk S) (cap : ℕ) (b p : Identity) (same : p.shape 
     pub seated : (steady : Bool) (askers : List S) → AreFreshBiRanks T b.shape.dims steady askers all → IsSeatedBiRank T cap steady b p (length taken) x
     seated steady askers fresh =
         let f : IsFreshBiRank T b.shape.dims steady (length taken) node = fresh.each (length taken) node (next_is taken rest all now node s.left is) in
-        let dims_q : sq.shape.dims ≡ b.shape.dims = ap (λ (a : Identity). a.shape.dims) new_q.bank in
-        let dims_p : sp.shape.dims ≡ b.shape.dims = ap (λ (a : Identity). a.shape.dims) new_p.bank ∙ ap (λ h. h.dims) same in
+        let dims_q : sq.shape.dims ≡ b.shape.dims = ap (λ (a : BankIdentity). a.shape.dims) new_q.bank in
+        let dims_p : sp.shape.dims ≡ b.shape.dims = ap (λ (a : BankIdentity). a.shape.dims) new_p.bank ∙ ap (λ h. h.dims) same in
         let rank_q : sq.rank ≡ length taken = new_q.number ∙ s.count in
         let rank_p : sp.rank ≡ length taken = new_p.number ∙ s.count in
         record {
@@ -131,11 +131,11 @@ module _ {S : Type 0} (T : Talk S) (cap : ℕ) (b p : Identity) (same : p.shape 
         }
 
 -- of some ranks a bank has the lists
-pub record AreThere {S : Type 0} (b : Identity) (gather : Gathering) (seat : BiSeatedState S → Manning) (taken : List (BiSeatedState S)) : Type 0 where
+pub record AreThere {S : Type 0} (b : BankIdentity) (gather : Gathering) (seat : BiSeatedState S → SeatView) (taken : List (BiSeatedState S)) : Type 0 where
   pub bank : (gather.id ≡ b.id) × (gather.shape ≡ b.shape)
   pub there : EachAt (λ r y. get_or gather.lists r None ≡ Some (seat y).lists) taken
 
-one_there : {S : Type 0} (b : Identity) (gather gather' : Gathering) (seat : BiSeatedState S → Manning) (taken : List (BiSeatedState S)) (y : BiSeatedState S) → AreThere b gather seat taken → (seat y).rank ≡ length taken
+one_there : {S : Type 0} (b : BankIdentity) (gather gather' : Gathering) (seat : BiSeatedState S → SeatView) (taken : List (BiSeatedState S)) (y : BiSeatedState S) → AreThere b gather seat taken → (seat y).rank ≡ length taken
     → (gather'.id ≡ gather.id) × (gather'.shape ≡ gather.shape) → get_or gather'.lists (seat y).rank None ≡ Some (seat y).lists → ((r : ℕ) → r ≢ (seat y).rank → get_or gather'.lists r None ≡ get_or gather.lists r None)
     → AreThere b gather' seat (taken ++ y ∷ [])
 one_there {S} b gather gather' seat taken y is number same there others =
@@ -147,13 +147,13 @@ one_there {S} b gather gather' seat taken y is number same there others =
     }
 
 -- some ranks have left their seats
-pub record Leaving {S : Type 0} (b p : Identity) (gq gp : Gathering) (all taken rest : List (BiSeatedState S)) (ns : List (BiState S)) : Type 0 where
+pub record Leaving {S : Type 0} (b p : BankIdentity) (gq gp : Gathering) (all taken rest : List (BiSeatedState S)) (ns : List (BiState S)) : Type 0 where
   pub left : taken ++ rest ≡ all
   pub queries : AreThere b gq (λ y. y.queries) taken
   pub replies : AreThere p gp (λ y. y.replies) taken
   pub nodes_are : ns ≡ map (λ y. y.node) taken
 
-module _ {S : Type 0} (b p : Identity) (gq gp : Gathering) (all taken rest now : List (BiSeatedState S)) (ns : List (BiState S)) (s : Leaving b p gq gp all taken now ns) (y : BiSeatedState S) (is : now ≡ y ∷ rest) where
+module _ {S : Type 0} (b p : BankIdentity) (gq gp : Gathering) (all taken rest now : List (BiSeatedState S)) (ns : List (BiState S)) (s : Leaving b p gq gp all taken now ns) (y : BiSeatedState S) (is : now ≡ y ∷ rest) where
   -- there is room for one more
   pub leave_left : (room : ℕ) → length all ≤ room → length ns < room
   leave_left room below = omega (arith, below, ap length s.left, ap length is, length-append taken now, length-map taken (λ (x : BiSeatedState S). x.node), ap length s.nodes_are)

@@ -88,8 +88,8 @@ module _ {S : Type 0} (T : Talk S) (dims : List ℕ) (cap slots : ℕ) (steady :
       λ i. record { asking = a i; asked = b i; replying = c i; replied = d i }
 
   -- all ranks after the turn
-  pub world_on : BiRanksOnBanks T dims cap slots steady starts ns' s'
-  world_on = record {
+  pub on_bank_after : BiRanksOnBanks T dims cap slots steady starts ns' s'
+  on_bank_after = record {
     queries = way_on dims cap slots steady r n.queries n'.queries (map asks ns) (map asks ns') s.asking s.asked s'.asking s'.asked w.queries (get_map asks ns r n at) (get_map asks ns' r n' at') (others_in asks) (long_in asks) t.queries lq;
     replies = way_on dims cap slots steady r n.replies n'.replies (map answers ns) (map answers ns') s.replying s.replied s'.replying s'.replied w.replies (get_map answers ns r n at) (get_map answers ns' r n' at') (others_in answers) (long_in answers) t.replies lr;
     some = w.some;
@@ -122,21 +122,21 @@ module _ {S : Type 0} (T : Talk S) (dims : List ℕ) (cap slots : ℕ) (steady :
   rests_on light k x rest = subst (IsBlockedBiRank T dims slots k x) (sym (same_sides light)) rest
 
 pub swept_none : {S : Type 0} (T : Talk S) (dims : List ℕ) (cap slots : ℕ) (steady : Bool) (starts : ℕ → S) (order : List ℕ) (ns : List (BiState S)) (s : Sides) → BiRanksOnBanks T dims cap slots steady starts ns s → AfterSomeBiTurns T dims cap slots steady starts order 0 ns s ns s
-swept_none T dims cap slots steady starts order ns s w = record { world = w; grown = omega arith; rests = λ light j r low at. absurd (omega (arith, low)) }
+swept_none T dims cap slots steady starts order ns s w = record { on_bank = w; grown = omega arith; rests = λ light j r low at. absurd (omega (arith, low)) }
 
 pub swept_more : {S : Type 0} (T : Talk S) (dims : List ℕ) (cap slots : ℕ) (steady : Bool) (starts : ℕ → S) (order : List ℕ) (i r : ℕ) (ns0 ns ns' : List (BiState S)) (s0 s s' : Sides)
     → slice_get order i ≡ Some r → r < ranks dims → length ns' ≡ length ns → ((k : ℕ) → k ≢ r → slice_get ns' k ≡ slice_get ns k) → AreBankLogs dims cap slots s'.asking s'.asked → AreBankLogs dims cap slots s'.replying s'.replied
     → ((n n' : BiState S) → slice_get ns r ≡ Some n → slice_get ns' r ≡ Some n' → AfterBiRank T dims cap slots r n n' s s')
     → AfterSomeBiTurns T dims cap slots steady starts order i ns0 s0 ns s → AfterSomeBiTurns T dims cap slots steady starts order (i + 1) ns0 s0 ns' s'
 swept_more {S} T dims cap slots steady starts order i r ns0 ns ns' s0 s s' here low long others lq lr turned v =
-    let w = v.world in
+    let w = v.on_bank in
     let all : length ns ≡ ranks dims = sym (length-map ns (λ (n : BiState S). n.queries)) ∙ w.queries.all in
     let n : (n : BiState S) × (slice_get ns r ≡ Some n) = find ns r (omega (arith, low, all)) in
     let n' : (n' : BiState S) × (slice_get ns' r ≡ Some n') = find ns' r (omega (arith, low, all, long)) in
     let t : AfterBiRank T dims cap slots r n.0 n'.0 s s' = turned n.0 n'.0 n.1 n'.1 in
     let more = all_on T dims cap slots steady starts r n.0 n'.0 ns ns' s s' w n.1 n'.1 others long t lq lr in
     record {
-      world = world_on T dims cap slots steady starts r n.0 n'.0 ns ns' s s' w n.1 n'.1 others long t lq lr;
+      on_bank = on_bank_after T dims cap slots steady starts r n.0 n'.0 ns ns' s s' w n.1 n'.1 others long t lq lr;
       grown = omega (arith, v.grown, more);
       rests = λ light j k below at x now.
           let level : all_moves dims ns' s' ≤ all_moves dims ns s = omega (arith, light, v.grown) in
@@ -190,8 +190,8 @@ same_turn T cap dims dims' slots slots' k n n' s s' ed es t = subst (λ d. After
 pub same_banks : (cap : ℕ) (dims dims' : List ℕ) (slots slots' : ℕ) (q r : Bank) → dims' ≡ dims → slots' ≡ slots → AreBanks cap dims' slots' q r → AreBanks cap dims slots q r
 same_banks cap dims dims' slots slots' q r ed es b = subst (λ d. AreBanks cap d slots q r) ed (subst (λ m. AreBanks cap dims' m q r) es b)
 
-pub same_world : {S : Type 0} (T : Talk S) (cap : ℕ) (dims dims' : List ℕ) (slots slots' : ℕ) (steady : Bool) (starts : ℕ → S) (ns : List (BiState S)) (s : Sides) → dims' ≡ dims → slots' ≡ slots → BiRanksOnBanks T dims' cap slots' steady starts ns s → BiRanksOnBanks T dims cap slots steady starts ns s
-same_world T cap dims dims' slots slots' steady starts ns s ed es w = subst (λ d. BiRanksOnBanks T d cap slots steady starts ns s) ed (subst (λ m. BiRanksOnBanks T dims' cap m steady starts ns s) es w)
+pub same_on_bank : {S : Type 0} (T : Talk S) (cap : ℕ) (dims dims' : List ℕ) (slots slots' : ℕ) (steady : Bool) (starts : ℕ → S) (ns : List (BiState S)) (s : Sides) → dims' ≡ dims → slots' ≡ slots → BiRanksOnBanks T dims' cap slots' steady starts ns s → BiRanksOnBanks T dims cap slots steady starts ns s
+same_on_bank T cap dims dims' slots slots' steady starts ns s ed es w = subst (λ d. BiRanksOnBanks T d cap slots steady starts ns s) ed (subst (λ m. BiRanksOnBanks T dims' cap m steady starts ns s) es w)
 
 pub order_at : (order : List ℕ) (i : ℕ) → i < length order → slice_get order i ≡ Some (get_or order i 0)
 order_at order i low = let f : (x : ℕ) × (slice_get order i ≡ Some x) = find order i low in f.1 ∙ ap Some (sym (get_or_from_slice_get order i f.0 0 f.1))

@@ -14,7 +14,7 @@ use Rattle.port_bank.specs.Round.{Round, IsRound, logs_of}
 use Rattle.port_bank.specs.Shapes.{IsConveyorShape}
 use Rattle.port_bank.proofs.Routes.{numbered}
 use Rattle.link_slots.specs.ClosedBank.{slot_round, AllThere}
-use Rattle.link_slots.specs.SeatView.{Identity, Manning, posted_on, collected_from}
+use Rattle.link_slots.specs.SeatView.{BankIdentity, SeatView, posted_on, collected_from}
 use Rattle.link_slots.specs.Shape.{Shape}
 use Rattle.convey.specs.Law.{ClosesLaw}
 use Rattle.convey.proofs.OneRank.{starting-own}
@@ -36,10 +36,10 @@ some_is e = subst IsSome (sym e) refl
 pub record IsGatheredRound (cap : ℕ) (shape : Shape) (lists : _) (c : Round) : Type 0 where
   pub round : c ≡ slot_round shape cap lists
   pub in_order : IsRound c
-  pub sent : (s : Manning) → get_or lists s.rank None ≡ Some s.lists → starting_at shape.dims s.rank (logs_of c.sent) ≡ posted_on s
-  pub got : (s : Manning) → get_or lists s.rank None ≡ Some s.lists → ending_at shape.dims s.rank (logs_of c.got) ≡ collected_from s
+  pub sent : (s : SeatView) → get_or lists s.rank None ≡ Some s.lists → starting_at shape.dims s.rank (logs_of c.sent) ≡ posted_on s
+  pub got : (s : SeatView) → get_or lists s.rank None ≡ Some s.lists → ending_at shape.dims s.rank (logs_of c.got) ≡ collected_from s
 
-module _ {S : Type 0} (T : Talk S) (cap : ℕ) (b p : Identity) (same : p.shape ≡ b.shape) (steady : Bool) (askers : List S) (all : AreAskers T (ranks b.shape.dims) askers)
+module _ {S : Type 0} (T : Talk S) (cap : ℕ) (b p : BankIdentity) (same : p.shape ≡ b.shape) (steady : Bool) (askers : List S) (all : AreAskers T (ranks b.shape.dims) askers)
     (ns : List (BiState S)) (fresh : AreFreshBiRanks T b.shape.dims steady askers ns) (xs ys : List (BiSeatedState S)) (firsts : map (λ x. x.node) xs ≡ ns) (seated : AreSeatedBiRanks T cap steady b p xs) (heard : ℕ → ℕ → Bool) (ran : AllRan (λ x y. TookBiTurns T cap heard x y) xs ys) where
   abbrev dims : List ℕ
   dims = b.shape.dims
@@ -87,7 +87,7 @@ module _ {S : Type 0} (T : Talk S) (cap : ℕ) (b p : Identity) (same : p.shape 
   numbered_at = each_from_gets (λ r (y : BiSeatedState S). (y.queries.rank ≡ r) × (y.replies.rank ≡ r)) ys (λ r y at. (came r y at).numbers)
 
   -- the lists of each were gathered
-  pub all_there : (seat : BiSeatedState S → Manning) (lists : _) → EachAt (λ r y. get_or lists r None ≡ Some (seat y).lists) ys → AllThere b.shape lists
+  pub all_there : (seat : BiSeatedState S → SeatView) (lists : _) → EachAt (λ r y. get_or lists r None ≡ Some (seat y).lists) ys → AllThere b.shape lists
   all_there seat lists there r low =
       let y : (y : BiSeatedState S) × (slice_get ys r ≡ Some y) = find ys r (omega (arith, low, as_many)) in
       some_is (each_get (λ k (z : BiSeatedState S). get_or lists k None ≡ Some (seat z).lists) ys r y.0 there y.1)
@@ -161,7 +161,7 @@ module _ {S : Type 0} (T : Talk S) (cap : ℕ) (b p : Identity) (same : p.shape 
         let w : IsBiRankAtSeats T cap steady c.start y = c.way in
         let mine : starts_of askers first k ≡ c.start = get_or_from_slice_get askers k c.start first c.began in
         record {
-          same_dims = w.queries.same_dims ∙ ap (λ (a : Identity). a.shape.dims) c.queries_bank;
+          same_dims = w.queries.same_dims ∙ ap (λ (a : BankIdentity). a.shape.dims) c.queries_bank;
           same_rank = w.queries.same_rank ∙ c.numbers.0;
           node =
               subst (λ s. IsBiNode T s y.node (starting_at dims k (logs_of q.sent)) (ending_at dims k (logs_of q.got)) (starting_at dims k (logs_of r.sent)) (ending_at dims k (logs_of r.got))) (sym mine)
@@ -196,7 +196,7 @@ module _ {S : Type 0} (T : Talk S) (cap : ℕ) (b p : Identity) (same : p.shape 
     pub have_heard : (ends : List S) → ends ≡ askers_of nodes → HaveHeard T askers ends
     have_heard ends is = heard_all T laws law cap dims b.shape.slots steady askers first nodes (λ k. (nth k).node) sides all count node_at every over_at ends is
 
-    shape_of : (seat : BiSeatedState S → Manning) (a : Logs) → ((k : ℕ) → k < ranks dims → starting_at dims k a ≡ posted_on (seat (nth k))) → ((k : ℕ) → k < ranks dims → (l : ℕ) → IsConveyorShape steady cap (posted_on (seat (nth k)) l)) → (l : ℕ) → l < links dims → IsConveyorShape steady cap (a l)
+    shape_of : (seat : BiSeatedState S → SeatView) (a : Logs) → ((k : ℕ) → k < ranks dims → starting_at dims k a ≡ posted_on (seat (nth k))) → ((k : ℕ) → k < ranks dims → (l : ℕ) → IsConveyorShape steady cap (posted_on (seat (nth k)) l)) → (l : ℕ) → l < links dims → IsConveyorShape steady cap (a l)
     shape_of seat a sent shape l below =
         let k : ℕ = sender_at dims l in
         let low : k < ranks dims = (numbered dims l in_order_q.grid below).is_link.sender in

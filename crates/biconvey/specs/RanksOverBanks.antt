@@ -83,7 +83,7 @@ all_moves dims ns s =
 -- rests: if nothing moved, each rank that was turned is blocked.
 pub record AfterSomeBiTurns {S : Type 0} (T : Talk S) (dims : List ℕ) (cap slots : ℕ) (steady : Bool) (starts : ℕ → S)
     (order : List ℕ) (i : ℕ) (ns0 : List (BiState S)) (s0 : Sides) (ns : List (BiState S)) (s : Sides) : Type 0 where
-  pub world : BiRanksOnBanks T dims cap slots steady starts ns s
+  pub on_bank : BiRanksOnBanks T dims cap slots steady starts ns s
   pub grown : all_moves dims ns0 s0 ≤ all_moves dims ns s
   pub rests : all_moves dims ns s ≤ all_moves dims ns0 s0 → (j r : ℕ) → j < i → slice_get order j ≡ Some r
       → (n : BiState S) → slice_get ns r ≡ Some n → IsBlockedBiRank T dims slots r n s

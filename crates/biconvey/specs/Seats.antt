@@ -1,7 +1,7 @@
 -- Ranks that run on threads, each with a seat at two slot banks: one of queries, one of replies.
 use Rattle.std.specs.Prelude.{◌≡◌, ℕ, ◌<◌, ◌≤◌, Bool, true, List, slice_get, Some}
 use Rattle.port_bank.specs.Shapes.{IsConveyorShape}
-use Rattle.link_slots.specs.SeatView.{Identity, Manning, posted_on, collected_from}
+use Rattle.link_slots.specs.SeatView.{BankIdentity, SeatView, posted_on, collected_from}
 use Rattle.round_program.specs.Talks.{Talk}
 use Rattle.rank_group.specs.TurnNotes.{HasSame}
 use Rattle.query_node.specs.States.{BiState, IsBiNode}
@@ -11,16 +11,16 @@ use Rattle.biconvey.specs.RanksOverBanks.{is_over}
 -- that it has made.
 pub record BiSeatedState (S : Type 0) : Type 0 where
   pub node : BiState S
-  pub queries : Manning
-  pub replies : Manning
+  pub queries : SeatView
+  pub replies : SeatView
   pub turns : ℕ
 
 -- The bank that a seat belongs to.
-abbrev pub bank_at : Manning → Identity
+abbrev pub bank_at : SeatView → BankIdentity
 bank_at seat = record { id = seat.id; shape = seat.shape }
 
 -- A conveyor's rank and grid are those of its seat.
-pub record IsSeatOf (rank : ℕ) (dims : List ℕ) (seat : Manning) : Type 0 where
+pub record IsSeatOf (rank : ℕ) (dims : List ℕ) (seat : SeatView) : Type 0 where
   pub same_dims : dims ≡ seat.shape.dims
   pub same_rank : rank ≡ seat.rank
 
@@ -44,7 +44,7 @@ pub record HasSomeBiRun {S : Type 0} (T : Talk S) (cap : ℕ) (x : BiSeatedState
   pub way : IsBiRankAtSeats T cap steady start x
 
 -- A seat of the same rank at the same bank.
-pub record SameSeat (old new : Manning) : Type 0 where
+pub record SameSeat (old new : SeatView) : Type 0 where
   pub bank : bank_at new ≡ bank_at old
   pub number : new.rank ≡ old.rank
 
@@ -60,7 +60,7 @@ pub record TookBiTurns {S : Type 0} (T : Talk S) (cap : ℕ) (notified : ℕ →
   pub kept : (steady : Bool) (start : S) → IsBiRankAtSeats T cap steady start x → IsBiRankAtSeats T cap steady start y
 
 -- A rank before its first turn, with seats of number r at the banks q and p.
-pub record IsSeatedBiRank {S : Type 0} (T : Talk S) (cap : ℕ) (steady : Bool) (q p : Identity) (r : ℕ)
+pub record IsSeatedBiRank {S : Type 0} (T : Talk S) (cap : ℕ) (steady : Bool) (q p : BankIdentity) (r : ℕ)
     (x : BiSeatedState S) : Type 0 where
   pub queries_bank : bank_at x.queries ≡ q
   pub replies_bank : bank_at x.replies ≡ p
@@ -69,7 +69,7 @@ pub record IsSeatedBiRank {S : Type 0} (T : Talk S) (cap : ℕ) (steady : Bool) 
   pub way : IsBiRankAtSeats T cap steady x.node.asker x
 
 -- Ranks before their first turn, with seats at these banks in order.
-abbrev pub AreSeatedBiRanks : {S : Type 0} → Talk S → ℕ → Bool → Identity → Identity → List (BiSeatedState S) → Type 0
+abbrev pub AreSeatedBiRanks : {S : Type 0} → Talk S → ℕ → Bool → BankIdentity → BankIdentity → List (BiSeatedState S) → Type 0
 AreSeatedBiRanks {S} T cap steady q p xs = (r : ℕ) (x : BiSeatedState S) → slice_get xs r ≡ Some x
     → IsSeatedBiRank T cap steady q p r x
 

@@ -62,7 +62,7 @@ fn turn_one<const CAP: usize, const HOPS: usize, A: Asker, L: Ledger>(
 ) -> Result<Banks<CAP>, NoMemory>
     requires number { number < ranks banks.queries.dims }
     requires banks { AreBanks CAP banks.queries.dims banks.queries.slots banks.queries banks.replies }
-    requires world { (steady : Bool) × (starts : ℕ → A)
+    requires on_bank { (steady : Bool) × (starts : ℕ → A)
         × BiRanksOnBanks A.talk banks.queries.dims CAP banks.queries.slots steady starts all.old.items
         (sides_of banks.queries banks.replies) }
     ensures size { length all.new.items ≡ length all.old.items }
@@ -87,7 +87,7 @@ pub(crate) fn sweep<const CAP: usize, const HOPS: usize, A: Asker, L: Ledger>(
 ) -> Result<Banks<CAP>, NoMemory>
     requires order { IsOrder (ranks banks.queries.dims) order.now }
     requires banks { AreBanks CAP banks.queries.dims banks.queries.slots banks.queries banks.replies }
-    requires world { (steady : Bool) × (starts : ℕ → A)
+    requires on_bank { (steady : Bool) × (starts : ℕ → A)
         × BiRanksOnBanks A.talk banks.queries.dims CAP banks.queries.slots steady starts all.old.items
         (sides_of banks.queries banks.replies) }
     ensures banks { IfOk result (λ b. AreBanks CAP banks.entry.queries.dims banks.entry.queries.slots b.queries

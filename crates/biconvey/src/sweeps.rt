@@ -25,7 +25,7 @@ pub(crate) fn run_all<const CAP: usize, const HOPS: usize, A: Asker, L: Ledger>(
 ) -> Result<Banks<CAP>, NoMemory>
     requires order { IsOrder (ranks banks.queries.dims) order.now }
     requires banks { AreBanks CAP banks.queries.dims banks.queries.slots banks.queries banks.replies }
-    requires world { (steady : Bool) × (starts : ℕ → A)
+    requires on_bank { (steady : Bool) × (starts : ℕ → A)
         × BiRanksOnBanks A.talk banks.queries.dims CAP banks.queries.slots steady starts all.old.items
         (sides_of banks.queries banks.replies) }
     ensures banks { IfOk result (λ b. AreBanks CAP banks.entry.queries.dims banks.entry.queries.slots b.queries
@@ -36,7 +36,7 @@ pub(crate) fn run_all<const CAP: usize, const HOPS: usize, A: Asker, L: Ledger>(
         (record { ranks = all.old.items; sides = sides_of banks.entry.queries banks.entry.replies; turns = steps.old })
         (record { ranks = all.new.items; sides = sides_of b.queries b.replies; turns = steps.new })) }
     ensures over { OnOk result ((r : ℕ) (n : BiState A) → slice_get all.new.items r ≡ Some n → is_over n ≡ true) }
-    ensures world { (steady : Bool) (starts : ℕ → A)
+    ensures on_bank { (steady : Bool) (starts : ℕ → A)
         → BiRanksOnBanks A.talk banks.entry.queries.dims CAP banks.entry.queries.slots steady starts all.old.items
         (sides_of banks.entry.queries banks.entry.replies)
         → IfOk result (λ b. BiRanksOnBanks A.talk banks.entry.queries.dims CAP banks.entry.queries.slots steady starts

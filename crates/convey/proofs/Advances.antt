@@ -24,7 +24,7 @@ use Rattle.hop_core.specs.State.{State, phase_of}
 use Rattle.port_bank.specs.Machine.{Part, IsOwnStep}
 use Rattle.convey.specs.Buffers.{out_of, in_of, is_complete, back_of, buffers_of}
 use Rattle.convey.specs.Agreement.{items_among, with_latest, Agrees}
-use Rattle.convey.specs.Due.{IsOver, HeldUp}
+use Rattle.convey.specs.Due.{IsOver, IsHeldUpAt}
 use Rattle.convey.specs.Parts.{part_of}
 use Rattle.convey.specs.Progress.{advance_step, progress_of}
 use Rattle.convey.specs.AdvanceSteps.{GoesOn, MovesOn}
@@ -69,11 +69,11 @@ pub phase_of-settled : (st : State) (phase : Phase) (pulled : Option ℕ) → ph
 unfolding phase_of
 phase_of-settled st phase pulled = refl
 
-pub same_held : (was cap : ℕ) (st : State) (phase : Phase) (sent sent' : Logs) (is_crowded : ℕ → Bool) (m : ℕ) → was ≡ cap → HeldUp was st sent sent' is_crowded m
-    → HeldUp cap (record st { phase = phase; pulled = None }) sent sent' is_crowded m
+pub same_held : (was cap : ℕ) (st : State) (phase : Phase) (sent sent' : Logs) (is_crowded : ℕ → Bool) (m : ℕ) → was ≡ cap → IsHeldUpAt was st sent sent' is_crowded m
+    → IsHeldUpAt cap (record st { phase = phase; pulled = None }) sent sent' is_crowded m
 same_held was cap st phase sent sent' is_crowded m e held =
     let new : State = record st { phase = phase; pulled = None } in
-    subst (λ n. HeldUp n new sent sent' is_crowded m) e (record { full = held.full; crowded = held.crowded })
+    subst (λ n. IsHeldUpAt n new sent sent' is_crowded m) e (record { full = held.full; crowded = held.crowded })
 
 pub forgotten : (st : State) → st.pulled ≡ None → st ≡ record st { phase = st.phase; pulled = None }
 forgotten st e = λ i. record st { pulled = e i }

@@ -19,8 +19,8 @@ use Rattle.hop_core.specs.Standing.{IsState}
 use Rattle.convey.specs.Buffers.{in_of, buffers_of}
 use Rattle.convey.specs.Agreement.{Agrees}
 use Rattle.convey.specs.Parts.{part_of}
-use Rattle.convey.specs.Due.{Wants}
-use Rattle.convey.specs.AdvanceSteps.{IsReady, GoesOn, at_rest}
+use Rattle.convey.specs.Due.{WantsParcel}
+use Rattle.convey.specs.AdvanceSteps.{IsReady, GoesOn, without_latest}
 use Rattle.convey.proofs.Arrivals.{GotOn, got_agrees, got_part}
 use Rattle.convey.proofs.Moves.{SameOn, same_agrees, same_buffers_part}
 use Rattle.convey.proofs.Ways.{no_more, none_filled}
@@ -48,14 +48,14 @@ pub wanted_parts : (x : In) → is_wanted x ≡ true → (x.parcel.untaken ≡ [
 wanted_parts x h = let b = both_true (is_empty x.parcel) (not x.ended) h in (none_of x.parcel.untaken b.0, not_true x.ended b.1)
 
 -- what lies in the inbox after it
-pub still_lies : (st new : State) (l : ℕ) (x : In) (log log' more : List Shipped) → IsState st → l < links st.dims → Wants st l → new ≡ with_inbox st (in_index st.dims l) x → x.parcel.untaken ≡ []
+pub still_lies : (st new : State) (l : ℕ) (x : In) (log log' more : List Shipped) → IsState st → l < links st.dims → WantsParcel st l → new ≡ with_inbox st (in_index st.dims l) x → x.parcel.untaken ≡ []
     → log' ≡ log → log' ≡ log ++ more → (in_of new l).parcel.untaken ≡ (in_of st l).parcel.untaken ++ flat_map (λ p. p.entries) more
 still_lies st new l x log log' more s h w e none a b =
     let empty : (in_of st l).parcel.untaken ≡ [] = (wanted_parts (in_of st l) w).0 in
     ap (λ n. (in_of n l).parcel.untaken) e ∙ (ap (λ y. y.parcel.untaken) (inbox_here st l x s h)
     ∙ (none ∙ sym (λ i. empty i ++ flat_map (λ p. p.entries) (no_more log more (sym a ∙ b) i))))
 
-pub came_lies : (st new : State) (l : ℕ) (x : In) (q : Shipped) (log log' more : List Shipped) → IsState st → l < links st.dims → Wants st l → new ≡ with_inbox st (in_index st.dims l) x → x.parcel.untaken ≡ q.entries
+pub came_lies : (st new : State) (l : ℕ) (x : In) (q : Shipped) (log log' more : List Shipped) → IsState st → l < links st.dims → WantsParcel st l → new ≡ with_inbox st (in_index st.dims l) x → x.parcel.untaken ≡ q.entries
     → log' ≡ log ++ q ∷ [] → log' ≡ log ++ more → (in_of new l).parcel.untaken ≡ (in_of st l).parcel.untaken ++ flat_map (λ p. p.entries) more
 came_lies st new l x q log log' more s h w e entries a b =
     let empty : (in_of st l).parcel.untaken ≡ [] = (wanted_parts (in_of st l) w).0 in
@@ -66,7 +66,7 @@ pub grew : (log : List Shipped) (p : Shipped) → log ++ p ∷ [] ≡ log → �
 grew log p e = let n = ap length e in omega (arith, n, length-append log (p ∷ []))
 
 module _ (st : State) (link : ℕ) (x : In) (sent got got' : Logs) (s : IsState st) (a : Agrees (buffers_of st) sent got) (below : link < links st.dims) (own : reader_at st.dims link ≡ st.rank)
-    (wants : Wants st link) where
+    (wants : WantsParcel st link) where
   i : ℕ
   i = in_index st.dims link
 
@@ -97,10 +97,10 @@ module _ (st : State) (link : ℕ) (x : In) (sent got got' : Logs) (s : IsState 
       let n : State = with_inbox st (in_index st.dims link) x in
       same_agrees (buffers_of st) (buffers_of n).waiting (buffers_of n).unread (buffers_of n).closed (buffers_of n).ended sent got s.grid (stays none open') a
 
-  pub nothing_part : x.parcel.untaken ≡ [] → x.ended ≡ false → at_rest (part_of (buffers_of (with_inbox st (in_index st.dims link) x)) sent got) ≡ at_rest (part_of (buffers_of st) sent got)
+  pub nothing_part : x.parcel.untaken ≡ [] → x.ended ≡ false → without_latest (part_of (buffers_of (with_inbox st (in_index st.dims link) x)) sent got) ≡ without_latest (part_of (buffers_of st) sent got)
   nothing_part none open' =
       let n : State = with_inbox st (in_index st.dims link) x in
-      ap at_rest (same_buffers_part (buffers_of st) (buffers_of n).waiting (buffers_of n).unread (buffers_of n).closed (buffers_of n).ended sent got s.grid (stays none open') s.rank)
+      ap without_latest (same_buffers_part (buffers_of st) (buffers_of n).waiting (buffers_of n).unread (buffers_of n).closed (buffers_of n).ended sent got s.grid (stays none open') s.rank)
 
   -- a parcel came
   came : (q : Shipped) → x.parcel.untaken ≡ q.entries → x.ended ≡ q.last → GotOn (buffers_of st) (buffers_of (with_inbox st (in_index st.dims link) x)).unread (buffers_of (with_inbox st (in_index st.dims link) x)).ended link q
@@ -118,10 +118,10 @@ module _ (st : State) (link : ℕ) (x : In) (sent got got' : Logs) (s : IsState 
       got_agrees (buffers_of st) (buffers_of n).unread (buffers_of n).ended sent got link q s.grid a below own goes_on_now empty_now fair front (came q entries last)
 
   pub came_part : (q : Shipped) → x.parcel.untaken ≡ q.entries → x.ended ≡ q.last → All (λ e. IsFair st.dims (hop_at st.dims link) e.tag) q.entries → (sender_at st.dims link ≡ st.rank → IsPrefix (with_parcel got link q link) (sent link))
-      → at_rest (part_of (buffers_of (with_inbox st (in_index st.dims link) x)) sent (with_parcel got link q)) ≡ at_rest (part_of (buffers_of st) sent got)
+      → without_latest (part_of (buffers_of (with_inbox st (in_index st.dims link) x)) sent (with_parcel got link q)) ≡ without_latest (part_of (buffers_of st) sent got)
   came_part q entries last fair front =
       let n : State = with_inbox st (in_index st.dims link) x in
-      ap at_rest (got_part (buffers_of st) (buffers_of n).unread (buffers_of n).ended sent got link q s.grid a below own goes_on_now empty_now fair front (came q entries last) s.rank)
+      ap without_latest (got_part (buffers_of st) (buffers_of n).unread (buffers_of n).ended sent got link q s.grid a below own goes_on_now empty_now fair front (came q entries last) s.rank)
 
 -- the state where a parcel was taken in, by the number of the link's neighbour
 pub filled : (st new : State) (number l : ℕ) (x : In) → number ≡ in_index st.dims l → new ≡ record st { ins = slice_set st.ins number x; pulled = None } → new ≡ with_inbox st (in_index st.dims l) x
@@ -145,7 +145,7 @@ pub record Collected (dims : List ℕ) (rank : ℕ) (st new : State) (link : ℕ
   pub inbox : (m : ℕ) → m < links dims → reader_at dims m ≡ rank → m ≢ link → in_of new m ≡ in_of st m
 
 module _ (dims : List ℕ) (rank : ℕ) (st new : State) (link : ℕ) (x : In) (sent sent' got got' : Logs) (s : IsState st) (r : IsReady dims rank st sent got)
-    (below : link < links dims) (own : reader_at dims link ≡ rank) (wants : Wants st link) (e : new ≡ with_inbox st (in_index st.dims link) x) (same : sent' ≡ sent) where
+    (below : link < links dims) (own : reader_at dims link ≡ rank) (wants : WantsParcel st link) (e : new ≡ with_inbox st (in_index st.dims link) x) (same : sent' ≡ sent) where
   here_below : link < links st.dims
   here_below = subst (λ ds. link < links ds) (sym r.same_dims) below
 
@@ -153,7 +153,7 @@ module _ (dims : List ℕ) (rank : ℕ) (st new : State) (link : ℕ) (x : In) (
   here_own = ap (λ ds. reader_at ds link) r.same_dims ∙ (own ∙ sym r.same_rank)
 
   collected : Agrees (buffers_of (with_inbox st (in_index st.dims link) x)) sent got'
-      → at_rest (part_of (buffers_of (with_inbox st (in_index st.dims link) x)) sent got') ≡ at_rest (part_of (buffers_of st) sent got)
+      → without_latest (part_of (buffers_of (with_inbox st (in_index st.dims link) x)) sent got') ≡ without_latest (part_of (buffers_of st) sent got)
       → ((l : ℕ) → IsPrefix (got l) (got' l)) → Collected dims rank st new link sent sent' got got'
   collected agrees part grows =
       subst (λ logs. Collected dims rank st new link sent logs got got') (sym same)
@@ -167,7 +167,7 @@ module _ (dims : List ℕ) (rank : ℕ) (st new : State) (link : ℕ) (x : In) (
   pub collected_none : x.parcel.untaken ≡ [] → x.ended ≡ false → got' ≡ got → Collected dims rank st new link sent sent' got got'
   collected_none none open' same_got =
       collected (subst (Agrees (buffers_of (with_inbox st (in_index st.dims link) x)) sent) (sym same_got) (nothing_agrees st link x sent got got s r.agrees here_below here_own wants none open'))
-      (ap (λ logs. at_rest (part_of (buffers_of (with_inbox st (in_index st.dims link) x)) sent logs)) same_got ∙ nothing_part st link x sent got got s r.agrees here_below here_own wants none open')
+      (ap (λ logs. without_latest (part_of (buffers_of (with_inbox st (in_index st.dims link) x)) sent logs)) same_got ∙ nothing_part st link x sent got got s r.agrees here_below here_own wants none open')
       (λ l. subst (λ logs. IsPrefix (got l) (logs l)) (sym same_got) (begins_refl (got l)))
 
   pub collected_one : (q : Shipped) → x.parcel.untaken ≡ q.entries → x.ended ≡ q.last → All (λ t. IsFair dims (hop_at dims link) t.tag) q.entries → (sender_at dims link ≡ rank → IsPrefix (got' link) (sent' link)) → got' ≡ with_parcel got link q → Collected dims rank st new link sent sent' got got'
@@ -176,5 +176,5 @@ module _ (dims : List ℕ) (rank : ℕ) (st new : State) (link : ℕ) (x : In) (
       subst (λ logs. IsPrefix (logs link) (sent link)) same_got (subst (λ logs. IsPrefix (got' link) (logs link)) same (front (ap (λ ds. sender_at ds link) (sym r.same_dims) ∙ (from ∙ r.same_rank)))) in
       let fair_here : All (λ t. IsFair st.dims (hop_at st.dims link) t.tag) q.entries = subst (λ ds. All (λ t. IsFair ds (hop_at ds link) t.tag) q.entries) (sym r.same_dims) fair in
       collected (subst (Agrees (buffers_of (with_inbox st (in_index st.dims link) x)) sent) (sym same_got) (came_agrees st link x sent got got s r.agrees here_below here_own wants q entries last fair_here front_here))
-      (ap (λ logs. at_rest (part_of (buffers_of (with_inbox st (in_index st.dims link) x)) sent logs)) same_got ∙ came_part st link x sent got got s r.agrees here_below here_own wants q entries last fair_here front_here)
+      (ap (λ logs. without_latest (part_of (buffers_of (with_inbox st (in_index st.dims link) x)) sent logs)) same_got ∙ came_part st link x sent got got s r.agrees here_below here_own wants q entries last fair_here front_here)
       (λ l. subst (λ logs. IsPrefix (got l) (logs l)) (sym same_got) (added_grows got link q l))

@@ -22,7 +22,7 @@ use Rattle.hop_core.specs.State.{State, in_at, all_closed, all_read, ins_of_hop,
 use Rattle.hop_core.specs.Standing.{IsState, CanUnpull}
 use Rattle.convey.specs.Buffers.{out_of, in_of, is_complete, back_of, entry_back, buffers_of}
 use Rattle.convey.specs.Arrived.{HasArrived}
-use Rattle.convey.specs.Due.{IsDue, Wants, IsOver}
+use Rattle.convey.specs.Due.{IsDue, WantsParcel, IsOver}
 use Rattle.convey.specs.Law.{IsLastIn, IsSound}
 use Rattle.convey.proofs.States.{of_hop, finished_parts, out_number, is_out, EndOf, closed_end}
 use Rattle.convey.proofs.Routes.{own_loop}
@@ -84,7 +84,7 @@ module _ (st : State) (s : IsState st) (h : phase_of st ≡ Complete) where
   pub over_not_due : (l : ℕ) → l < links st.dims → IsDue st l → ⊥
   over_not_due l k d = false≢true (sym (due_open st l s k d) ∙ closed_all l k)
 
-  pub over_not_wanted : (l : ℕ) → l < links st.dims → reader_at st.dims l ≡ st.rank → Wants st l → ⊥
+  pub over_not_wanted : (l : ℕ) → l < links st.dims → reader_at st.dims l ≡ st.rank → WantsParcel st l → ⊥
   over_not_wanted l k to w = false≢true (sym (wanted_parts (in_of st l) w).1 ∙ is_over.ended l k to)
 
 -- a phase that is complete

@@ -20,9 +20,9 @@ use Rattle.hop_core.specs.State.{State, phase_of}
 use Rattle.hop_core.specs.Standing.{IsState}
 use Rattle.convey.specs.Buffers.{out_of, in_of, is_complete, buffers_of}
 use Rattle.convey.specs.Agreement.{Agrees}
-use Rattle.convey.specs.Due.{Wants, IsOver, WasServed, NextIs, WasFull, HeldUp, IsBlocked}
+use Rattle.convey.specs.Due.{WantsParcel, IsOver, WasServed, NextIs, WasFull, IsHeldUpAt, IsBlocked}
 use Rattle.convey.specs.Parts.{part_of}
-use Rattle.convey.specs.AdvanceSteps.{IsReady, GoesOn, PassedOn, WasAsked, WasPosted, MovesOn, HasServed, at_rest}
+use Rattle.convey.specs.AdvanceSteps.{IsReady, GoesOn, PassedOn, WasAsked, WasPosted, MovesOn, HasServed, without_latest}
 use Rattle.convey.proofs.Moves.{forget_agrees, marks_agree}
 use Rattle.convey.proofs.Routes.{own_loop, not_all_ended}
 use Rattle.convey.proofs.States.{closed_end, is_out}
@@ -127,10 +127,10 @@ module _ (dims : List ℕ) (rank : ℕ) (st0 st1 st2 st3 st4 : State) (done : Bo
       (asked : (l : ℕ) → l < links dims → reader_at dims l ≡ rank → WasAsked st1 l (got l) (got' l) (noted l) (noted' l) (idle' l))
       (lies : (l : ℕ) (more : List Shipped) → l < links dims → reader_at dims l ≡ rank → got' l ≡ got l ++ more → (in_of st2 l).parcel.untaken ≡ (in_of st1 l).parcel.untaken ++ flat_map (λ p. p.entries) more)
       (same_got : got'' ≡ got') (same_noted : noted'' ≡ noted') (same_idle : (l : ℕ) → sent'' l ≡ sent' l → idle'' l ≡ idle' l) where
-    wants : (l : ℕ) → Wants st0 l → Wants st1 l
+    wants : (l : ℕ) → WantsParcel st0 l → WantsParcel st1 l
     wants l = wants_same st0 st1 l (ap (λ u. in_of u l) says)
 
-    wanted : (l : ℕ) → Wants st1 l → Wants st0 l
+    wanted : (l : ℕ) → WantsParcel st1 l → WantsParcel st0 l
     wanted l = wants_same st1 st0 l (sym (ap (λ u. in_of u l) says))
 
     pub moves_on : MovesOn st0 st4 done sent sent'' got got'' noted noted'' idle''
@@ -189,7 +189,7 @@ module _ (dims : List ℕ) (rank : ℕ) (st0 st1 st2 st3 st4 : State) (done : Bo
     same_cap : st3.cap ≡ st0.cap
     same_cap = passed.goes_on.cap ∙ (collected.cap ∙ ap (λ u. u.cap) says)
 
-    held_up : (m : ℕ) → m < links st0.dims → sender_at st0.dims m ≡ st0.rank → length (out_of st3 m).parcel.untaken ≡ st3.cap → HeldUp st0.cap st4 sent sent'' crowded'' m
+    held_up : (m : ℕ) → m < links st0.dims → sender_at st0.dims m ≡ st0.rank → length (out_of st3 m).parcel.untaken ≡ st3.cap → IsHeldUpAt st0.cap st4 sent sent'' crowded'' m
     held_up m h from full = record {
       full = was_full t stopped m h from full;
       crowded = crowds m h from full;
@@ -204,7 +204,7 @@ module _ (dims : List ℕ) (rank : ℕ) (st0 st1 st2 st3 st4 : State) (done : Bo
       stopped = λ l e h to less at.
           let P : ℕ → Type 0 = λ m. length (out_of st3 m).parcel.untaken ≡ st3.cap in
           let b = stopped l (subst (λ ds. l < links ds) (sym to_here) h) (subst (λ ds. hop_at ds l < length ds) (sym to_here) less) e (sym (ap (λ x. slice_get x.parcel.untaken 0) (same_in l)) ∙ at) in
-          next_map st0.dims st0.rank l e.tag P (HeldUp st0.cap st4 sent sent'' crowded'') (λ m below from hop full. held_up m below from full)
+          next_map st0.dims st0.rank l e.tag P (IsHeldUpAt st0.cap st4 sent sent'' crowded'') (λ m below from hop full. held_up m below from full)
           (subst (λ q. NextIs st0.dims q l e.tag P) (passed.ready.same_rank ∙ r) (subst (λ ds. NextIs ds st3.rank l e.tag P) to_here b));
     }
 
@@ -221,7 +221,7 @@ module _ (st : State) (s : IsState st) (h : phase_of st ≡ Complete) where
           epoch = refl;
           done = says;
           phase = refl;
-          part = ap (λ b. at_rest (part_of (buffers_of (record st { done = b; pulled = None })) sent got)) says;
+          part = ap (λ b. without_latest (part_of (buffers_of (record st { done = b; pulled = None })) sent got)) says;
           sent_grows = λ l. begins_refl (sent l);
           got_grows = λ l. begins_refl (got l);
           fills = λ l more e. none_filled st.steady st.cap (sent l) more e;

@@ -22,7 +22,7 @@ use Rattle.convey.specs.Agreement.{Agrees}
 use Rattle.convey.specs.Parts.{part_of}
 use Rattle.convey.specs.Arrived.{HasArrived}
 use Rattle.convey.specs.Due.{IsDue}
-use Rattle.convey.specs.AdvanceSteps.{IsReady, GoesOn, at_rest}
+use Rattle.convey.specs.AdvanceSteps.{IsReady, GoesOn, without_latest}
 use Rattle.convey.proofs.Ways.{none_filled}
 use Rattle.convey.proofs.PostLaw.{post_law, open_lasts, all_one}
 use Rattle.convey.proofs.Moves.{SameOn, same_agrees, same_buffers_part, SentOn, sent_agrees, sent_part, forget_agrees}
@@ -217,7 +217,7 @@ module _ (dims : List ℕ) (rank : ℕ) (st new : State) (link : ℕ) (o : Out) 
   dated = sym (open_lasts st.epoch (lasts (sent link)) (out_of st link).closed open_now ((r.agrees.outs link here_below here_own).lasts))
 
   served : (logs : Logs) → new ≡ with_open st (out_index st.dims link) o → Agrees (buffers_of (with_open st (out_index st.dims link) o)) logs got
-      → at_rest (part_of (buffers_of (with_open st (out_index st.dims link) o)) logs got) ≡ at_rest (part_of (buffers_of st) sent got)
+      → without_latest (part_of (buffers_of (with_open st (out_index st.dims link) o)) logs got) ≡ without_latest (part_of (buffers_of st) sent got)
       → ((l : ℕ) → IsPrefix (sent l) (logs l)) → ((l : ℕ) (more : List Shipped) → logs l ≡ sent l ++ more → IsConveyorShape st.steady st.cap more)
       → Served dims rank st new link sent logs got got'
   served logs e agrees part grows fills =
@@ -252,7 +252,7 @@ module _ (dims : List ℕ) (rank : ℕ) (st new : State) (link : ℕ) (o : Out) 
       subst (λ logs. Served dims rank st new link sent logs got got') (sym same_sent)
       (served sent e
       (same_agrees (buffers_of st) (buffers_of n).waiting (buffers_of n).unread (buffers_of n).closed (buffers_of n).ended sent got s.grid k r.agrees)
-      (ap at_rest (same_buffers_part (buffers_of st) (buffers_of n).waiting (buffers_of n).unread (buffers_of n).closed (buffers_of n).ended sent got s.grid k s.rank))
+      (ap without_latest (same_buffers_part (buffers_of st) (buffers_of n).waiting (buffers_of n).unread (buffers_of n).closed (buffers_of n).ended sent got s.grid k s.rank))
       (λ l. begins_refl (sent l)) (λ l more k. none_filled st.steady st.cap (sent l) more k))
 
   pub still_waits : new ≡ with_open st (out_index st.dims link) o → o.parcel.untaken ≡ (out_of st link).parcel.untaken → (out_of new link).parcel.untaken ≡ (out_of st link).parcel.untaken
@@ -282,7 +282,7 @@ module _ (dims : List ℕ) (rank : ℕ) (st new : State) (link : ℕ) (o : Out) 
       (served (with_parcel sent link q) e
       (forget_agrees (record (buffers_of st) { waiting = (buffers_of n).waiting; closed = (buffers_of n).closed }) (with_parcel sent link q) got
       (sent_agrees (buffers_of st) (buffers_of n).waiting (buffers_of n).closed sent got link q s.grid r.agrees here_below here_own open_now entries arrived k))
-      (ap at_rest (sent_part (buffers_of st) (buffers_of n).waiting (buffers_of n).closed sent got link q s.grid r.agrees here_below here_own open_now entries arrived k s.rank))
+      (ap without_latest (sent_part (buffers_of st) (buffers_of n).waiting (buffers_of n).closed sent got link q s.grid r.agrees here_below here_own open_now entries arrived k s.rank))
       (added_grows sent link q)
       (fills_more st.steady st.cap sent link q (λ open'. post_filled st link q s due entries last open')))
 

@@ -16,7 +16,7 @@ use Rattle.hop_core.specs.State.{State}
 use Rattle.convey.specs.Buffers.{out_of, in_of, buffers_of}
 use Rattle.convey.specs.Agreement.{Agrees}
 use Rattle.convey.specs.Arrived.{HasArrived}
-use Rattle.convey.specs.Due.{Wants, IsOver}
+use Rattle.convey.specs.Due.{WantsParcel, IsOver}
 use Rattle.convey.specs.Rest.{IsBusy, HasBusy, IsRestingSweep}
 use Rattle.convey.proofs.OneRank.{starting-own, ending-own}
 use Rattle.convey.proofs.Blocks.{HasNext, has_next}
@@ -37,7 +37,7 @@ pub record IsQuiet (dims : List ℕ) (r e : ℕ) (old new : State) (sent got : L
   pub pushed : (new.done ≡ true) ⊎ HasBusy dims r sent got
   pub last_read : (l : ℕ) → l < links dims → reader_at dims l ≡ r → hop_at dims l ≡ length dims → (in_of old l).parcel.untaken ≡ []
   pub lies : (l : ℕ) → l < links dims → reader_at dims l ≡ r → (in_of new l).parcel.untaken ≡ (in_of old l).parcel.untaken
-  pub idle : (l : ℕ) → l < links dims → reader_at dims l ≡ r → Wants old l → length (got l) ≡ length (sent l)
+  pub idle : (l : ℕ) → l < links dims → reader_at dims l ≡ r → WantsParcel old l → length (got l) ≡ length (sent l)
   pub stopped : (l : ℕ) → l < links dims → reader_at dims l ≡ r → hop_at dims l < length dims → (in_of new l).parcel.untaken ≢ [] → HasNext dims r l (IsBusy sent got)
   pub closing : (l : ℕ) → l < links dims → sender_at dims l ≡ r → (hop_at dims l ≡ 1 → new.done ≡ true) → HasArrived (buffers_of new) l → (out_of new l).closed ≡ false → IsBusy sent got l
 
@@ -238,8 +238,8 @@ same_end : {T : Type 0} (whole back : List T) → Ends whole back → length who
 same_end whole back e h = sym (e.is ∙ no_front e.front back (subst (λ xs. length xs ≤ length back) e.is h))
 
 module _ (dims : List ℕ) (cap slots e : ℕ) (old new : ℕ → State) (sent got : Logs) (w : IsRestingSweep dims cap slots e old new sent got) where
-  at_rest : (r : ℕ) → r < ranks dims → (new r).epoch ≡ e → IsQuiet dims r e (old r) (new r) sent got
-  at_rest r h now =
+  without_latest : (r : ℕ) → r < ranks dims → (new r).epoch ≡ e → IsQuiet dims r e (old r) (new r) sent got
+  without_latest r h now =
       let t = w.turns r h now in record {
         dims_old = sym t.same_dims ∙ w.same_dims r h;
         rank_old = sym t.same_rank ∙ w.same_rank r h;
@@ -264,9 +264,9 @@ module _ (dims : List ℕ) (cap slots e : ℕ) (old new : ℕ → State) (sent g
 
   each_at : (r : ℕ) → r < ranks dims → IsQuiet dims r e (old r) (new r) sent got ⊎ IsBeyond dims r e sent got
   each_at r h = elim (cases_eq (new r).epoch e) [
-    | inl now ↦ inl (at_rest r h now)
+    | inl now ↦ inl (without_latest r h now)
     | inr later ↦ inr (let least = w.least r h in beyond dims r e (new r) sent got (w.same_dims r h) (w.same_rank r h) (omega arith) (w.agrees r h))
   ]
 
   pub rest_over : (r : ℕ) → r < ranks dims → (new r).epoch ≡ e → IsOver (new r)
-  rest_over r h now = quiet_ends dims e old new sent got w.grid (λ l below. (w.links_keep l below).begins) each_at r (at_rest r h now)
+  rest_over r h now = quiet_ends dims e old new sent got w.grid (λ l below. (w.links_keep l below).begins) each_at r (without_latest r h now)

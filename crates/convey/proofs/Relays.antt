@@ -23,7 +23,7 @@ use Rattle.hop_core.specs.Relay.{way_in, way_out, held, AddsToHop, TakesFromHop}
 use Rattle.convey.specs.Buffers.{Buffers, out_of, in_of, buffers_of}
 use Rattle.convey.specs.Agreement.{items_among, Agrees}
 use Rattle.convey.specs.Parts.{part_of}
-use Rattle.convey.specs.AdvanceSteps.{IsReady, PassedOn, at_rest}
+use Rattle.convey.specs.AdvanceSteps.{IsReady, PassedOn, without_latest}
 use Rattle.convey.proofs.Moves.{forget_agrees}
 use Rattle.convey.proofs.Arrivals.{Relayed, relayed_agrees, relayed_part}
 use Rattle.convey.proofs.States.{in_number, out_number, is_out, is_in}
@@ -139,7 +139,7 @@ module _ (st : State) (outs : List Out) (ins : List In) (h : ℕ) (s : IsState s
           epoch = refl;
           done = refl;
           phase = refl;
-          part = ap (λ b. at_rest (part_of b sent got)) same_buffers ∙ ap at_rest (relayed_part calm waiting unread sent got s.grid a relayed s.rank);
+          part = ap (λ b. without_latest (part_of b sent got)) same_buffers ∙ ap without_latest (relayed_part calm waiting unread sent got s.grid a relayed s.rank);
           sent_grows = λ l. begins_refl (sent l);
           got_grows = λ l. begins_refl (got l);
           fills = λ l more e. none_filled st.steady st.cap (sent l) more e;

@@ -11,13 +11,13 @@ use Rattle.port_bank.specs.Plain.{Bank, IsBank, sent_of, got_of, others_of, empt
 use Rattle.port_bank.proofs.Closing.{empty_links, none_sent, none_got}
 use Rattle.hop_core.specs.State.{State}
 use Rattle.convey.specs.Buffers.{Buffers, buffers_of}
-use Rattle.convey.specs.Conveyors.{AgreesWith, KeepsAgreement, StartsOut}
+use Rattle.convey.specs.Conveyors.{AgreesWith, KeepsAgreement, IsUnusedConveyor}
 use Rattle.convey.specs.Law.{IsSound, AgreeTogether, StaysTogether}
 
 pub one_more : {X : Type 0} (xs ys : List X) (x : X) (n : ℕ) → ys ≡ xs ++ x ∷ [] → length xs ≡ n → length ys ≡ n + 1
 one_more xs ys x n is all = ap length is ∙ (length-append xs (x ∷ []) ∙ ap (λ k. k + 1) all)
 
-pub together_first : (dims : List ℕ) (cap slots : ℕ) (all : ℕ → State) → IsGrid dims → ((r : ℕ) → r < ranks dims → StartsOut dims r (all r))
+pub together_first : (dims : List ℕ) (cap slots : ℕ) (all : ℕ → State) → IsGrid dims → ((r : ℕ) → r < ranks dims → IsUnusedConveyor dims r (all r))
     → AgreeTogether dims cap slots (λ r. buffers_of (all r)) (sent_of (empty_bank dims slots)) (got_of (empty_bank dims slots))
 together_first dims cap slots all g each = record {
   grid = g;

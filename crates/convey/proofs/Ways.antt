@@ -23,7 +23,7 @@ use Rattle.port_bank.specs.Shapes.{IsFilled, IsConveyorShape}
 use Rattle.hop_core.specs.Link.{is_due, is_wanted}
 use Rattle.hop_core.specs.State.{State, at_end}
 use Rattle.convey.specs.Buffers.{out_of, in_of}
-use Rattle.convey.specs.Due.{IsDue, Wants, WasServed}
+use Rattle.convey.specs.Due.{IsDue, WantsParcel, WasServed}
 use Rattle.convey.specs.AdvanceSteps.{IsReady, GoesOn, LeftByPosts, LeftByCollects, WasAsked, WasPosted}
 
 -- the links of a neighbour
@@ -186,14 +186,14 @@ asked_still b l log log' log'' noted noted' noted'' idle idle' same_log same_not
   once = omega (arith, ap length same_log, w.once);
 }
 
-pub wants_same : (b c : State) (l : ℕ) → in_of c l ≡ in_of b l → Wants b l → Wants c l
+pub wants_same : (b c : State) (l : ℕ) → in_of c l ≡ in_of b l → WantsParcel b l → WantsParcel c l
 wants_same b c l same w = ap is_wanted same ∙ w
 
 pub asked_now : (b c : State) (l : ℕ) (log log' log'' : List Shipped) (noted noted' noted'' : ℕ) (idle : Bool)
     → NotAsked b c l log log' noted noted' → WasAsked c l log' log'' noted' noted'' idle → WasAsked b l log log'' noted noted'' idle
 asked_now b c l log log' log'' noted noted' noted'' idle n w =
-    let up : Wants b l → Wants c l = wants_same b c l n.inbox in
-    let down : Wants c l → Wants b l = wants_same c b l (sym n.inbox) in
+    let up : WantsParcel b l → WantsParcel c l = wants_same b c l n.inbox in
+    let down : WantsParcel c l → WantsParcel b l = wants_same c b l (sym n.inbox) in
     record {
       left = λ no. w.left (λ q. no (down q)) ∙ n.got;
       unasked = λ no. w.unasked (λ q. no (down q)) ∙ n.noted;

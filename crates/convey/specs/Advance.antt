@@ -18,7 +18,7 @@ use Rattle.convey.specs.declared.progress.Progress.TheVariants as progress
 use Rattle.convey.specs.Arrived.{HasArrived}
 use Rattle.convey.specs.Buffers.{buffers_of, is_complete, out_of, in_of}
 use Rattle.convey.specs.Conveyors.{AgreesWith, HoldsAtMost}
-use Rattle.convey.specs.Due.{Wants, IsOver, WasServed, NextIs, HeldUp, WasFull, StopsAt, collects_of, posts_below}
+use Rattle.convey.specs.Due.{WantsParcel, IsOver, WasServed, NextIs, IsHeldUpAt, WasFull, StopsAt, collects_of, posts_below}
 use Rattle.convey.specs.Parts.{part_of}
 use Rattle.convey.specs.Progress.{progress_of, advance_step}
 
@@ -85,13 +85,13 @@ pub record ListsGrow (cap : ℕ) (old : State)
 -- lies: an inbox holds the end of what it held and of what came.
 pub record WereAsked (old new : State)
     (port port' : PortView) : Type 0 where
-  pub left : (l : ℕ) → l < links old.dims → reader_at old.dims l ≡ old.rank → (Wants old l → ⊥)
+  pub left : (l : ℕ) → l < links old.dims → reader_at old.dims l ≡ old.rank → (WantsParcel old l → ⊥)
       → port'.got l ≡ port.got l
-  pub unasked : (l : ℕ) → l < links old.dims → reader_at old.dims l ≡ old.rank → (Wants old l → ⊥)
+  pub unasked : (l : ℕ) → l < links old.dims → reader_at old.dims l ≡ old.rank → (WantsParcel old l → ⊥)
       → port'.noted l ≡ port.noted l
-  pub rose : (l : ℕ) → l < links old.dims → reader_at old.dims l ≡ old.rank → Wants old l → port'.got l ≡ port.got l
+  pub rose : (l : ℕ) → l < links old.dims → reader_at old.dims l ≡ old.rank → WantsParcel old l → port'.got l ≡ port.got l
       → RoseOrFull (port.noted l) (port'.noted l)
-  pub idle : (l : ℕ) → l < links old.dims → reader_at old.dims l ≡ old.rank → Wants old l → port'.got l ≡ port.got l
+  pub idle : (l : ℕ) → l < links old.dims → reader_at old.dims l ≡ old.rank → WantsParcel old l → port'.got l ≡ port.got l
       → port'.sent l ≡ port.sent l → is_idle port' l ≡ true
   pub lies : (l : ℕ) (more : List Shipped) → l < links old.dims → reader_at old.dims l ≡ old.rank
       → port'.got l ≡ port.got l ++ more
@@ -117,7 +117,7 @@ pub record WereServed (cap : ℕ) (old new : State)
       → (out_of new l).closed ≡ false → is_crowded port' l ≡ true
   pub stopped : (l : ℕ) (e : Entry) → l < links old.dims → reader_at old.dims l ≡ old.rank
       → hop_at old.dims l < length old.dims → slice_get (in_of new l).parcel.untaken 0 ≡ Some e
-      → NextIs old.dims old.rank l e.tag (HeldUp cap new port.sent port'.sent (is_crowded port'))
+      → NextIs old.dims old.rank l e.tag (IsHeldUpAt cap new port.sent port'.sent (is_crowded port'))
 
 -- A conveyor may advance at a port, told whether its rank is done.
 -- begun: it isn't Dormant.
@@ -137,7 +137,7 @@ pub record MayAdvance (told : Bool) (st : State) (port : PortView) : Type 0 wher
 -- waits: if nothing was sent on a link out, its open parcel begins with what it held.
 -- held: an entry is left in an inbox below the last hop only if the open parcel that it goes to
 -- was full.
-pub record Advances (cap : ℕ) (told : Bool) (old new : State) (port port' : PortView) : Type 0 where
+pub record AdvancesAtPort (cap : ℕ) (told : Bool) (old new : State) (port port' : PortView) : Type 0 where
   pub stays : StaysAtPort told old new port port'
   pub fits : HoldsAtMost cap old
   pub complete : old.phase ≡ Complete → new ≡ record old { pulled = None }

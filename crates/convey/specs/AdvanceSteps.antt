@@ -20,7 +20,7 @@ use Rattle.convey.specs.Buffers.{out_of, in_of, buffers_of, is_complete}
 use Rattle.convey.specs.Agreement.{Agrees}
 use Rattle.convey.specs.Parts.{part_of}
 use Rattle.convey.specs.Conveyors.{IsConveyor}
-use Rattle.convey.specs.Due.{Wants, IsOver, WasServed, NextIs, HeldUp, WasFull, StopsAt, collects_of, posts_below}
+use Rattle.convey.specs.Due.{WantsParcel, IsOver, WasServed, NextIs, IsHeldUpAt, WasFull, StopsAt, collects_of, posts_below}
 
 -- A state whose buffers agree with the lists of its port.
 pub record IsReady (dims : List ℕ) (rank : ℕ) (st : State) (sent got : Logs) : Type 0 where
@@ -29,8 +29,8 @@ pub record IsReady (dims : List ℕ) (rank : ℕ) (st : State) (sent got : Logs)
   pub agrees : Agrees (buffers_of st) sent got
 
 -- A part without its latest step.
-abbrev pub at_rest : Part → Part
-at_rest p = record p { latest = None }
+abbrev pub without_latest : Part → Part
+without_latest p = record p { latest = None }
 
 -- What each step of an advance leaves: the rank's part of the machine, and its lists but for more
 -- at their ends.
@@ -41,7 +41,7 @@ pub record GoesOn (old new : State) (sent sent' got got' : Logs) : Type 0 where
   pub epoch : new.epoch ≡ old.epoch
   pub done : new.done ≡ old.done
   pub phase : new.phase ≡ old.phase
-  pub part : at_rest (part_of (buffers_of new) sent' got') ≡ at_rest (part_of (buffers_of old) sent got)
+  pub part : without_latest (part_of (buffers_of new) sent' got') ≡ without_latest (part_of (buffers_of old) sent got)
   pub sent_grows : (l : ℕ) → IsPrefix (sent l) (sent' l)
   pub got_grows : (l : ℕ) → IsPrefix (got l) (got' l)
   pub fills : (l : ℕ) (more : List Shipped) → sent' l ≡ sent l ++ more → IsConveyorShape old.steady old.cap more
@@ -73,14 +73,14 @@ pub record LeftByCollects (old new : State)
 -- and knows of nothing more.
 -- once: no more than one parcel was got.
 pub record WasAsked (st : State) (l : ℕ) (log log' : List Shipped) (noted noted' : ℕ) (is_idle : Bool) : Type 0 where
-  pub left : (Wants st l → ⊥) → log' ≡ log
-  pub unasked : (Wants st l → ⊥) → noted' ≡ noted
-  pub rose : Wants st l → log' ≡ log → RoseOrFull noted noted'
-  pub idle : Wants st l → log' ≡ log → is_idle ≡ true
+  pub left : (WantsParcel st l → ⊥) → log' ≡ log
+  pub unasked : (WantsParcel st l → ⊥) → noted' ≡ noted
+  pub rose : WantsParcel st l → log' ≡ log → RoseOrFull noted noted'
+  pub idle : WantsParcel st l → log' ≡ log → is_idle ≡ true
   pub once : length log' ≤ length log + 1
 
 -- One parcel more is in a link's log, of these entries.
-pub record OneMore (entries : List Entry) (log log' : List Shipped) : Type 0 where
+pub record HasOneMoreParcel (entries : List Entry) (log log' : List Shipped) : Type 0 where
   pub parcel : Shipped
   pub is : log' ≡ log ++ parcel ∷ []
   pub holds : parcel.entries ≡ entries
@@ -88,7 +88,7 @@ pub record OneMore (entries : List Entry) (log log' : List Shipped) : Type 0 whe
 -- What posting leaves of a link's log, if these entries waited: it is as before, or has one
 -- parcel more, of them.
 abbrev pub WasPosted : List Entry → List Shipped → List Shipped → Type 0
-WasPosted entries log log' = (log' ≡ log) ⊎ OneMore entries log log'
+WasPosted entries log log' = (log' ≡ log) ⊎ HasOneMoreParcel entries log log'
 
 -- What a relay leaves, over the lists of a port: entries only move on from an inbox to the end of
 -- an open parcel.
@@ -111,11 +111,11 @@ pub record PassedOn (dims : List ℕ) (rank : ℕ) (old new : State) (sent got :
 pub record MovesOn (old new : State) (done : Bool) (sent sent' got got' : Logs) (noted noted' : ℕ → ℕ)
     (is_idle : ℕ → Bool) : Type 0 where
   pub goes_on : GoesOn (record old { done = done; pulled = None }) new sent sent' got got'
-  pub left : (l : ℕ) → l < links old.dims → reader_at old.dims l ≡ old.rank → (Wants old l → ⊥) → got' l ≡ got l
-  pub unasked : (l : ℕ) → l < links old.dims → reader_at old.dims l ≡ old.rank → (Wants old l → ⊥) → noted' l ≡ noted l
-  pub asked : (l : ℕ) → l < links old.dims → reader_at old.dims l ≡ old.rank → Wants old l → got' l ≡ got l
+  pub left : (l : ℕ) → l < links old.dims → reader_at old.dims l ≡ old.rank → (WantsParcel old l → ⊥) → got' l ≡ got l
+  pub unasked : (l : ℕ) → l < links old.dims → reader_at old.dims l ≡ old.rank → (WantsParcel old l → ⊥) → noted' l ≡ noted l
+  pub asked : (l : ℕ) → l < links old.dims → reader_at old.dims l ≡ old.rank → WantsParcel old l → got' l ≡ got l
       → RoseOrFull (noted l) (noted' l)
-  pub idle : (l : ℕ) → l < links old.dims → reader_at old.dims l ≡ old.rank → Wants old l → got' l ≡ got l
+  pub idle : (l : ℕ) → l < links old.dims → reader_at old.dims l ≡ old.rank → WantsParcel old l → got' l ≡ got l
       → sent' l ≡ sent l → is_idle l ≡ true
   pub lies : (l : ℕ) (more : List Shipped) → l < links old.dims → reader_at old.dims l ≡ old.rank
       → got' l ≡ got l ++ more
@@ -138,7 +138,7 @@ pub record HasServed (old new : State) (sent sent' : Logs) (looks looks' : ℕ �
       → length (out_of old l).parcel.untaken ≡ old.cap → is_crowded l ≡ true
   pub stopped : (l : ℕ) (e : Entry) → l < links old.dims → reader_at old.dims l ≡ old.rank
       → hop_at old.dims l < length old.dims → slice_get (in_of new l).parcel.untaken 0 ≡ Some e
-      → NextIs old.dims old.rank l e.tag (HeldUp old.cap new sent sent' is_crowded)
+      → NextIs old.dims old.rank l e.tag (IsHeldUpAt old.cap new sent sent' is_crowded)
 
 -- A rank of so many hops may move its exchange on at a port, told whether it is done.
 pub record MayMoveOn (hops : ℕ) (told : Bool) (st : State) (port : PortView) : Type 0 where

@@ -16,7 +16,7 @@ use Rattle.convey.specs.Law.{IsSound}
 use Rattle.convey.specs.Parts.{part_of}
 
 -- What holds of a conveyor for parcels of cap entries at every moment.
-pub record Stands (cap : ℕ) (st : State) : Type 0 where
+pub record ConveyorInvariant (cap : ℕ) (st : State) : Type 0 where
   pub grid : IsGrid st.dims
   pub rank : st.rank < ranks st.dims
   pub sound : IsSound (buffers_of st)
@@ -43,7 +43,7 @@ pub record StaysWithRank (old new : State) : Type 0 where
   pub kept : KeepsAgreement old new
 
 -- A rank's conveyor on which nothing was done.
-pub record StartsOut (dims : List ℕ) (r : ℕ) (st : State) : Type 0 where
+pub record IsUnusedConveyor (dims : List ℕ) (r : ℕ) (st : State) : Type 0 where
   pub same_dims : st.dims ≡ dims
   pub same_rank : st.rank ≡ r
   pub agrees : AgreesWith st (λ l. []) (λ l. [])
@@ -58,8 +58,8 @@ pub record GivesNext (st : State) (from : ℕ) (item : Item) : Type 0 where
   pub kept : KeepsAgreement st (pulled_from st (lowest_unread st))
 
 -- How many entries are in the open parcel toward a rank.
-abbrev pub standing_toward : State → ℕ → ℕ
-standing_toward st to = length (out_of st (hop_link st.dims st.rank to 1)).parcel.untaken
+abbrev pub open_count_toward : State → ℕ → ℕ
+open_count_toward st to = length (out_of st (hop_link st.dims st.rank to 1)).parcel.untaken
 
 -- No open parcel holds more than so many entries.
 abbrev pub HoldsAtMost : ℕ → State → Type 0

@@ -28,8 +28,8 @@ pub record WasServed (st : State) (l : ℕ) (looks looks' : ℕ) (is_crowded : B
   pub crowded : IsDue st l → is_crowded ≡ true
 
 -- A link in wants a parcel if its inbox is empty and it hasn't ended.
-abbrev pub Wants : State → ℕ → Type 0
-Wants st l = is_wanted (in_of st l) ≡ true
+abbrev pub WantsParcel : State → ℕ → Type 0
+WantsParcel st l = is_wanted (in_of st l) ≡ true
 
 -- Whether a link out was served: a parcel went there, or the link is due still.
 abbrev pub was_served : State → ℕ → List Shipped → List Shipped → Bool
@@ -103,6 +103,6 @@ WasFull cap st sent sent' m = (length (out_of st m).parcel.untaken ≡ cap) ⊎ 
 -- crowded: if nothing was sent there, the link is crowded.
 -- At capacity 2 and with [x, y] waiting for link m, z is left; with [x] waiting, z is passed on
 -- after it.
-pub record HeldUp (cap : ℕ) (st : State) (sent sent' : Logs) (is_crowded : ℕ → Bool) (m : ℕ) : Type 0 where
+pub record IsHeldUpAt (cap : ℕ) (st : State) (sent sent' : Logs) (is_crowded : ℕ → Bool) (m : ℕ) : Type 0 where
   pub full : WasFull cap st sent sent' m
   pub crowded : sent' m ≡ sent m → is_crowded m ≡ true

@@ -12,7 +12,7 @@ use Rattle.convey.specs.Buffers.{buffers_of, out_of, in_of}
 use Rattle.list_laws.specs.Lists.{Ends}
 use Rattle.convey.specs.Conveyors.{AgreesWith}
 use Rattle.convey.specs.Arrived.{HasArrived}
-use Rattle.convey.specs.Due.{Wants, IsOver, NextIs}
+use Rattle.convey.specs.Due.{WantsParcel, IsOver, NextIs}
 
 -- A link with parcels in transit: posted, and not collected.
 abbrev pub IsBusy : Logs → Logs → ℕ → Type 0
@@ -47,7 +47,7 @@ pub record IsAtRest (dims : List ℕ) (r : ℕ) (old new : State) (sent got : Lo
       → Ends (in_of old l).parcel.untaken (in_of new l).parcel.untaken
   pub kept : (l : ℕ) → l < links dims → reader_at dims l ≡ r → hop_at dims l < length dims
       → length (in_of old l).parcel.untaken ≤ length (in_of new l).parcel.untaken
-  pub idle : (l : ℕ) → l < links dims → reader_at dims l ≡ r → Wants old l → length (got l) ≡ length (sent l)
+  pub idle : (l : ℕ) → l < links dims → reader_at dims l ≡ r → WantsParcel old l → length (got l) ≡ length (sent l)
   pub stopped : (l : ℕ) (e : Entry) → l < links dims → reader_at dims l ≡ r → hop_at dims l < length dims
       → slice_get (in_of new l).parcel.untaken 0 ≡ Some e
       → NextIs dims r l e.tag (IsBusy sent got)

@@ -12,8 +12,8 @@ ghost use Rattle.route_tensor.specs.Tag.{IsFair, sender_of};
 ghost use Rattle.std.specs.List.{All};
 ghost use Rattle.port_bank.specs.Machine.Step.{Push, Pull, Unpull, Reset, Idle};
 ghost use Rattle.convey.specs.Buffers.{in_of};
-ghost use Rattle.convey.specs.Advance.{HasSettled, MayAdvance, Advances, AdvancesInFull, AdvanceStops};
-ghost use Rattle.convey.specs.Conveyors.{Stands, AgreesWith, IsStepOf, KeepsAgreement, GivesNext, standing_toward};
+ghost use Rattle.convey.specs.Advance.{HasSettled, MayAdvance, AdvancesAtPort, AdvancesInFull, AdvanceStops};
+ghost use Rattle.convey.specs.Conveyors.{ConveyorInvariant, AgreesWith, IsStepOf, KeepsAgreement, GivesNext, open_count_toward};
 ghost use Rattle.convey.specs.Progress.{progress_of};
 ghost use Rattle.item_buffer.specs.Capacity.{IsCap};
 ghost use Rattle.hop_core.specs.Standing.{IsState};
@@ -83,7 +83,7 @@ impl<const CAP: usize, const HOPS: usize> Conveyor<CAP, HOPS> {
     #[inline]
     pub fn phase(&self) -> Phase
         ensures value { result ≡ self.now.phase }
-        ensures stands { Stands CAP self.now }
+        ensures stands { ConveyorInvariant CAP self.now }
     {
         self.state.phase()
     }
@@ -91,7 +91,7 @@ impl<const CAP: usize, const HOPS: usize> Conveyor<CAP, HOPS> {
     /// Does nothing, and states what holds of a conveyor at every moment.
     #[inline]
     pub fn known(&self)
-        ensures { Stands CAP self.now }
+        ensures { ConveyorInvariant CAP self.now }
     {
         self.state.known();
     }
@@ -122,9 +122,9 @@ impl<const CAP: usize, const HOPS: usize> Conveyor<CAP, HOPS> {
         requires working { self.old.phase ≡ Phase.Working }
         requires not_done { self.old.done ≡ false }
         requires to { to < ranks self.old.dims }
-        ensures room { result ≡ Pushed.Accepted → standing_toward self.old to < CAP }
+        ensures room { result ≡ Pushed.Accepted → open_count_toward self.old to < CAP }
         ensures accepted { result ≡ Pushed.Accepted → self.new ≡ with_pushed item to self.old }
-        ensures full { result ≡ Pushed.Full → standing_toward self.old to ≡ CAP }
+        ensures full { result ≡ Pushed.Full → open_count_toward self.old to ≡ CAP }
         ensures unchanged { result ≡ Pushed.Full → self.new ≡ record self.old { pulled = None } }
         ensures same { self.new ≡ record self.old { outs = self.new.outs; pulled = None } }
         ensures kept { KeepsAgreement self.old self.new }
@@ -240,7 +240,7 @@ impl<const CAP: usize, const HOPS: usize> Conveyor<CAP, HOPS> {
     /// stands, done stays noted, the phase is as before, and advance may be called again.
     pub fn advance<P: Port<CAP>>(&mut self, port: &mut P, done: bool) -> Result<Progress, NoMemory>
         requires may { MayAdvance done self.old (P.view port.old) }
-        ensures advances { Advances CAP done self.old self.new (P.view port.old) (P.view port.new) }
+        ensures advances { AdvancesAtPort CAP done self.old self.new (P.view port.old) (P.view port.new) }
         ensures settled { IfOk result (λ p. HasSettled done self.new p) }
         ensures in_full { OnOk result (AdvancesInFull CAP self.old self.new (P.view port.old) (P.view port.new)) }
         ensures stops { IsErr result → AdvanceStops self.old self.new (P.view port.old) (P.view port.new) }

@@ -2,7 +2,7 @@
 ghost use Rattle.std.specs.Prelude.{◌≡◌, ◌<◌, false, IfOk};
 ghost use Rattle.route_tensor.specs.Grid.{ranks};
 ghost use Rattle.convey.specs.Buffers.{buffers_of};
-ghost use Rattle.convey.specs.Conveyors.{StartsOut, StaysWithRank};
+ghost use Rattle.convey.specs.Conveyors.{IsUnusedConveyor, StaysWithRank};
 ghost use Rattle.convey.specs.Law.{IsSound};
 ghost use Rattle.convey.specs.Advance.{IsAtPort, KeepsPort};
 
@@ -36,7 +36,7 @@ impl<const CAP: usize, const HOPS: usize> Side<CAP, HOPS> {
     /// The conveyor of a rank.
     pub(crate) fn new(alloc: Global, shape: &Shape<CAP, HOPS>, rank: u32) -> Result<Self, NoMemory>
         requires rank { rank < ranks shape.now.grid }
-        ensures starts { IfOk result (λ s. StartsOut shape.now.grid rank s.conveyor) }
+        ensures starts { IfOk result (λ s. IsUnusedConveyor shape.now.grid rank s.conveyor) }
     {
         let conveyor = Conveyor::new(alloc, &shape.grid, rank, false)?;
         conveyor.known();

@@ -16,7 +16,7 @@ use Rattle.port_bank.proofs.Fronts.{begins_refl}
 use Rattle.port_bank.proofs.Channels.{changed-other}
 use Rattle.std.proofs.lemmas.Bool.{cases_eq}
 use Rattle.exstack.specs.State.{number}
-use Rattle.exstack.specs.Steps.{latest, was_moved, WasPostedInRound, WasCollected, InVain, LeftByStackCollects}
+use Rattle.exstack.specs.Steps.{latest, was_moved, WasPostedInRound, WasCollected, AskedWithoutSuccess, LeftByStackCollects}
 
 -- what a port shows of a link out: its log, how often the port looked for room, and whether it is
 -- crowded; and of a link in: its log, what was noted of it, and whether it is idle
@@ -71,13 +71,13 @@ abbrev pub Posted : Bool → ℕ → StackOut → StackOut → Sight → Sight �
 Posted last epoch o o' s s' = WasPostedInRound last epoch o o' s.log s'.log
 
 abbrev pub Served : StackOut → StackOut → Sight → Sight → Type 0
-Served o o' s s' = o'.due ≡ true → InVain s.count s'.count s'.stuck
+Served o o' s s' = o'.due ≡ true → AskedWithoutSuccess s.count s'.count s'.stuck
 
 abbrev pub Collected : Bool → StackIn → StackIn → Sight → Sight → Type 0
 Collected exchange i i' s s' = WasCollected exchange i i' s.log s'.log
 
 abbrev pub Asked : StackIn → StackIn → Sight → Sight → Type 0
-Asked i i' s s' = i'.due ≡ true → InVain s.count s'.count s'.stuck
+Asked i i' s s' = i'.due ≡ true → AskedWithoutSuccess s.count s'.count s'.stuck
 
 -- the number of the link into r from a
 abbrev pub in_number : ℕ → ℕ → ℕ → ℕ

@@ -28,7 +28,8 @@ pub record MayPollProceed (told : Bool) (st : Stack) (port : PortView) : Type 0 
   pub same_done : st.stage ≡ Proceeding → told ≡ st.done
 
 -- A poll of a proceed round, whatever it answers.
--- agrees, cycle: the exstack agrees with the port again, in the cycle that a proceed round leads to.
+-- agrees, cycle: the exstack agrees with the port again, in the cycle that a proceed round leads
+-- to.
 -- same: of the exstack only its stage, its links, what was popped last and whether it is done
 -- change.
 -- steps: it is these steps of the rank's part of the exchange machine.

@@ -35,9 +35,9 @@ pub record WasCollected (exchange : Bool) (old new : StackIn) (log log' : List S
 
 -- A link whose parcel is still due was asked without success: the port looked for room, or
 -- listened, in this call, and the link is crowded, or idle.
-pub record InVain (count count' : ℕ) (stuck : Bool) : Type 0 where
+pub record AskedWithoutSuccess (count count' : ℕ) (stuck : Bool) : Type 0 where
   pub rose : RoseOrFull count count'
-  pub in_vain : stuck ≡ true
+  pub still_stuck : stuck ≡ true
 
 -- The posts of a round to the first n ranks, and its collects from them, in ascending order: one
 -- for each parcel that is due as it begins.
@@ -100,7 +100,7 @@ pub record AsksOnce (begun new : Stack)
       → port'.got (stack_link_to begun b) ≡ port.got (stack_link_to begun b)
       → is_crowded port' (stack_link_to begun b) ≡ true
   pub asked : (a : ℕ) → a < begun.ranks → (stack_in_at new a).due ≡ true
-      → InVain (port.noted (stack_link_from begun a)) (port'.noted (stack_link_from begun a)) (is_idle port' (stack_link_from begun a))
+      → AskedWithoutSuccess (port.noted (stack_link_from begun a)) (port'.noted (stack_link_from begun a)) (is_idle port' (stack_link_from begun a))
   pub calls : port'.calls ≡ (port.calls ++ posts_to begun.ranks begun.rank begun.outs begun.ranks)
       ++ collects_from begun.ranks begun.rank begun.ins begun.ranks
 

@@ -11,7 +11,7 @@ ghost use Rattle.port_bank.specs.Calls.{once_if};
 ghost use Rattle.port_bank.specs.Calls.Call.{Collect};
 ghost use Rattle.port_bank.specs.Frames.{InsElsewhere};
 ghost use Rattle.exstack.specs.Links.{no_stack_in, with_first_read, with_put_back, stack_read_on, begun_in, stack_in_in_new_epoch, has_unread};
-ghost use Rattle.exstack.specs.Steps.{WasCollected, InVain, LeftByStackCollects};
+ghost use Rattle.exstack.specs.Steps.{WasCollected, AskedWithoutSuccess, LeftByStackCollects};
 
 use bale_items::{Entry, NoMemory};
 use item_buffer::Parcel;
@@ -145,7 +145,7 @@ impl<const CAP: usize> InLink<CAP> {
         requires ends_here { reader_at (P.view port.old).dims link ≡ (P.view port.old).rank }
         requires epoch { self.old.due ≡ true → lasts ((P.view port.old).got link) ≡ epoch }
         ensures moved { WasCollected exchange self.old self.new ((P.view port.old).got link) ((P.view port.new).got link) }
-        ensures in_vain { self.new.due ≡ true → InVain ((P.view port.old).noted link) ((P.view port.new).noted link)
+        ensures still_stuck { self.new.due ≡ true → AskedWithoutSuccess ((P.view port.old).noted link) ((P.view port.new).noted link)
             (is_idle (P.view port.new) link) }
         ensures calls { (P.view port.new).calls ≡ (P.view port.old).calls ++ once_if self.old.due (Collect link) }
         ensures elsewhere { InsElsewhere link (P.view port.old) (P.view port.new) }

@@ -11,7 +11,7 @@ ghost use Rattle.port_bank.specs.Calls.Call.{Post};
 ghost use Rattle.port_bank.specs.Relay.{RelayLaw};
 ghost use Rattle.port_bank.specs.Frames.{OutsElsewhere};
 ghost use Rattle.exstack.specs.Links.{no_stack_out, no_tag, with_waiting_entry, headroom_of, begun_out, stack_out_in_new_epoch};
-ghost use Rattle.exstack.specs.Steps.{WasPostedInRound, InVain, LeftByStackPosts};
+ghost use Rattle.exstack.specs.Steps.{WasPostedInRound, AskedWithoutSuccess, LeftByStackPosts};
 
 use bale_items::{Entry, NoMemory};
 use item_buffer::Parcel;
@@ -117,8 +117,8 @@ impl<const CAP: usize> OutLink<CAP> {
         requires epoch { self.old.due ≡ true → lasts ((P.view port.old).sent link) ≡ epoch }
         requires law { RelayLaw (P.view port.old).dims (P.view port.old).rank (P.view port.old).sent (P.view port.old).got }
         ensures moved { WasPostedInRound last epoch self.old self.new ((P.view port.old).sent link) ((P.view port.new).sent link) }
-        ensures in_vain { IsOk result → self.new.due ≡ true
-            → InVain ((P.view port.old).looks_out link) ((P.view port.new).looks_out link) (is_crowded (P.view port.new) link) }
+        ensures still_stuck { IsOk result → self.new.due ≡ true
+            → AskedWithoutSuccess ((P.view port.old).looks_out link) ((P.view port.new).looks_out link) (is_crowded (P.view port.new) link) }
         ensures calls { OnOk result ((P.view port.new).calls ≡ (P.view port.old).calls ++ once_if self.old.due (Post link)) }
         ensures elsewhere { OutsElsewhere link (P.view port.old) (P.view port.new) }
         ensures no_post { IsErr result → (P.view port.new).calls ≡ (P.view port.old).calls }

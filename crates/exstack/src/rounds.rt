@@ -10,7 +10,7 @@ ghost use Rattle.port_bank.specs.Relay.{RelayLaw};
 ghost use Rattle.exstack.specs.Links.{no_stack_out, no_stack_in, has_unread, begun_out, begun_in, stack_out_in_new_epoch, stack_in_in_new_epoch};
 ghost use Rattle.exstack.specs.State.{number, missing_out, least_headroom};
 ghost use Rattle.exstack.specs.Demands.{NoneBelow};
-ghost use Rattle.exstack.specs.Steps.{WasPostedInRound, WasCollected, InVain, StackStopsAt, posts_to, collects_from, LeftByStackPosts, LeftByStackCollects, IsStackPort};
+ghost use Rattle.exstack.specs.Steps.{WasPostedInRound, WasCollected, AskedWithoutSuccess, StackStopsAt, posts_to, collects_from, LeftByStackPosts, LeftByStackCollects, IsStackPort};
 
 use crate::in_link::InLink;
 use crate::out_link::OutLink;
@@ -99,9 +99,9 @@ pub fn post_all<const CAP: usize, P: Port<CAP>>(
         b no_stack_out)
         ((P.view port.old).sent (number (length outs.old.items) rank b))
         ((P.view port.new).sent (number (length outs.old.items) rank b)) }
-    ensures in_vain { IsOk result → (b : ℕ) → b < length outs.old.items
+    ensures still_stuck { IsOk result → (b : ℕ) → b < length outs.old.items
         → (slice_index_or outs.new.items b no_stack_out).due ≡ true
-        → InVain ((P.view port.old).looks_out (number (length outs.old.items) rank b))
+        → AskedWithoutSuccess ((P.view port.old).looks_out (number (length outs.old.items) rank b))
         ((P.view port.new).looks_out (number (length outs.old.items) rank b))
         (is_crowded (P.view port.new) (number (length outs.old.items) rank b)) }
     ensures calls { OnOk result ((P.view port.new).calls
@@ -136,8 +136,8 @@ pub fn collect_all<const CAP: usize, P: Port<CAP>>(
         no_stack_in)
         ((P.view port.old).got (number (length ins.old.items) a rank))
         ((P.view port.new).got (number (length ins.old.items) a rank)) }
-    ensures in_vain { (a : ℕ) → a < length ins.old.items → (slice_index_or ins.new.items a no_stack_in).due ≡ true
-        → InVain ((P.view port.old).noted (number (length ins.old.items) a rank))
+    ensures still_stuck { (a : ℕ) → a < length ins.old.items → (slice_index_or ins.new.items a no_stack_in).due ≡ true
+        → AskedWithoutSuccess ((P.view port.old).noted (number (length ins.old.items) a rank))
         ((P.view port.new).noted (number (length ins.old.items) a rank))
         (is_idle (P.view port.new) (number (length ins.old.items) a rank)) }
     ensures calls { (P.view port.new).calls

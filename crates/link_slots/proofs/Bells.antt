@@ -5,7 +5,7 @@ use Rattle.std.specs.Int.{bit_at}
 use Rattle.std.specs.Int.Bits.{bit_or, bit_and, or_add_and}
 use Rattle.link_slots.specs.Logs.{OutLog, InLog}
 use Rattle.link_slots.specs.Wiring.{Wiring, bell_word}
-use Rattle.link_slots.specs.Link.{BellOk, one_where}
+use Rattle.link_slots.specs.Link.{BellOk, bit_of}
 use Rattle.link_slots.specs.StepEffects.{heard_by, marked_by}
 
 -- a bit that is set stays set when others are set too, and the bits that are set are set
@@ -35,7 +35,7 @@ module _ {T : Type 0} (w : Wiring) where
   bell_kept l o o' i i' ws ws' offered rung looks room sent marked hears heard look_ins taken released seen bits ok = record {
     offered_sent = let h = ok.offered_sent in omega arith;
     told = ⊎_elim (λ t. inl (bits t)) (λ u. inr (⊎_elim (λ t. inl (marked ∙ t)) (λ t. inr (omega arith)) u)) ok.told;
-    looked = let h = ok.looked in let e : one_where i'.marked ≡ one_where i.marked = ap one_where marked in omega arith;
+    looked = let h = ok.looked in let e : bit_of i'.marked ≡ bit_of i.marked = ap bit_of marked in omega arith;
     rung = let h = ok.rung in omega arith;
     answered = ⊎_elim (λ t. inl (rung ∙ t ∙ sym hears)) (λ u. inr (⊎_elim (λ t. inl (marked ∙ t)) (λ t. inr (omega arith)) u)) ok.answered;
     released = let h = ok.released in omega arith;
@@ -62,7 +62,7 @@ module _ {T : Type 0} (w : Wiring) where
   bell_released l o i i' ws ws' seen marked hears heard look_ins released bits ok = let many : length i'.seen ≡ length i.seen = ap length seen in record {
     offered_sent = ok.offered_sent;
     told = ⊎_elim (λ t. inl (bits t)) (λ u. inr (⊎_elim (λ t. inl (marked ∙ t)) (λ t. inr (omega arith)) u)) ok.told;
-    looked = let h = ok.looked in let e : one_where i'.marked ≡ one_where i.marked = ap one_where marked in omega arith;
+    looked = let h = ok.looked in let e : bit_of i'.marked ≡ bit_of i.marked = ap bit_of marked in omega arith;
     rung = let h = ok.rung in omega arith;
     answered = ⊎_elim (λ t. inl (t ∙ sym hears)) (λ u. inr (⊎_elim (λ t. inl (marked ∙ t)) (λ t. inr (omega arith)) u)) ok.answered;
     released = omega arith;
@@ -75,7 +75,7 @@ module _ {T : Type 0} (w : Wiring) where
   bell_looked l o i i' ws was marked hears heard look_ins taken released seen ok = record {
     offered_sent = ok.offered_sent;
     told = inr (inr (let h = ok.offered_sent in omega arith));
-    looked = let h = ok.looked in let e : one_where i'.marked ≡ 0 = ap one_where marked in let f : one_where i.marked ≡ 1 = ap one_where was in omega arith;
+    looked = let h = ok.looked in let e : bit_of i'.marked ≡ 0 = ap bit_of marked in let f : bit_of i.marked ≡ 1 = ap bit_of was in omega arith;
     rung = let h = ok.rung in omega arith;
     answered = inr (inr (let h = ok.offered_sent in omega arith));
     released = let h = ok.released in omega arith;
@@ -95,7 +95,7 @@ module _ {T : Type 0} (w : Wiring) where
     found = ⊎_elim (λ t. inl (t ∙ sym looks)) (λ t. inr (omega arith)) ok.found;
   }
 
-  heard_case : (b : ℕ) (i : InLog T) → b < 2 → i.look_ins + one_where i.marked ≤ i.heard → (heard_by b i).look_ins + one_where (heard_by b i).marked ≤ (heard_by b i).heard
+  heard_case : (b : ℕ) (i : InLog T) → b < 2 → i.look_ins + bit_of i.marked ≤ i.heard → (heard_by b i).look_ins + bit_of (heard_by b i).marked ≤ (heard_by b i).heard
   heard_case zero i h ok = omega arith
   heard_case (suc b) i h ok = omega arith
 

@@ -2,7 +2,7 @@
 use Rattle.std.proofs.Common.{◌≡◌, ℕ, zero, suc, ◌+◌, ◌-◌, ◌<◌, ◌≤◌, Bool, true, false, not, ◌&&◌, leb, List, sym, refl, ap, ◌∙◌, subst, arith}
 use Rattle.std.proofs.Common.{le-leb, leb-true}
 use Rattle.link_slots.specs.Logs.{InLog, taken_more}
-use Rattle.link_slots.specs.Link.{one_where}
+use Rattle.link_slots.specs.Link.{bit_of}
 use Rattle.link_slots.specs.StepEffects.{heard_by, marked_by}
 use Rattle.list_laws.specs.Counts.{saturated_count}
 use Rattle.link_slots.specs.Doorbell.{is_due, HeardWhere, looked_where_marked, LookedFor}
@@ -19,8 +19,8 @@ and-false true = refl
 and-false false = refl
 
 -- a link that is marked by a hear is one whose bit was found
-marks_one : (b : ℕ) (m : Bool) → b ≤ 1 → m ≡ false → one_where (marked_by b m) ≡ b
-marks_one zero m h e = ap one_where e
+marks_one : (b : ℕ) (m : Bool) → b ≤ 1 → m ≡ false → bit_of (marked_by b m) ≡ b
+marks_one zero m h e = ap bit_of e
 marks_one (suc b) m h e = omega arith
 
 module _ {T : Type 0} where
@@ -58,11 +58,11 @@ module _ {T : Type 0} where
     where
       by_case : (d : Bool) → is_due noted i ≡ d → HeardWhere d i j → LookedFor noted i k
       by_case true is h =
-          let one : one_where (is_due noted i) ≡ 1 = ap one_where is in
+          let one : bit_of (is_due noted i) ≡ 1 = ap bit_of is in
           let unmarked : i.marked ≡ false = due_unmarked noted i is in
-          let none : one_where i.marked ≡ 0 = ap one_where unmarked in
+          let none : bit_of i.marked ≡ 0 = ap bit_of unmarked in
           let hears = ap (λ (z : InLog T). z.hears) h.0 in let heard = ap (λ (z : InLog T). z.heard) h.0 in let look_ins = ap (λ (z : InLog T). z.look_ins) h.0 in
-          let marked : one_where j.marked ≡ j.heard - i.heard = ap (λ (z : InLog T). one_where z.marked) h.0 ∙ marks_one (j.heard - i.heard) i.marked (let b = h.1 in omega arith) unmarked in
+          let marked : bit_of j.marked ≡ j.heard - i.heard = ap (λ (z : InLog T). bit_of z.marked) h.0 ∙ marks_one (j.heard - i.heard) i.marked (let b = h.1 in omega arith) unmarked in
           let k_hears = ap (λ (z : InLog T). z.hears) e in let k_heard = ap (λ (z : InLog T). z.heard) e in let k_look_ins = ap (λ (z : InLog T). z.look_ins) e in
           let b = h.1 in record {
             hears = omega arith;
@@ -72,9 +72,9 @@ module _ {T : Type 0} where
             unmarked = ap (λ (z : InLog T). z.marked) e;
           }
       by_case false is h =
-          let one : one_where (is_due noted i) ≡ 0 = ap one_where is in
+          let one : bit_of (is_due noted i) ≡ 0 = ap bit_of is in
           let hears = ap (λ (z : InLog T). z.hears) h in let heard = ap (λ (z : InLog T). z.heard) h in let look_ins = ap (λ (z : InLog T). z.look_ins) h in
-          let marked : one_where j.marked ≡ one_where i.marked = ap (λ (z : InLog T). one_where z.marked) h in
+          let marked : bit_of j.marked ≡ bit_of i.marked = ap (λ (z : InLog T). bit_of z.marked) h in
           let k_hears = ap (λ (z : InLog T). z.hears) e in let k_heard = ap (λ (z : InLog T). z.heard) e in let k_look_ins = ap (λ (z : InLog T). z.look_ins) e in record {
             hears = omega arith;
             heard = omega arith;
@@ -90,12 +90,12 @@ module _ {T : Type 0} where
   -- a look in at a link that isn't marked is none
   pub unmarked_same : (i : InLog T) → i.marked ≡ false → looked_where_marked i.seen i ≡ i
   unmarked_same i e =
-      let none : one_where i.marked ≡ 0 = ap one_where e in
-      let same : i.look_ins + one_where i.marked ≡ i.look_ins = omega arith in
+      let none : bit_of i.marked ≡ 0 = ap bit_of e in
+      let same : i.look_ins + bit_of i.marked ≡ i.look_ins = omega arith in
       λ k. record { seen = i.seen; taken = i.taken; marked = sym e k; hears = i.hears; heard = i.heard; look_ins = same k; released_at = i.released_at }
 
   pub marked_once : (seen : List T) (i : InLog T) → i.marked ≡ true → looked_where_marked seen i ≡ record { seen = seen; taken = i.taken; marked = false; hears = i.hears; heard = i.heard; look_ins = suc i.look_ins; released_at = i.released_at }
   marked_once seen i e =
-      let one : one_where i.marked ≡ 1 = ap one_where e in
-      let more : i.look_ins + one_where i.marked ≡ suc i.look_ins = omega arith in
+      let one : bit_of i.marked ≡ 1 = ap bit_of e in
+      let more : i.look_ins + bit_of i.marked ≡ suc i.look_ins = omega arith in
       λ k. record { seen = seen; taken = i.taken; marked = false; hears = i.hears; heard = i.heard; look_ins = more k; released_at = i.released_at }

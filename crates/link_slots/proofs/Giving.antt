@@ -23,7 +23,7 @@ use Rattle.link_slots.specs.Logs.{OutLog, InLog, Lists, no_out, no_in, out_of, i
 use Rattle.link_slots.specs.View.{no_logs, own_logs, logs_or, Speaks, IsAlone, without_pick, pick_alone, speaking_for, gathered}
 use Rattle.link_slots.specs.HeldSlots.{Holds}
 use Rattle.link_slots.specs.Shape.{Shape, IsShape, wiring, IsBlank}
-use Rattle.link_slots.specs.WordSteps.{Knowing}
+use Rattle.link_slots.specs.WordSteps.{TableView}
 use Rattle.link_slots.specs.OwnLinks.{IsOwn}
 use Rattle.list_laws.specs.Counts.{saturated_count}
 use Rattle.link_slots.specs.Counts.{IsOutEnd, IsInEnd, IsHeard}
@@ -68,7 +68,7 @@ module _ (shape : Shape) where
     waiting = λ l n p a b lo e. absurd (none_seen n p (ap (λ (z : InLog Contents). get_elem? z.seen n) (sym (no_in_at l)) ∙ e));
   }
 
-  new_seat : (cap : ℕ) (v : Knowing) (r : ℕ) (e : RankEnds) → IsShape shape → v.shape ≡ shape → v.pick ≡ r → r < ranks shape.dims → Speaks v → IsAlone v → own_logs v ≡ no_logs (links shape.dims) → AreNew (links shape.dims) e
+  new_seat : (cap : ℕ) (v : TableView) (r : ℕ) (e : RankEnds) → IsShape shape → v.shape ≡ shape → v.pick ≡ r → r < ranks shape.dims → Speaks v → IsAlone v → own_logs v ≡ no_logs (links shape.dims) → AreNew (links shape.dims) e
       → IsSeat cap shape (v, []) r e.outs.items e.ins.items e.ears e.ended.items
   new_seat cap v r e is of pick small speaks alone own new =
       let n : ℕ = links shape.dims in
@@ -106,7 +106,7 @@ module _ (shape : Shape) where
         each_ended = λ l d a b. ap (λ (z : List ℕ). get_or z l d) new.ended ∙ replicate_at n l 0 d a ∙ ap (λ (z : InLog Contents). saturated_count (lasts (map as_shipped (take z.taken z.seen)))) (sym (in_at l));
       }
 
-module _ (v : Knowing) (r : ℕ) (x : Lists Contents) (at : get_or v.lists r None ≡ Some x) (inside : r < length v.lists) where
+module _ (v : TableView) (r : ℕ) (x : Lists Contents) (at : get_or v.lists r None ≡ Some x) (inside : r < length v.lists) where
   pub speaks_for : Speaks (speaking_for v r)
   speaks_for = at ∙ ap Some (sym (ap logs_or at))
 
@@ -128,12 +128,12 @@ module _ (v : Knowing) (r : ℕ) (x : Lists Contents) (at : get_or v.lists r Non
   alone_speaks = alone_at ∙ ap Some (sym alone_own)
 
 -- the rank's seat
-pub given_seat : (cap : ℕ) (shape : Shape) (v : Knowing) (r : ℕ) (e : RankEnds) (m : Me Contents Knowing) → IsShape shape → v.shape ≡ shape → r < ranks shape.dims → length v.lists ≡ ranks shape.dims
+pub given_seat : (cap : ℕ) (shape : Shape) (v : TableView) (r : ℕ) (e : RankEnds) (m : Me Contents TableView) → IsShape shape → v.shape ≡ shape → r < ranks shape.dims → length v.lists ≡ ranks shape.dims
     → get_or v.lists r None ≡ Some (no_logs (links shape.dims)) → AreNew (links shape.dims) e → m ≡ (pick_alone (speaking_for v r), []) → IsSeat cap m.0.shape m r e.outs.items e.ins.items e.ears e.ended.items
 given_seat cap shape v r e m is of small many at new me =
     let inside : r < length v.lists = omega arith in
-    let shaped : m.0.shape ≡ shape = ap (λ (z : Me Contents Knowing). z.0.shape) me ∙ of in
-    subst (λ (z : Shape × Me Contents Knowing). IsSeat cap z.0 z.1 r e.outs.items e.ins.items e.ears e.ended.items) (λ k. (sym shaped k, sym me k))
+    let shaped : m.0.shape ≡ shape = ap (λ (z : Me Contents TableView). z.0.shape) me ∙ of in
+    subst (λ (z : Shape × Me Contents TableView). IsSeat cap z.0 z.1 r e.outs.items e.ins.items e.ears e.ended.items) (λ k. (sym shaped k, sym me k))
     (new_seat shape cap (pick_alone (speaking_for v r)) r e is of refl small (alone_speaks v r (no_logs (links shape.dims)) at inside) (alone_alone v r (no_logs (links shape.dims)) at inside) (alone_own v r (no_logs (links shape.dims)) at inside) new)
 
 read_none : {A : Type 0} (l : List (Option A)) (i : ℕ) → get_or (set l i None) i None ≡ None
@@ -142,14 +142,14 @@ read_none (x ∷ xs) zero = refl
 read_none (x ∷ xs) (suc i) = read_none xs i
 
 -- what is left with the gathering seat
-pub left_gathering : (shape : Shape) (m m' : Me Contents Knowing) (ends : List (Option RankEnds)) (ended : List (Option EndedCounts)) (r : ℕ) → IsGathering shape m ends ended → m' ≡ (without_pick (speaking_for m.0 r), m.1) → IsGathering m'.0.shape m' (set ends r None) (set ended r None)
+pub left_gathering : (shape : Shape) (m m' : Me Contents TableView) (ends : List (Option RankEnds)) (ended : List (Option EndedCounts)) (r : ℕ) → IsGathering shape m ends ended → m' ≡ (without_pick (speaking_for m.0 r), m.1) → IsGathering m'.0.shape m' (set ends r None) (set ended r None)
 left_gathering shape m m' ends ended r is me =
-    let shaped : m'.0.shape ≡ shape = ap (λ (z : Me Contents Knowing). z.0.shape) me ∙ is.of in
-    let lists : m'.0.lists ≡ set m.0.lists r None = ap (λ (z : Me Contents Knowing). z.0.lists) me in
+    let shaped : m'.0.shape ≡ shape = ap (λ (z : Me Contents TableView). z.0.shape) me ∙ is.of in
+    let lists : m'.0.lists ≡ set m.0.lists r None = ap (λ (z : Me Contents TableView). z.0.lists) me in
     subst (λ (z : Shape). IsGathering z m' (set ends r None) (set ended r None)) (sym shaped) (record {
       shaped = is.shaped;
       of = shaped;
-      no_slots = ap (λ (z : Me Contents Knowing). z.1) me ∙ is.no_slots;
+      no_slots = ap (λ (z : Me Contents TableView). z.1) me ∙ is.no_slots;
       lists_many = ap length lists ∙ length-set m.0.lists r None ∙ is.lists_many;
       ends_many = length-set ends r None ∙ is.ends_many;
       each_new = λ q e h. ⊎_elim (λ t. absurd (no_some e t.1))
@@ -172,17 +172,17 @@ pub rank_word : (shape : Shape) (r : ℕ) → IsGrid shape.dims → r < ranks sh
 rank_word shape r g h = let f = g.some in let p : ranks shape.dims * 1 ≤ ranks shape.dims * length shape.dims = mul-le-mul_left (ranks shape.dims) f in let q = mul-one (ranks shape.dims) in omega arith
 
 -- what the gathering seat has after it took in a rank's view
-pub more_gathered : (shape : Shape) (m m' : Me Contents Knowing) (u : Knowing) (ends : List (Option RankEnds)) (ended : List (Option EndedCounts)) (e : EndedCounts) → IsGathering shape m ends ended → u.shape ≡ shape → u.pick < ranks shape.dims → Speaks u → IsOwn shape.dims u.pick (own_logs u)
+pub more_gathered : (shape : Shape) (m m' : Me Contents TableView) (u : TableView) (ends : List (Option RankEnds)) (ended : List (Option EndedCounts)) (e : EndedCounts) → IsGathering shape m ends ended → u.shape ≡ shape → u.pick < ranks shape.dims → Speaks u → IsOwn shape.dims u.pick (own_logs u)
     → ((l : ℕ) → l < links shape.dims → reader_at shape.dims l ≡ u.pick → get_or e.counts.items l 0 ≡ saturated_count (lasts (map as_shipped (got_of (own_logs u) l))))
     → m' ≡ (gathered m.0 u, m.1) → IsGathering m'.0.shape m' (set ends u.pick None) (set ended u.pick (Some e))
 more_gathered shape m m' u ends ended e is of small speaks own counts me =
     let r : ℕ = u.pick in
-    let shaped : m'.0.shape ≡ shape = ap (λ (z : Me Contents Knowing). z.0.shape) me ∙ of in
-    let lists : m'.0.lists ≡ set m.0.lists r (Some (own_logs u)) = ap (λ (z : Me Contents Knowing). z.0.lists) me ∙ ap (set m.0.lists r) speaks in
+    let shaped : m'.0.shape ≡ shape = ap (λ (z : Me Contents TableView). z.0.shape) me ∙ of in
+    let lists : m'.0.lists ≡ set m.0.lists r (Some (own_logs u)) = ap (λ (z : Me Contents TableView). z.0.lists) me ∙ ap (set m.0.lists r) speaks in
     subst (λ (z : Shape). IsGathering z m' (set ends r None) (set ended r (Some e))) (sym shaped) (record {
       shaped = is.shaped;
       of = shaped;
-      no_slots = ap (λ (z : Me Contents Knowing). z.1) me ∙ is.no_slots;
+      no_slots = ap (λ (z : Me Contents TableView). z.1) me ∙ is.no_slots;
       lists_many = ap length lists ∙ length-set m.0.lists r (Some (own_logs u)) ∙ is.lists_many;
       ends_many = length-set ends r None ∙ is.ends_many;
       each_new = λ q f h. ⊎_elim (λ t. absurd (no_some f t.1))

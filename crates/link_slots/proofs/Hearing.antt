@@ -15,7 +15,7 @@ use Rattle.link_slots.specs.StepEffects.{after_hear, heard_by, marked_by}
 use lib.ListN.{get_elem?}
 use Rattle.link_slots.specs.Shape.{Shape, IsShape, wiring, MayFollow}
 use Rattle.list_laws.specs.Counts.{saturated_count}
-use Rattle.link_slots.specs.Counts.{IsHeard, ElseKept, AreGood, noted_by}
+use Rattle.link_slots.specs.Counts.{IsHeard, KeepsOtherLinks, AreGood, noted_by}
 use Rattle.link_slots.proofs.Listening.{heard_kept, heard_risen, heard_here, heard_else, length-map_from}
 use Rattle.link_slots.proofs.Wires.{wired, same_bell}
 use Rattle.link_slots.proofs.Moves.{in_here, in_there}
@@ -74,7 +74,7 @@ module _ (shape : Shape) (is : IsShape shape) (rank l : ℕ) (inside : l < links
         → in_of (after_hear (wiring shape) ((wiring shape).bell l) n x) m ≡ heard_by (bit_at n ((wiring shape).bit m)) (in_of x m)
     heard_at m h r e = heard_here (wiring shape) ((wiring shape).bell l) n x.ins m (omega arith) (one_bell m r e)
 
-    pub heard_elsewhere : ElseKept shape rank l x (after_hear (wiring shape) ((wiring shape).bell l) n x)
+    pub heard_elsewhere : KeepsOtherLinks shape rank l x (after_hear (wiring shape) ((wiring shape).bell l) n x)
     heard_elsewhere = record {
       outs = refl;
       long = length-map_from _ 0 x.ins;
@@ -93,7 +93,7 @@ module _ (shape : Shape) (is : IsShape shape) (rank l : ℕ) (inside : l < links
     }
 
   -- a change of l alone
-  pub in_elsewhere : (i : InLog Contents) → ElseKept shape rank l x (with_in x l i)
+  pub in_elsewhere : (i : InLog Contents) → KeepsOtherLinks shape rank l x (with_in x l i)
   in_elsewhere i = record {
     outs = refl;
     long = length-set x.ins l i;
@@ -122,7 +122,7 @@ module _ (shape : Shape) (is : IsShape shape) (rank l : ℕ) (inside : l < links
         }
 
 -- one step after another
-pub else_kept : (shape : Shape) (rank l : ℕ) (x y z : Lists Contents) → ElseKept shape rank l x y → ElseKept shape rank l y z → ElseKept shape rank l x z
+pub else_kept : (shape : Shape) (rank l : ℕ) (x y z : Lists Contents) → KeepsOtherLinks shape rank l x y → KeepsOtherLinks shape rank l y z → KeepsOtherLinks shape rank l x z
 else_kept shape rank l x y z a b = record {
   outs = b.outs ∙ a.outs;
   long = b.long ∙ a.long;
@@ -134,7 +134,7 @@ else_kept shape rank l x y z a b = record {
 }
 
 -- no step
-pub else_same : (shape : Shape) (rank l : ℕ) (x : Lists Contents) → ElseKept shape rank l x x
+pub else_same : (shape : Shape) (rank l : ℕ) (x : Lists Contents) → KeepsOtherLinks shape rank l x x
 else_same shape rank l x = record {
   outs = refl;
   long = refl;

@@ -11,7 +11,7 @@ pub mod Listening
 pub mod Seats
 pub mod Opening
 pub mod Wires
-pub mod Manning
+pub mod HeldSeats
 pub mod Tells
 pub mod Counting
 pub mod Hearing

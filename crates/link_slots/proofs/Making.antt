@@ -24,7 +24,7 @@ use Rattle.list_laws.specs.Counts.{saturated_count}
 use Rattle.link_slots.specs.View.{first_view, no_logs, logs_or}
 use Rattle.link_slots.specs.ClosedBank.{logs_at, ended_of}
 use Rattle.link_slots.specs.Shape.{Shape, IsShape, wiring, IsBlank, MayFollow, KeepsLaw}
-use Rattle.link_slots.specs.WordSteps.{Knowing, IsLawful}
+use Rattle.link_slots.specs.WordSteps.{TableView, IsLawful}
 use Rattle.link_slots.specs.Gathering.{IsGathering, AreNew, HasNew, is_gone}
 use Rattle.link_slots.proofs.Opening.{opens, no_sent, no_got, same_some, some_there}
 use Rattle.link_slots.proofs.Wires.{wired}
@@ -73,21 +73,21 @@ in_range [] r x e = absurd (let n : None ≡ Some x = e in cc)
 in_range (y ∷ ys) zero x e = omega arith
 in_range (y ∷ ys) (suc r) x e = let h = in_range ys r x e in omega arith
 
-pub first_gathering : (shape : Shape) (m : Me Contents Knowing) (ends : List (Option RankEnds)) (ended : List (Option EndedCounts)) → IsShape shape → m ≡ (first_view shape (ranks shape.dims) (links shape.dims), []) → length ends ≡ ranks shape.dims → All (HasNew (links shape.dims)) ends → ended ≡ replicate (ranks shape.dims) None
+pub first_gathering : (shape : Shape) (m : Me Contents TableView) (ends : List (Option RankEnds)) (ended : List (Option EndedCounts)) → IsShape shape → m ≡ (first_view shape (ranks shape.dims) (links shape.dims), []) → length ends ≡ ranks shape.dims → All (HasNew (links shape.dims)) ends → ended ≡ replicate (ranks shape.dims) None
     → IsGathering m.0.shape m ends ended
 first_gathering shape m ends ended is me many new none =
-    let shaped : m.0.shape ≡ shape = ap (λ (z : Me Contents Knowing). z.0.shape) me in
+    let shaped : m.0.shape ≡ shape = ap (λ (z : Me Contents TableView). z.0.shape) me in
     subst (λ (z : Shape). IsGathering z m ends ended) (sym shaped) (record {
       shaped = is;
       of = shaped;
-      no_slots = ap (λ (z : Me Contents Knowing). z.1) me;
-      lists_many = ap (λ (z : Me Contents Knowing). length z.0.lists) me ∙ length-replicate (ranks shape.dims) _;
+      no_slots = ap (λ (z : Me Contents TableView). z.1) me;
+      lists_many = ap (λ (z : Me Contents TableView). length z.0.lists) me ∙ length-replicate (ranks shape.dims) _;
       ends_many = many;
       each_new = λ r e at. (
         kept_new (links shape.dims) ends r e new at,
-        ap (λ (z : Me Contents Knowing). get_or z.0.lists r None) me ∙ some_there (ranks shape.dims) r (no_logs (links shape.dims)) (let h = in_range ends r e at in omega arith),
+        ap (λ (z : Me Contents TableView). get_or z.0.lists r None) me ∙ some_there (ranks shape.dims) r (no_logs (links shape.dims)) (let h = in_range ends r e at in omega arith),
       );
-      each_own = λ r x at. let same : x ≡ no_logs (links shape.dims) = same_some (ranks shape.dims) r (no_logs (links shape.dims)) x (sym (ap (λ (z : Me Contents Knowing). get_or z.0.lists r None) me) ∙ at) in
+      each_own = λ r x at. let same : x ≡ no_logs (links shape.dims) = same_some (ranks shape.dims) r (no_logs (links shape.dims)) x (sym (ap (λ (z : Me Contents TableView). get_or z.0.lists r None) me) ∙ at) in
           subst (IsOwn shape.dims r) (sym same) (record {
             outs = length-replicate (links shape.dims) _;
             ins = length-replicate (links shape.dims) _;
@@ -96,7 +96,7 @@ first_gathering shape m ends ended is me many new none =
           });
       ended_many = ap length none ∙ length-replicate (ranks shape.dims) None;
       each_ended = λ r l a b. ap (λ (z : List (Option EndedCounts)). ended_of (get_or z r None) l) none ∙ ap (λ (z : Option EndedCounts). ended_of z l) (nones (ranks shape.dims) r)
-          ∙ ap (λ (z : List Contents). saturated_count (lasts (map as_shipped z))) (sym (ap (λ (z : Me Contents Knowing). got_of (logs_at z.0.lists r) l) me ∙ nothing_got (links shape.dims) (ranks shape.dims) r l));
+          ∙ ap (λ (z : List Contents). saturated_count (lasts (map as_shipped z))) (sym (ap (λ (z : Me Contents TableView). got_of (logs_at z.0.lists r) l) me ∙ nothing_got (links shape.dims) (ranks shape.dims) r l));
     })
   where
     nothing_got : (n k r l : ℕ) → ◌≡◌ {A = List Contents} (got_of (logs_or (get_or (replicate k (Some (no_logs n))) r None)) l) []

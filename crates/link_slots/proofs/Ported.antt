@@ -27,7 +27,7 @@ use Rattle.port_bank.proofs.Channels.{changed-here, changed-other}
 use Rattle.port_bank.proofs.Kept.{added-other}
 use Rattle.port_bank.proofs.Fronts.{begins_map, begins_trans}
 use Rattle.link_slots.specs.Logs.{OutLog, InLog, out_of, in_of, got, with_out, sent_of, no_out}
-use Rattle.link_slots.specs.SeatView.{Manning, posted_on, collected_from, freed_on, known_on, listens_on, noted_at, table_name, port_view}
+use Rattle.link_slots.specs.SeatView.{SeatView, posted_on, collected_from, freed_on, known_on, listens_on, noted_at, table_name, port_view}
 use Rattle.atomic_table.specs.Seated.{TableId}
 use Rattle.link_slots.proofs.Moves.{out_there}
 use Rattle.link_slots.proofs.Seating.{added_is}
@@ -44,9 +44,9 @@ pub got_else : (a : Collected) (f f' : Posts) (l : ℕ) (p : Shipped) → (a ≡
 got_else Got f f' l p more same m ne = ap (λ (z : Posts). z m) (more refl) ∙ added-other f l m p ne
 got_else Nothing f f' l p more same m ne = ap (λ (z : Posts). z m) (same refl)
 
-module _ (s s' : Manning) (l : ℕ) (here : s' ≡ record s { lists = with_out s.lists l (out_of s'.lists l) }) where
+module _ (s s' : SeatView) (l : ℕ) (here : s' ≡ record s { lists = with_out s.lists l (out_of s'.lists l) }) where
   elsewhere : (m : ℕ) → m ≢ l → out_of s'.lists m ≡ out_of s.lists m
-  elsewhere m ne = ap (λ (z : Manning). out_of z.lists m) here ∙ out_there s.lists l (out_of s'.lists l) m ne
+  elsewhere m ne = ap (λ (z : SeatView). out_of z.lists m) here ∙ out_there s.lists l (out_of s'.lists l) m ne
 
   pub crowded_changed : ◌≡◌ {A = ℕ → Bool} (λ m. eqb (length (posted_on s' m)) (freed_on s' m + s'.shape.slots)) (changed (λ m. eqb (length (posted_on s m)) (freed_on s m + s.shape.slots)) l (eqb (length (posted_on s' l)) (freed_on s' l + s'.shape.slots)))
   crowded_changed = one_changed (λ m. eqb (length (posted_on s m)) (freed_on s m + s.shape.slots)) (λ m. eqb (length (posted_on s' m)) (freed_on s' m + s'.shape.slots)) l
@@ -62,14 +62,14 @@ one_bank a b e =
     λ k. record { words = at 0 k; slots = at 1 k; views_name = at 2 k; atom = at 3 k; block = at 4 k; offset = at 5 k; slot_names = ap (λ (z : List ℕ). drop 6 z) e k }
 
 -- what was collected is a prefix of what was posted, where what was seen is
-pub got_begins : (s : Manning) (l : ℕ) → IsPrefix (in_of s.lists l).seen (out_of s.lists l).sent → IsPrefix (collected_from s l) (posted_on s l)
+pub got_begins : (s : SeatView) (l : ℕ) → IsPrefix (in_of s.lists l).seen (out_of s.lists l).sent → IsPrefix (collected_from s l) (posted_on s l)
 got_begins s l own =
     let i : InLog Contents = in_of s.lists l in
     let o : OutLog Contents = out_of s.lists l in
     begins_map as_shipped (got i) o.sent (begins_trans (got i) i.seen o.sent (record { rest = drop i.taken i.seen; is = sym (take-append-drop i.taken i.seen) }) own)
 
 -- a link whose parcels posted are all that its room allows has no slot free
-pub none_free : (s : Manning) (l : ℕ) → length (out_of s.lists l).sent ≤ (out_of s.lists l).room → (length (out_of s.lists l).sent < (out_of s.lists l).room → ⊥) → s.shape.slots ≤ length (out_of s.lists l).sent
+pub none_free : (s : SeatView) (l : ℕ) → length (out_of s.lists l).sent ≤ (out_of s.lists l).room → (length (out_of s.lists l).sent < (out_of s.lists l).room → ⊥) → s.shape.slots ≤ length (out_of s.lists l).sent
     → eqb (length (posted_on s l)) (freed_on s l + s.shape.slots) ≡ true
 none_free s l within held many =
     let o : OutLog Contents = out_of s.lists l in
@@ -80,7 +80,7 @@ none_free s l within held many =
     ]
 
 -- a reader that has not collected all that it knows of has collected fewer
-pub more_known : (s : Manning) (l : ℕ) → eqb (length (collected_from s l)) (known_on s l) ≡ false → length (collected_from s l) < known_on s l
+pub more_known : (s : SeatView) (l : ℕ) → eqb (length (collected_from s l)) (known_on s l) ≡ false → length (collected_from s l) < known_on s l
 more_known s l some =
     let i : InLog Contents = in_of s.lists l in
     let size : length (collected_from s l) ≡ length (got i) = length-map (got i) as_shipped in
@@ -95,10 +95,10 @@ posts_none : (r : Posted) → (◌≡◌ {A = Result Posted NoMemory} (Ok r) (Ok
 posts_none Sent not = absurd (not refl)
 posts_none NoRoom not = refl
 
-module _ (s s' : Manning) (l : ℕ) (p p' : Contents) (r : Posted) (cs cs' : List Call) (here : s' ≡ record s { lists = with_out s.lists l (out_of s'.lists l) })
+module _ (s s' : SeatView) (l : ℕ) (p p' : Contents) (r : Posted) (cs cs' : List Call) (here : s' ≡ record s { lists = with_out s.lists l (out_of s'.lists l) })
     (h : HasPosted s.shape.slots (out_of s.lists l) (out_of s'.lists l) p r) where
   shape_same : s'.shape ≡ s.shape
-  shape_same = ap (λ (z : Manning). z.shape) here
+  shape_same = ap (λ (z : SeatView). z.shape) here
 
   looks_rise : (m : ℕ) → (out_of s.lists m).looks ≤ (out_of s'.lists m).looks
   looks_rise m = dite (ℕ_discrete m l) (λ e. subst (λ (z : ℕ). (out_of s.lists z).looks ≤ (out_of s'.lists z).looks) (sym e) h.looks)
@@ -136,7 +136,7 @@ module _ (s s' : Manning) (l : ℕ) (p p' : Contents) (r : Posted) (cs cs' : Lis
       let full = none_free s l within held (omega (arith, h.full is, h.all_room is)) in cc
 
   idle_same : is_idle (port_view s' cs') ≡ is_idle (port_view s cs)
-  idle_same = ap (λ (z : Manning). is_idle (port_view z cs)) here
+  idle_same = ap (λ (z : SeatView). is_idle (port_view z cs)) here
 
   pub port_posts : l < length s.lists.outs → (r ≡ Sent → p' ≡ blank p.epoch) → ((out_of s'.lists l).room ≡ 0) ⊎ (s.shape.slots ≤ (out_of s'.lists l).room)
       → length (out_of s.lists l).sent ≤ (out_of s.lists l).room → (r ≡ NoRoom → p' ≡ p) → cs' ≡ cs ++ Post l ∷ []
@@ -160,15 +160,15 @@ module _ (s s' : Manning) (l : ℕ) (p p' : Contents) (r : Posted) (cs cs' : Lis
         looks_here = one_changed (λ m. (out_of s.lists m).looks) (λ m. (out_of s'.lists m).looks) l (λ m ne. ap (λ (o : OutLog Contents). o.looks) (elsewhere s s' l here m ne));
         same_ins = record { got = ap collected_from here; looks_in = ap listens_on here; listens = ap listens_on here; noted = ap noted_at here };
         same_port = record {
-          rank = ap (λ (z : Manning). z.rank) here;
-          dims = ap (λ (z : Manning). z.shape.dims) here;
-          slots = ap (λ (z : Manning). z.shape.slots) here;
-          others = ap (λ (z : Manning). (port_view z cs).others) here;
+          rank = ap (λ (z : SeatView). z.rank) here;
+          dims = ap (λ (z : SeatView). z.shape.dims) here;
+          slots = ap (λ (z : SeatView). z.shape.slots) here;
+          others = ap (λ (z : SeatView). (port_view z cs).others) here;
         };
       }
 
 -- and what its collect is
-module _ (cap : ℕ) (s s' : Manning) (l : ℕ) (p p' : Contents) (r : Collected) (cs cs' : List Call) (c : SeatCollects cap s s' l p r p') (d : DidCollect s s' l r) where
+module _ (cap : ℕ) (s s' : SeatView) (l : ℕ) (p p' : Contents) (r : Collected) (cs cs' : List Call) (c : SeatCollects cap s s' l p r p') (d : DidCollect s s' l r) where
   got_same : (m : ℕ) → m ≢ l → collected_from s' m ≡ collected_from s m
   got_same = got_else r (collected_from s) (collected_from s') l (as_shipped p') c.got c.not_got
 
@@ -200,12 +200,12 @@ module _ (cap : ℕ) (s s' : Manning) (l : ℕ) (p p' : Contents) (r : Collected
         idle_here = one_changed (is_idle (port_view s cs)) (is_idle (port_view s' cs')) l (λ m ne k. eqb (length (got_same m ne k)) (c.known_elsewhere m ne k));
         same_outs = record { sent = outs_same; looks_out = λ k m. (get_or (d.outs k) m no_out).looks };
         same_port = record {
-          rank = ap (λ (z : Manning). z.rank) d.here;
-          dims = ap (λ (z : Manning). z.shape.dims) d.here;
-          slots = ap (λ (z : Manning). z.shape.slots) d.here;
-          others = ap (λ (z : Manning). (port_view z cs).others) d.here;
+          rank = ap (λ (z : SeatView). z.rank) d.here;
+          dims = ap (λ (z : SeatView). z.shape.dims) d.here;
+          slots = ap (λ (z : SeatView). z.shape.slots) d.here;
+          others = ap (λ (z : SeatView). (port_view z cs).others) d.here;
         };
       }
     where
       crowded_same : is_crowded (port_view s' cs') ≡ is_crowded (port_view s cs)
-      crowded_same = λ k m. eqb (length (outs_same k m)) ((get_or (d.outs k) m no_out).room - (ap (λ (z : Manning). z.shape.slots) d.here k) + ap (λ (z : Manning). z.shape.slots) d.here k)
+      crowded_same = λ k m. eqb (length (outs_same k m)) ((get_or (d.outs k) m no_out).room - (ap (λ (z : SeatView). z.shape.slots) d.here k) + ap (λ (z : SeatView). z.shape.slots) d.here k)

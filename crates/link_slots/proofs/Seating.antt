@@ -29,9 +29,9 @@ use Rattle.link_slots.specs.declared.seat.ear.Ear.{Ear}
 use Rattle.link_slots.specs.Logs.{OutLog, InLog, Lists, out_of, in_of, with_out, sent_of, got_of, got, sent_more, no_out, listens}
 use Rattle.link_slots.specs.View.{own_logs, with_logs}
 use Rattle.link_slots.specs.Shape.{Shape, MayFollow, KeepsLaw, shipped_all}
-use Rattle.link_slots.specs.WordSteps.{Knowing, IsManned}
+use Rattle.link_slots.specs.WordSteps.{TableView, HoldsSeat}
 use Rattle.list_laws.specs.Counts.{saturated_count}
-use Rattle.link_slots.specs.Counts.{IsOutEnd, IsInEnd, IsHeard, AreGood, ElseKept, ended_after, noted_by}
+use Rattle.link_slots.specs.Counts.{IsOutEnd, IsInEnd, IsHeard, AreGood, KeepsOtherLinks, ended_after, noted_by}
 use Rattle.link_slots.specs.Seat.{IsSeat}
 use Rattle.link_slots.proofs.Moves.{own_with, out_here, out_there}
 use Rattle.link_slots.proofs.Hearing.{good_same, heard_same}
@@ -73,7 +73,7 @@ may_follow dims cap r l x p inside mine fresh back within epoch law = record {
   dated = epoch;
 }
 
-module _ (cap : ℕ) (shape : Shape) (m m' : Me Contents Knowing) (rank l : ℕ) (outs : List OutEnd) (ins : List InEnd) (ears : List Ear) (ended : List ℕ) (is : IsSeat cap shape m rank outs ins ears ended) (manned : IsManned shape m') (inside : l < links shape.dims) where
+module _ (cap : ℕ) (shape : Shape) (m m' : Me Contents TableView) (rank l : ℕ) (outs : List OutEnd) (ins : List InEnd) (ears : List Ear) (ended : List ℕ) (is : IsSeat cap shape m rank outs ins ears ended) (manned : HoldsSeat shape m') (inside : l < links shape.dims) where
   pub seat_posted : (e : OutEnd) → m'.0 ≡ with_logs m.0 (with_out (own_logs m.0) l (out_of (own_logs m'.0) l)) → sender_at shape.dims l ≡ rank → IsOutEnd shape.slots (out_of (own_logs m'.0) l) e.sent e.spare
       → IsSeat cap m'.0.shape m' rank (set outs l e) ins ears ended
   seat_posted e here mine counts =
@@ -84,15 +84,15 @@ module _ (cap : ℕ) (shape : Shape) (m m' : Me Contents Knowing) (rank l : ℕ)
       subst (λ (z : Shape). IsSeat cap z m' rank (set outs l e) ins ears ended) (sym manned.of) (record {
         shaped = is.shaped;
         manned = manned;
-        alone = λ r ne. let other : r ≢ m.0.pick = λ e. ne (e ∙ sym (ap (λ (v : Knowing). v.pick) here)) in
-            ap (λ (z : Knowing). get_or z.lists r None) here ∙ get_or-set_other m.0.lists m.0.pick r (Some (with_out (own_logs m.0) l o)) None other ∙ is.alone r other;
+        alone = λ r ne. let other : r ≢ m.0.pick = λ e. ne (e ∙ sym (ap (λ (v : TableView). v.pick) here)) in
+            ap (λ (z : TableView). get_or z.lists r None) here ∙ get_or-set_other m.0.lists m.0.pick r (Some (with_out (own_logs m.0) l o)) None other ∙ is.alone r other;
         own = record {
           outs = ap (λ (z : Lists Contents). length z.outs) own ∙ length-set (own_logs m.0).outs l o ∙ is.lists_out;
           ins = ap (λ (z : Lists Contents). length z.ins) own ∙ is.lists_in;
           sent = λ k ne. ap (λ (z : OutLog Contents). z.sent) (outs_else k (λ e. ne (ap (sender_at shape.dims) e ∙ mine))) ∙ is.own.sent k ne;
           got = λ k ne. ap (λ (z : InLog Contents). got z) (ins_same k) ∙ is.own.got k ne;
         };
-        rank_is = ap (λ (v : Knowing). v.pick) here ∙ is.rank_is;
+        rank_is = ap (λ (v : TableView). v.pick) here ∙ is.rank_is;
         rank_small = is.rank_small;
         outs_many = length-set outs l e ∙ is.outs_many;
         ins_many = is.ins_many;
@@ -109,7 +109,7 @@ module _ (cap : ℕ) (shape : Shape) (m m' : Me Contents Knowing) (rank l : ℕ)
         each_ended = λ k d a b. is.each_ended k d a b ∙ ap (λ (i : InLog Contents). saturated_count (lasts (map as_shipped (got i)))) (sym (ins_same k));
       })
 
-  pub seat_collected : (e : InEnd) (ear : Ear) (hop now : ℕ) → m'.0 ≡ with_logs m.0 (own_logs m'.0) → ElseKept shape m.0.pick l (own_logs m.0) (own_logs m'.0) → reader_at shape.dims l ≡ rank
+  pub seat_collected : (e : InEnd) (ear : Ear) (hop now : ℕ) → m'.0 ≡ with_logs m.0 (own_logs m'.0) → KeepsOtherLinks shape m.0.pick l (own_logs m.0) (own_logs m'.0) → reader_at shape.dims l ≡ rank
       → IsInEnd shape.slots (in_of (own_logs m'.0) l) e.taken e.waiting e.noted → IsHeard shape m.0.pick (hop_at shape.dims l) (own_logs m'.0) ear.marks ear.hears → hop_at shape.dims l ≡ hop + 1
       → AreGood cap shape l (in_of (own_logs m'.0) l) → now ≡ saturated_count (lasts (map as_shipped (got_of (own_logs m'.0) l)))
       → IsSeat cap m'.0.shape m' rank outs (set ins l e) (set ears hop ear) (set ended l now)
@@ -119,15 +119,15 @@ module _ (cap : ℕ) (shape : Shape) (m m' : Me Contents Knowing) (rank l : ℕ)
       subst (λ (z : Shape). IsSeat cap z m' rank outs (set ins l e) (set ears hop ear) (set ended l now)) (sym manned.of) (record {
         shaped = is.shaped;
         manned = manned;
-        alone = λ r ne. let other : r ≢ m.0.pick = λ e. ne (e ∙ sym (ap (λ (v : Knowing). v.pick) here)) in
-            ap (λ (z : Knowing). get_or z.lists r None) here ∙ get_or-set_other m.0.lists m.0.pick r (Some y') None other ∙ is.alone r other;
+        alone = λ r ne. let other : r ≢ m.0.pick = λ e. ne (e ∙ sym (ap (λ (v : TableView). v.pick) here)) in
+            ap (λ (z : TableView). get_or z.lists r None) here ∙ get_or-set_other m.0.lists m.0.pick r (Some y') None other ∙ is.alone r other;
         own = record {
           outs = ap length others.outs ∙ is.lists_out;
           ins = others.long ∙ is.lists_in;
           sent = λ k ne. ap (λ (z : OutLog Contents). z.sent) (outs_same k) ∙ is.own.sent k ne;
           got = λ k ne. let other : k ≢ l = λ e. ne (ap (reader_at shape.dims) e ∙ mine) in (λ j. take (others.taken k other j) (others.seen k other j)) ∙ is.own.got k ne;
         };
-        rank_is = ap (λ (v : Knowing). v.pick) here ∙ is.rank_is;
+        rank_is = ap (λ (v : TableView). v.pick) here ∙ is.rank_is;
         rank_small = is.rank_small;
         outs_many = is.outs_many;
         ins_many = length-set ins l e ∙ is.ins_many;
@@ -161,7 +161,7 @@ module _ (cap : ℕ) (shape : Shape) (m m' : Me Contents Knowing) (rank l : ℕ)
 take_front : (n : ℕ) (a b : List Contents) → n ≤ length a → take (length a) b ≡ a → take n b ≡ take n a
 take_front n a b h e = ap (take n) (sym (take-append-drop (length a) b) ∙ ap (λ (z : List Contents). z ++ drop (length a) b) e) ∙ take-append-le n a (drop (length a) b) h
 
-module _ (shape : Shape) (rank l : ℕ) (x x' : Lists Contents) (others : ElseKept shape rank l x x') (below : (in_of x l).taken ≤ length (in_of x l).seen) (front : take (length (in_of x l).seen) (in_of x' l).seen ≡ (in_of x l).seen) where
+module _ (shape : Shape) (rank l : ℕ) (x x' : Lists Contents) (others : KeepsOtherLinks shape rank l x x') (below : (in_of x l).taken ≤ length (in_of x l).seen) (front : take (length (in_of x l).seen) (in_of x' l).seen ≡ (in_of x l).seen) where
   pub got_elsewhere : (k : ℕ) → k ≢ l → got_of x' k ≡ got_of x k
   got_elsewhere k ne = λ j. take (others.taken k ne j) (others.seen k ne j)
 

@@ -152,12 +152,12 @@ module _ {D T : Type 0} (Blank : T → Type 0) (Good : ℕ → List T → T → 
         old.2,
       )))
 
-  pub join : (nowhere : D) (id other : ℕ) (v u : View D T) → Speaks u → IsAlone u → u.pick < length v.lists → Joins Rule id v other u (gathered v u) (spent nowhere)
-  join nowhere id other v u speaks alone long s ok at ne at_other =
+  pub join : (no_shape : D) (id other : ℕ) (v u : View D T) → Speaks u → IsAlone u → u.pick < length v.lists → Joins Rule id v other u (gathered v u) (spent no_shape)
+  join no_shape id other v u speaks alone long s ok at ne at_other =
       let there : get_elem? s.views other ≡ some u = ⊎_elim (λ t. absurd (ne t.0)) (λ t. t.1) (at_set s.views id other (gathered v u) u at_other) in
       let known = ok.each_seat other u there u.pick (own_logs u) speaks in
       let owner : ℕ → ℕ = put ok.owner u.pick id in
-      reseated s ok owner (set (set s.views id (gathered v u)) other (spent nowhere)) (λ j z found r x e. ⊎_elim
+      reseated s ok owner (set (set s.views id (gathered v u)) other (spent no_shape)) (λ j z found r x e. ⊎_elim
       (λ t. absurd (no_some x (ap (λ (y : View D T). get_or y.lists r None) t.1 ∙ e)))
       (λ t. ⊎_elim
       (λ q. let e' : get_or (set v.lists u.pick (get_or u.lists u.pick None)) r None ≡ Some x = ap (λ (y : View D T). get_or y.lists r None) q.1 ∙ e in
@@ -169,11 +169,11 @@ module _ {D T : Type 0} (Blank : T → Type 0) (Good : ℕ → List T → T → 
       let apart : r ≢ u.pick = λ same. t.0 (sym old.0 ∙ ap ok.owner same ∙ known.0) in
       (put_else ok.owner u.pick id r apart ∙ old.0, old.1, old.2))
       (at_set s.views id j (gathered v u) z t.1))
-      (at_set (set s.views id (gathered v u)) other j (spent nowhere) z found))
+      (at_set (set s.views id (gathered v u)) other j (spent no_shape) z found))
       (λ r h. dite (ℕ_discrete r u.pick)
       (λ e. (
         gathered v u,
-        ap (get_elem? (set (set s.views id (gathered v u)) other (spent nowhere))) (ap owner e ∙ put_here ok.owner u.pick id) ∙ set_else (set s.views id (gathered v u)) other id (spent nowhere) (λ q. ne (sym q))
+        ap (get_elem? (set (set s.views id (gathered v u)) other (spent no_shape))) (ap owner e ∙ put_here ok.owner u.pick id) ∙ set_else (set s.views id (gathered v u)) other id (spent no_shape) (λ q. ne (sym q))
             ∙ set_here s.views id (gathered v u) (at_inside s.views id v at),
         ap (λ (z : ℕ). get_or (set v.lists u.pick (get_or u.lists u.pick None)) z None) e ∙ get_or-set_same v.lists u.pick (get_or u.lists u.pick None) None long ∙ speaks ∙ ap Some (known.1 ∙ ap ok.logs (sym e)),
       ))
@@ -182,6 +182,6 @@ module _ {D T : Type 0} (Blank : T → Type 0) (Good : ℕ → List T → T → 
       let kept = still_owned s ok id v (gathered v u) at r h (λ _. get_or-set_other v.lists u.pick r (get_or u.lists u.pick None) None n) in
       let apart : ok.owner r ≢ other = λ q. no_some (ok.logs r) (sym (alone r n) ∙ ap (λ (z : View D T). get_or z.lists r None) (some-injective u old.0 (sym there ∙ ap (get_elem? s.views) (sym q) ∙ old.1)) ∙ old.2) in (
         kept.0,
-        ap (get_elem? (set (set s.views id (gathered v u)) other (spent nowhere))) (put_else ok.owner u.pick id r n) ∙ set_else (set s.views id (gathered v u)) other (ok.owner r) (spent nowhere) apart ∙ kept.1,
+        ap (get_elem? (set (set s.views id (gathered v u)) other (spent no_shape))) (put_else ok.owner u.pick id r n) ∙ set_else (set s.views id (gathered v u)) other (ok.owner r) (spent no_shape) apart ∙ kept.1,
         kept.2,
       )))

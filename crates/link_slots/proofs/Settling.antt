@@ -23,7 +23,7 @@ use Rattle.list_laws.specs.Counts.{saturated_count}
 use Rattle.link_slots.specs.Logs.{OutLog, InLog, Lists, no_out, no_in, out_of, in_of, sent_of, got_of, got}
 use Rattle.link_slots.specs.Link.{LinkOk}
 use Rattle.link_slots.specs.Shape.{Shape, IsShape, wiring, IsBlank, MayFollow, shipped_all}
-use Rattle.link_slots.specs.WordSteps.{Knowing, IsLawful}
+use Rattle.link_slots.specs.WordSteps.{TableView, IsLawful}
 use Rattle.link_slots.specs.ClosedBank.{each_below, logs_at, round_left, slot_round, AllThere}
 use Rattle.link_slots.specs.OwnLinks.{IsOwn}
 use Rattle.link_slots.specs.View.{logs_or}
@@ -69,7 +69,7 @@ link_law cap shape l o i ws hs ok =
       fits = λ k d h. let f = fine k d h in subst (λ (z : Shipped). length z.entries ≤ cap) (sym f.1) f.2.fits;
     }
 
-pub live : (cap : ℕ) (shape : Shape) (s : State Contents Knowing) → IsShape shape → (ok : IsLawful cap shape s) → IsRound (round_left shape cap ok.logs)
+pub live : (cap : ℕ) (shape : Shape) (s : State Contents TableView) → IsShape shape → (ok : IsLawful cap shape s) → IsRound (round_left shape cap ok.logs)
 live cap shape s is ok =
     let dims : List ℕ = shape.dims in let n : ℕ = links dims in let round : Round = round_left shape cap ok.logs in
     let from : (l : ℕ) → l < n → sender_at dims l < ranks dims = λ l h. (ends_join dims is.grid l h).sender in
@@ -114,7 +114,7 @@ pub is_there : (o : Option (Lists Contents)) → IsSome o → o ≡ Some (logs_o
 is_there None h = absurd (let e : false ≡ true = h in cc)
 is_there (Some x) h = refl
 
-pub settled : (cap : ℕ) (shape : Shape) (s : State Contents Knowing) (id : ℕ) (v : Knowing) → IsShape shape → IsLawful cap shape s → get_elem? s.views id ≡ some v → AllThere shape v.lists → IsRound (slot_round shape cap v.lists)
+pub settled : (cap : ℕ) (shape : Shape) (s : State Contents TableView) (id : ℕ) (v : TableView) → IsShape shape → IsLawful cap shape s → get_elem? s.views id ≡ some v → AllThere shape v.lists → IsRound (slot_round shape cap v.lists)
 settled cap shape s id v is ok at all =
     let dims : List ℕ = shape.dims in
     let known : (r : ℕ) → r < ranks dims → ok.logs r ≡ logs_at v.lists r = λ r h. sym (ok.each_seat id v at r (logs_at v.lists r) (is_there (get_or v.lists r None) (all r h))).1 in

@@ -19,12 +19,12 @@ use Rattle.link_slots.specs.View.{own_logs}
 use Rattle.link_slots.specs.Wiring.{Wiring, slot_of, posted_word, released_word, bell_word}
 use Rattle.link_slots.specs.StepEffects.{LookedFirst}
 use Rattle.link_slots.specs.Shape.{Shape, IsShape, wiring, IsBlank, MayFollow, KeepsLaw}
-use Rattle.link_slots.specs.WordSteps.{Knowing, IsLawful, IsManned, room_found, posted, looked_in, released, spare_brought, parcel_brought, rung, heard, room_told, post_told, look_told, release_told, spare_told, parcel_told, ring_look_told, ring_told, hear_look_told, hear_told}
+use Rattle.link_slots.specs.WordSteps.{TableView, IsLawful, HoldsSeat, room_found, posted, looked_in, released, spare_brought, parcel_brought, rung, heard, room_told, post_told, look_told, release_told, spare_told, parcel_told, ring_look_told, ring_told, hear_look_told, hear_told}
 use Rattle.link_slots.proofs.Moves as moves
 use Rattle.link_slots.proofs.Listening as listening
 use Rattle.link_slots.proofs.Bells.{bit_again}
 use Rattle.link_slots.proofs.Wires.{wired, one_sender}
-use Rattle.link_slots.proofs.Manning.{law_taken}
+use Rattle.link_slots.proofs.HeldSeats.{law_taken}
 use Rattle.link_slots.proofs.Hearing.{bit_unset, bit_set}
 
 tells : {S V : Type 0} (holds : State S V → Type 0) (slots id i : ℕ) (me : Me S V) (f : ℕ → ℕ) (P Q : ℕ → Me S V → Type 0) → ((n : ℕ) (m' : Me S V) → P n m' → Q n m') → Allows holds slots id me i f P → Allows holds slots id me i f Q
@@ -49,7 +49,7 @@ same_power a b e = dite (ℕ_discrete a b) (λ s. s) (λ ne. absurd (let p = bit
 
 module _ (cap : ℕ) (shape : Shape) (is : IsShape shape) (count : ℕ) (as_many : count ≡ shape.slots * links shape.dims) (id l : ℕ) where
   abbrev M : Type 0
-  M = Me Contents Knowing
+  M = Me Contents TableView
 
   abbrev Law : ℕ → (ℕ → List Contents) → (ℕ → List Contents) → Type 0
   Law = KeepsLaw shape.dims
@@ -60,35 +60,35 @@ module _ (cap : ℕ) (shape : Shape) (is : IsShape shape) (count : ℕ) (as_many
   may : (m : M) (i : ℕ) (f : ℕ → ℕ) (P Q : ℕ → M → Type 0) → ((n : ℕ) (m' : M) → P n m' → Q n m') → Allows (IsLawful cap shape) (shape.slots * links shape.dims) id m i f P → Allows (IsLawful cap shape) count id m i f Q
   may m i f P Q k a = subst (λ (z : ℕ). Allows (IsLawful cap shape) z id m i f Q) (sym as_many) (tells (IsLawful cap shape) (shape.slots * links shape.dims) id i m f P Q k a)
 
-  of_both : (m : M) (F : Shape → ℕ → Type 0) (q : ℕ) → IsManned shape m → l ≡ q → F shape l → F m.0.shape q
+  of_both : (m : M) (F : Shape → ℕ → Type 0) (q : ℕ) → HoldsSeat shape m → l ≡ q → F shape l → F m.0.shape q
   of_both m F q manned e f = subst (λ (z : Shape × ℕ). F z.0 z.1) (λ k. (sym manned.of k, e k)) f
 
-  pub room : (m : M) → IsManned shape m → l < links shape.dims → sender_at shape.dims l ≡ m.0.pick
+  pub room : (m : M) → HoldsSeat shape m → l < links shape.dims → sender_at shape.dims l ≡ m.0.pick
       → Allows (IsLawful cap shape) count id m (released_word l) (λ n. n) (room_told cap (step count (released_word l) 0 0 none) m)
   room m manned inside mine = may m (released_word l) (λ n. n) (room_found cap shape l m) (room_told cap (step count (released_word l) 0 0 none) m)
       (λ n m' p q e. of_both m (λ s k. room_found cap s k m n m') q manned (omega arith) p)
       (moves.look_room IsBlank Good Law shape (wiring shape) (wired shape is) id l m.0 m.1 manned.speaks inside mine manned.holds)
 
-  pub look : (m : M) → IsManned shape m → l < links shape.dims → reader_at shape.dims l ≡ m.0.pick → (in_of (own_logs m.0) l).marked ≡ true
+  pub look : (m : M) → HoldsSeat shape m → l < links shape.dims → reader_at shape.dims l ≡ m.0.pick → (in_of (own_logs m.0) l).marked ≡ true
       → Allows (IsLawful cap shape) count id m (posted_word l) (λ n. n) (look_told cap (step count (posted_word l) 0 0 none) m)
   look m manned inside mine marked = may m (posted_word l) (λ n. n) (looked_in cap shape l m) (look_told cap (step count (posted_word l) 0 0 none) m)
       (λ n m' p q e. of_both m (λ s k. looked_in cap s k m n m') q manned (omega arith) p)
       (moves.look_in IsBlank Good Law shape (wiring shape) (wired shape is) id l m.0 m.1 manned.speaks inside mine marked manned.holds)
 
-  pub bring_spare : (m : M) → IsManned shape m → l < links shape.dims → sender_at shape.dims l ≡ m.0.pick → length (out_of (own_logs m.0) l).sent < (out_of (own_logs m.0) l).room
+  pub bring_spare : (m : M) → HoldsSeat shape m → l < links shape.dims → sender_at shape.dims l ≡ m.0.pick → length (out_of (own_logs m.0) l).sent < (out_of (own_logs m.0) l).room
       → Allows (IsLawful cap shape) count id m (posted_word l) (λ n. n) (spare_told cap (step count (posted_word l) 0 0 none) m)
   bring_spare m manned inside mine some_left = may m (posted_word l) (λ n. n) (λ n. spare_brought cap shape l m) (spare_told cap (step count (posted_word l) 0 0 none) m)
       (λ n m' p q e. of_both m (λ s k. spare_brought cap s k m m') q manned (omega arith) p)
       (moves.bring_spare IsBlank Good Law shape (wiring shape) (wired shape is) id l (posted_word l) m.0 m.1 manned.speaks inside mine some_left manned.holds)
 
-  pub bring_parcel : (m : M) → IsManned shape m → l < links shape.dims → reader_at shape.dims l ≡ m.0.pick → (in_of (own_logs m.0) l).taken < length (in_of (own_logs m.0) l).seen
+  pub bring_parcel : (m : M) → HoldsSeat shape m → l < links shape.dims → reader_at shape.dims l ≡ m.0.pick → (in_of (own_logs m.0) l).taken < length (in_of (own_logs m.0) l).seen
       → Allows (IsLawful cap shape) count id m (released_word l) (λ n. n) (parcel_told cap (step count (released_word l) 0 0 none) m)
   bring_parcel m manned inside mine some_left = may m (released_word l) (λ n. n) (λ n. parcel_brought cap shape l m) (parcel_told cap (step count (released_word l) 0 0 none) m)
       (λ n m' p q e. of_both m (λ s k. parcel_brought cap s k m m') q manned (omega arith) p)
       (moves.bring_parcel IsBlank Good Law shape (wiring shape) (wired shape is) id l (released_word l) m.0 m.1 manned.speaks inside mine some_left manned.holds)
 
   -- here a filled parcel lies in the slot in front, in place of the empty one b
-  pub post : (v : Knowing) (c : List (ℕ × Contents)) (b p : Contents) → IsManned shape (v, (slot_of (wiring shape) l (length (out_of (own_logs v) l).sent), b) ∷ c) → l < links shape.dims → sender_at shape.dims l ≡ v.pick
+  pub post : (v : TableView) (c : List (ℕ × Contents)) (b p : Contents) → HoldsSeat shape (v, (slot_of (wiring shape) l (length (out_of (own_logs v) l).sent), b) ∷ c) → l < links shape.dims → sender_at shape.dims l ≡ v.pick
       → length (out_of (own_logs v) l).sent < (out_of (own_logs v) l).room → MayFollow shape.dims cap l (out_of (own_logs v) l).sent p
       → (Law v.pick (sent_of (own_logs v)) (got_of (own_logs v)) → Law v.pick (sent_of (with_out (own_logs v) l (let o = out_of (own_logs v) l in record { sent = o.sent ++ p ∷ []; room = o.room; offered = o.offered; looks = o.looks; rung_at = o.rung_at }))) (got_of (own_logs v)))
       → let m : M = (v, (slot_of (wiring shape) l (length (out_of (own_logs v) l).sent), p) ∷ c) in Allows (IsLawful cap shape) count id m (posted_word l) (λ n. (n + 1) % 2 ^ 64) (post_told cap (step count (posted_word l) 1 0 none) m)
@@ -99,7 +99,7 @@ module _ (cap : ℕ) (shape : Shape) (is : IsShape shape) (count : ℕ) (as_many
       (moves.post IsBlank Good Law shape (wiring shape) (wired shape is) id l v c b p manned.speaks inside mine some_left good law manned.holds)
 
   -- here an empty parcel lies in the slot in front, in place of the one p that was there
-  pub release : (v : Knowing) (c : List (ℕ × Contents)) (b p : Contents) → IsManned shape (v, (slot_of (wiring shape) l (in_of (own_logs v) l).taken, p) ∷ c) → l < links shape.dims → reader_at shape.dims l ≡ v.pick
+  pub release : (v : TableView) (c : List (ℕ × Contents)) (b p : Contents) → HoldsSeat shape (v, (slot_of (wiring shape) l (in_of (own_logs v) l).taken, p) ∷ c) → l < links shape.dims → reader_at shape.dims l ≡ v.pick
       → (in_of (own_logs v) l).taken < length (in_of (own_logs v) l).seen → IsBlank b
       → let m : M = (v, (slot_of (wiring shape) l (in_of (own_logs v) l).taken, b) ∷ c) in Allows (IsLawful cap shape) count id m (released_word l) (λ n. (n + 1) % 2 ^ 64) (release_told cap (step count (released_word l) 1 0 none) m)
   release v c b p manned inside mine some_left blank =
@@ -108,7 +108,7 @@ module _ (cap : ℕ) (shape : Shape) (is : IsShape shape) (count : ℕ) (as_many
       (λ n m' t q e. subst (λ (z : Shape × ℕ). released cap z.0 z.1 m m') (λ k. (sym manned.of k, (let same : l ≡ q = omega arith in same) k)) t)
       (moves.release IsBlank Good Law shape (wiring shape) (wired shape is) id l v c b p manned.speaks inside mine some_left blank (λ looks long. law_taken shape.dims v.pick l (own_logs v) looks is.grid long some_left) manned.holds)
 
-  pub look_before_ring : (m : M) (word : ℕ) → word ≡ bell_word (wiring shape) l → IsManned shape m → l < links shape.dims → sender_at shape.dims l ≡ m.0.pick
+  pub look_before_ring : (m : M) (word : ℕ) → word ≡ bell_word (wiring shape) l → HoldsSeat shape m → l < links shape.dims → sender_at shape.dims l ≡ m.0.pick
       → Allows (IsLawful cap shape) count id m word (λ n. n) (ring_look_told cap (step count word 0 0 none) m)
   look_before_ring m word at manned inside mine =
       let w : Wiring = wiring shape in
@@ -119,7 +119,7 @@ module _ (cap : ℕ) (shape : Shape) (is : IsShape shape) (count : ℕ) (as_many
       (looks_first (IsLawful cap shape) (shape.slots * links shape.dims) id (bell_word w l) m (λ n. bit_or n (2 ^ w.bit l)) (λ n. rung cap shape l m) (λ n. eqb (bit_at n (w.bit l)) 1) (λ n e. bit_again n (w.bit l) (eqb-true _ _ e))
       (listening.ring IsBlank Good Law shape w (wired shape is) id l m.0 m.1 manned.speaks inside mine manned.holds)))
 
-  pub ring : (m : M) (word mask : ℕ) → word ≡ bell_word (wiring shape) l → mask ≡ 2 ^ (wiring shape).bit l → IsManned shape m → l < links shape.dims → sender_at shape.dims l ≡ m.0.pick
+  pub ring : (m : M) (word mask : ℕ) → word ≡ bell_word (wiring shape) l → mask ≡ 2 ^ (wiring shape).bit l → HoldsSeat shape m → l < links shape.dims → sender_at shape.dims l ≡ m.0.pick
       → Allows (IsLawful cap shape) count id m word (λ n. bit_or n mask) (ring_told cap (step count word mask 0 none) m)
   ring m word mask at bit manned inside mine =
       let w : Wiring = wiring shape in
@@ -129,7 +129,7 @@ module _ (cap : ℕ) (shape : Shape) (is : IsShape shape) (count : ℕ) (as_many
       (λ in' e f. let same : l ≡ q = (wired shape is).one_bit l q inside in' (omega arith) (same_power (w.bit l) (w.bit q) f) in subst (λ (z : ℕ). rung cap shape z m m') same t))
       (listening.ring IsBlank Good Law shape w (wired shape is) id l m.0 m.1 manned.speaks inside mine manned.holds))
 
-  pub look_before_hear : (m : M) (word b : ℕ) → word ≡ 16 * (2 * (wiring shape).links + b) → (wiring shape).bell l ≡ b → IsManned shape m → l < links shape.dims → reader_at shape.dims l ≡ m.0.pick
+  pub look_before_hear : (m : M) (word b : ℕ) → word ≡ 16 * (2 * (wiring shape).links + b) → (wiring shape).bell l ≡ b → HoldsSeat shape m → l < links shape.dims → reader_at shape.dims l ≡ m.0.pick
       → Allows (IsLawful cap shape) count id m word (λ n. n) (hear_look_told cap (step count word 0 0 none) m)
   look_before_hear m word b at rings manned inside mine =
       let w : Wiring = wiring shape in
@@ -140,7 +140,7 @@ module _ (cap : ℕ) (shape : Shape) (is : IsShape shape) (count : ℕ) (as_many
       (looks_first (IsLawful cap shape) (shape.slots * links shape.dims) id (16 * (2 * w.links + b)) m (λ _. 0) (heard cap shape b m) (λ n. eqb n 0) (λ n e. sym (eqb-true n 0 e))
       (listening.hear IsBlank Good Law shape w (wired shape is) id l b m.0 m.1 manned.speaks inside mine rings manned.holds)))
 
-  pub hear : (m : M) (word b : ℕ) → word ≡ 16 * (2 * (wiring shape).links + b) → (wiring shape).bell l ≡ b → IsManned shape m → l < links shape.dims → reader_at shape.dims l ≡ m.0.pick
+  pub hear : (m : M) (word b : ℕ) → word ≡ 16 * (2 * (wiring shape).links + b) → (wiring shape).bell l ≡ b → HoldsSeat shape m → l < links shape.dims → reader_at shape.dims l ≡ m.0.pick
       → Allows (IsLawful cap shape) count id m word (λ _. 0) (hear_told cap (step count word 0 0 none) m)
   hear m word b at rings manned inside mine =
       let w : Wiring = wiring shape in
@@ -155,14 +155,14 @@ pub rings : (shape : Shape) → IsShape shape → (l : ℕ) → l < links shape.
 rings shape is l inside = (wired shape is).rung l inside
 
 -- what a ring at the link's bit tells of it
-pub rung_is : (cap : ℕ) (shape : Shape) (l : ℕ) (m : Me Contents Knowing) (word mask count n : ℕ) (m' : Me Contents Knowing) → IsManned shape m → l < links shape.dims → word ≡ bell_word (wiring shape) l → mask ≡ 2 ^ (wiring shape).bit l
+pub rung_is : (cap : ℕ) (shape : Shape) (l : ℕ) (m : Me Contents TableView) (word mask count n : ℕ) (m' : Me Contents TableView) → HoldsSeat shape m → l < links shape.dims → word ≡ bell_word (wiring shape) l → mask ≡ 2 ^ (wiring shape).bit l
     → ring_told cap (step count word mask 0 none) m n m' → rung cap shape l m m'
 rung_is cap shape l m word mask count n m' manned inside at bit told =
     subst (λ (z : Shape). l < links z.dims → word ≡ bell_word (wiring z) l → mask ≡ 2 ^ (wiring z).bit l → rung cap z l m m') manned.of (told l) inside at bit
 
 -- the same with a look before it, as code reads the word: where the look finds the bit set, it is
 -- the ring
-module _ (cap : ℕ) (shape : Shape) (l : ℕ) (m : Me Contents Knowing) (word mask count n : ℕ) (m' : Me Contents Knowing) (manned : IsManned shape m) (inside : l < links shape.dims) (mine : sender_at shape.dims l ≡ m.0.pick)
+module _ (cap : ℕ) (shape : Shape) (l : ℕ) (m : Me Contents TableView) (word mask count n : ℕ) (m' : Me Contents TableView) (manned : HoldsSeat shape m) (inside : l < links shape.dims) (mine : sender_at shape.dims l ≡ m.0.pick)
     (at : word ≡ bell_word (wiring shape) l) (bit : mask ≡ 2 ^ (wiring shape).bit l) (told : ring_look_told cap (step count word 0 0 none) m n m') where
   look_is : LookedFirst (eqb (bit_at n ((wiring shape).bit l)) 1) (rung cap shape l m) m m'
   look_is = subst (λ (z : Shape). l < links z.dims → sender_at z.dims l ≡ m.0.pick → word ≡ bell_word (wiring z) l → LookedFirst (eqb (bit_at n ((wiring z).bit l)) 1) (rung cap z l m) m m') manned.of (told l) inside mine at
@@ -173,12 +173,12 @@ module _ (cap : ℕ) (shape : Shape) (l : ℕ) (m : Me Contents Knowing) (word m
   pub not_yet_rung : bit_and n mask ≡ 0 → m' ≡ m
   not_yet_rung unset = subst (λ (z : Bool). LookedFirst z (rung cap shape l m) m m') (ap (λ (z : ℕ). eqb z 1) (bit_unset n ((wiring shape).bit l) mask bit unset)) look_is
 
-  pub rung_after_look : bit_and n mask ≡ 0 → (k : ℕ) (m'' : Me Contents Knowing) → ring_told cap (step count word mask 0 none) m' k m'' → rung cap shape l m m''
-  rung_after_look unset k m'' = subst (λ (z : Me Contents Knowing). ring_told cap (step count word mask 0 none) z k m'' → rung cap shape l m m'') (sym (not_yet_rung unset)) (rung_is cap shape l m word mask count k m'' manned inside at bit)
+  pub rung_after_look : bit_and n mask ≡ 0 → (k : ℕ) (m'' : Me Contents TableView) → ring_told cap (step count word mask 0 none) m' k m'' → rung cap shape l m m''
+  rung_after_look unset k m'' = subst (λ (z : Me Contents TableView). ring_told cap (step count word mask 0 none) z k m'' → rung cap shape l m m'') (sym (not_yet_rung unset)) (rung_is cap shape l m word mask count k m'' manned inside at bit)
 
 -- what a hear of the doorbell b with a look before it tells: where the look finds no bit set, it is
 -- the hear
-module _ (cap : ℕ) (shape : Shape) (b : ℕ) (m : Me Contents Knowing) (word count n : ℕ) (m' : Me Contents Knowing) (manned : IsManned shape m) (at : word ≡ 16 * (2 * (wiring shape).links + b))
+module _ (cap : ℕ) (shape : Shape) (b : ℕ) (m : Me Contents TableView) (word count n : ℕ) (m' : Me Contents TableView) (manned : HoldsSeat shape m) (at : word ≡ 16 * (2 * (wiring shape).links + b))
     (told : hear_look_told cap (step count word 0 0 none) m n m') where
   found_is : LookedFirst (eqb n 0) (heard cap shape b m n) m m'
   found_is = subst (λ (z : Shape). word ≡ 16 * (2 * (wiring z).links + b) → LookedFirst (eqb n 0) (heard cap z b m n) m m') manned.of (told b) at
@@ -189,6 +189,6 @@ module _ (cap : ℕ) (shape : Shape) (b : ℕ) (m : Me Contents Knowing) (word c
   pub not_yet_heard : n ≢ 0 → m' ≡ m
   not_yet_heard set = subst (λ (z : Bool). LookedFirst z (heard cap shape b m n) m m') (ne_eqb n 0 set) found_is
 
-  pub heard_after_look : n ≢ 0 → (k : ℕ) (m'' : Me Contents Knowing) → hear_told cap (step count word 0 0 none) m' k m'' → heard cap shape b m k m''
-  heard_after_look set k m'' = subst (λ (z : Me Contents Knowing). hear_told cap (step count word 0 0 none) z k m'' → heard cap shape b m k m'') (sym (not_yet_heard set))
+  pub heard_after_look : n ≢ 0 → (k : ℕ) (m'' : Me Contents TableView) → hear_told cap (step count word 0 0 none) m' k m'' → heard cap shape b m k m''
+  heard_after_look set k m'' = subst (λ (z : Me Contents TableView). hear_told cap (step count word 0 0 none) z k m'' → heard cap shape b m k m'') (sym (not_yet_heard set))
       (λ t. subst (λ (z : Shape). word ≡ 16 * (2 * (wiring z).links + b) → heard cap z b m k m'') manned.of (t b) at)

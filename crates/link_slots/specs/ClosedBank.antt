@@ -13,7 +13,7 @@ use Rattle.link_slots.specs.declared.seat.rank_ends.EndedCounts.{EndedCounts}
 use Rattle.port_bank.specs.Logs.{lasts}
 use Rattle.list_laws.specs.Counts.{saturated_count}
 use Rattle.link_slots.specs.Shape.{Shape, IsShape}
-use Rattle.link_slots.specs.WordSteps.{Knowing, IsLawful}
+use Rattle.link_slots.specs.WordSteps.{TableView, IsLawful}
 
 -- f 0, f 1, .., f (n - 1)
 abbrev pub each_below : {A : Type 0} → (ℕ → A) → ℕ → List A
@@ -44,7 +44,7 @@ slot_round shape cap lists = round_left shape cap (logs_at lists)
 -- round: so in each epoch and for each pair
 -- of ranks what was got on the last hop is a prefix of what was sent on the first.
 abbrev pub LiveLaw : ℕ → Type 0
-LiveLaw cap = (shape : Shape) (s : State Contents Knowing) → IsShape shape → (bank : IsLawful cap shape s)
+LiveLaw cap = (shape : Shape) (s : State Contents TableView) → IsShape shape → (bank : IsLawful cap shape s)
     → IsRound (round_left shape cap bank.logs)
 
 -- Each rank's lists are there: its seat was gathered, or never given out.
@@ -56,7 +56,7 @@ abbrev pub IsSettled : ℕ → Shape → List (Option (Lists Contents)) → Type
 IsSettled cap shape lists = AllThere shape lists → IsRound (slot_round shape cap lists)
 
 -- the lists of the first view
-abbrev pub first_lists : List Knowing → List (Option (Lists Contents))
+abbrev pub first_lists : List TableView → List (Option (Lists Contents))
 first_lists [] = []
 first_lists (v ∷ vs) = v.lists
 

@@ -78,7 +78,7 @@ pub record IsWire (dims : List ℕ) (l bell mask hop : ℕ) : Type 0 where
 -- What a rank does on link l, which it reads, leaves its links out as they are, and of its other
 -- links in what was seen and taken, and how often they were looked in. A hear counts on the links
 -- of the same hop alone.
-pub record ElseKept (shape : Shape) (rank l : ℕ) (x x' : Lists Contents) : Type 0 where
+pub record KeepsOtherLinks (shape : Shape) (rank l : ℕ) (x x' : Lists Contents) : Type 0 where
   pub outs : x'.outs ≡ x.outs
   pub long : length x'.ins ≡ length x.ins
   pub seen : (m : ℕ) → m ≢ l → (in_of x' m).seen ≡ (in_of x m).seen

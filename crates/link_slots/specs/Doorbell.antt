@@ -1,7 +1,7 @@
 -- When a collect hears a doorbell, and when it looks in.
 use Rattle.std.specs.Prelude.{◌≡◌, ℕ, suc, ◌+◌, ◌-◌, ◌≤◌, Bool, true, false, not, ◌&&◌, leb, List}
 use Rattle.link_slots.specs.Logs.{InLog}
-use Rattle.link_slots.specs.Link.{one_where}
+use Rattle.link_slots.specs.Link.{bit_of}
 use Rattle.link_slots.specs.StepEffects.{heard_by}
 use Rattle.list_laws.specs.Counts.{saturated_count}
 
@@ -23,13 +23,13 @@ module _ {T : Type 0} where
   -- mark is taken away.
   abbrev pub looked_where_marked : List T → InLog T → InLog T
   looked_where_marked seen i =
-      record i { seen = seen; marked = false; look_ins = i.look_ins + one_where i.marked }
+      record i { seen = seen; marked = false; look_ins = i.look_ins + bit_of i.marked }
 
   -- A link of which no parcel was known, after a collect: its doorbell was heard if a hear was
   -- due and not else, and the link was looked in if it was then marked and not else.
   pub record LookedFor (noted : ℕ) (i j : InLog T) : Type 0 where
-    pub hears : j.hears ≡ i.hears + one_where (is_due noted i)
+    pub hears : j.hears ≡ i.hears + bit_of (is_due noted i)
     pub heard : i.heard ≤ j.heard
-    pub one_bit : j.heard ≤ i.heard + one_where (is_due noted i)
-    pub look_ins : j.look_ins ≡ i.look_ins + one_where i.marked + (j.heard - i.heard)
+    pub one_bit : j.heard ≤ i.heard + bit_of (is_due noted i)
+    pub look_ins : j.look_ins ≡ i.look_ins + bit_of i.marked + (j.heard - i.heard)
     pub unmarked : j.marked ≡ false

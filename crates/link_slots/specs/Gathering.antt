@@ -13,7 +13,7 @@ use Rattle.link_slots.specs.declared.seat.rank_ends.EndedCounts.{EndedCounts}
 use Rattle.link_slots.specs.Logs.{Lists, got_of}
 use Rattle.link_slots.specs.View.{no_logs}
 use Rattle.link_slots.specs.Shape.{Shape, IsShape}
-use Rattle.link_slots.specs.WordSteps.{Knowing}
+use Rattle.link_slots.specs.WordSteps.{TableView}
 use Rattle.link_slots.specs.OwnLinks.{IsOwn}
 use Rattle.list_laws.specs.Counts.{saturated_count}
 use Rattle.link_slots.specs.ClosedBank.{logs_at, ended_of}
@@ -46,7 +46,7 @@ HasNew count None = ⊥
 -- It holds no slot, has lists of each rank that are of its own links, has new counts and empty
 -- lists for each rank whose seat is to come; and for each rank how many epochs its links in have
 -- ended, by the lists that it has.
-pub record IsGathering (shape : Shape) (m : Me Contents Knowing) (ends : List (Option RankEnds))
+pub record IsGathering (shape : Shape) (m : Me Contents TableView) (ends : List (Option RankEnds))
     (ended : List (Option EndedCounts)) : Type 0 where
   pub shaped : IsShape shape
   pub of : m.0.shape ≡ shape

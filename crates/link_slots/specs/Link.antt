@@ -8,9 +8,9 @@ use lib.ListN.{get_elem?}
 use Rattle.link_slots.specs.Logs.{OutLog, InLog}
 use Rattle.link_slots.specs.Wiring.{Wiring, slot_of, posted_word, released_word, bell_word}
 
-abbrev pub one_where : Bool → ℕ
-one_where true = 1
-one_where false = 0
+abbrev pub bit_of : Bool → ℕ
+bit_of true = 1
+bit_of false = 0
 
 module _ {T : Type 0} (Blank : T → Type 0) (Good : ℕ → List T → T → Type 0) (w : Wiring) where
   -- Parts (i) and (iv) for a link l: G parcels were collected, `known` are seen, S are posted, and
@@ -48,7 +48,7 @@ module _ {T : Type 0} (w : Wiring) where
     pub offered_sent : o.offered ≤ length o.sent
     pub told : (bit_at (slice_index_or words (bell_word w l) 0) (w.bit l) ≡ 1) ⊎ (i.marked ≡ true)
         ⊎ (o.offered ≤ length i.seen)
-    pub looked : i.look_ins + one_where i.marked ≤ i.heard
+    pub looked : i.look_ins + bit_of i.marked ≤ i.heard
     pub rung : o.rung_at ≤ i.hears
     pub released : i.released_at ≤ o.looks
     pub found : (i.released_at ≡ o.looks) ⊎ (i.taken + w.slots ≤ o.room)

@@ -14,12 +14,12 @@ use Rattle.port_bank.specs.Logs.{with_parcel}
 use Rattle.link_slots.specs.Logs.{out_of, in_of, got_of, with_out, with_in, found_full, taken_more}
 use Rattle.link_slots.specs.Shape.{MayFollow}
 use Rattle.link_slots.specs.Doorbell.{is_due, HeardWhere, LookedFor}
-use Rattle.link_slots.specs.SeatView.{Manning, collected_from, known_on, listens_on, hears_noted, noted_at}
+use Rattle.link_slots.specs.SeatView.{SeatView, collected_from, known_on, listens_on, hears_noted, noted_at}
 
 -- A post of p on link l, from the seat s to s': it changes that link's lists alone. If an empty
 -- slot is at hand the parcel is sent without a look for room, and no post looks more than once. At
 -- Sent every parcel of the link is offered; at NoRoom the port looked once and nobody was rung for.
-pub record DidPost (s s' : Manning) (l : ℕ) (p : Contents) (r : Result Posted NoMemory) : Type 0 where
+pub record DidPost (s s' : SeatView) (l : ℕ) (p : Contents) (r : Result Posted NoMemory) : Type 0 where
   pub here : s' ≡ record s { lists = with_out s.lists l (out_of s'.lists l) }
   pub sent : r ≡ Ok Sent → (out_of s'.lists l).sent ≡ (out_of s.lists l).sent ++ p ∷ []
   pub offered : r ≡ Ok Sent → (out_of s'.lists l).offered ≡ length (out_of s'.lists l).sent
@@ -43,7 +43,7 @@ pub record DidPost (s s' : Manning) (l : ℕ) (p : Contents) (r : Result Posted 
 --   noted: how often the rank had listened by the end of the call is noted.
 --   listens: no count falls.
 --   known_elsewhere: the rank learns nothing of other links.
-pub record SeatCollects (cap : ℕ) (s s' : Manning) (l : ℕ) (p : Contents) (r : Collected) (p' : Contents) : Type 0 where
+pub record SeatCollects (cap : ℕ) (s s' : SeatView) (l : ℕ) (p : Contents) (r : Collected) (p' : Contents) : Type 0 where
   pub got : r ≡ Got → collected_from s' ≡ with_parcel (collected_from s) l (as_shipped p')
   pub arrived : r ≡ Got → MayFollow s.shape.dims cap l (got_of s.lists l) p'
   pub known : r ≡ Got → length (collected_from s l) < known_on s' l
@@ -61,7 +61,7 @@ pub record SeatCollects (cap : ℕ) (s s' : Manning) (l : ℕ) (p : Contents) (r
 -- A collect on link l, from the seat s to s'. If a parcel was at hand it is taken, with no step
 -- of looking. Else the doorbell of the link's hop is heard if a hear is due and not else, and
 -- the link is looked in if it is then marked and not else.
-pub record DidCollect (s s' : Manning) (l : ℕ) (r : Collected) : Type 0 where
+pub record DidCollect (s s' : SeatView) (l : ℕ) (r : Collected) : Type 0 where
   pub here : s' ≡ record s { lists = s'.lists; noted = s'.noted; ended = s'.ended }
   pub outs : s'.lists.outs ≡ s.lists.outs
   pub at_hand : length (collected_from s l) < known_on s l → r ≡ Got

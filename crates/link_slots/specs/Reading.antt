@@ -18,13 +18,13 @@ use Rattle.link_slots.specs.declared.table.wire.Wire.{Wire}
 use Rattle.link_slots.specs.Logs.{Lists, out_of, in_of, with_in, taken_more, listens}
 use Rattle.link_slots.specs.View.{own_logs, with_logs}
 use Rattle.link_slots.specs.Shape.{Shape}
-use Rattle.link_slots.specs.WordSteps.{Knowing, IsAtIn, StaysSeated}
-use Rattle.link_slots.specs.Counts.{IsInEnd, IsWire, IsHeard, ElseKept, AreGood, noted_by}
+use Rattle.link_slots.specs.WordSteps.{TableView, IsAtIn, StaysSeated}
+use Rattle.link_slots.specs.Counts.{IsInEnd, IsWire, IsHeard, KeepsOtherLinks, AreGood, noted_by}
 use Rattle.link_slots.specs.Doorbell.{is_due, HeardWhere, LookedFor}
 
 -- A rank's seat m in its place, and link l, which ends at the rank. What the rank counts of the
 -- link and of its hop's doorbell, besides the table, is what the seat's lists tell.
-pub record ReadsLink (shape : Shape) (table place : TableId) (m : Me Contents Knowing) (l : ℕ) (counts : InEnd)
+pub record ReadsLink (shape : Shape) (table place : TableId) (m : Me Contents TableView) (l : ℕ) (counts : InEnd)
     (way : Wire) (bell : Ear) : Type 0 where
   pub at : IsAtIn shape table place m l
   pub long : length (own_logs m.0).ins ≡ links shape.dims
@@ -34,13 +34,13 @@ pub record ReadsLink (shape : Shape) (table place : TableId) (m : Me Contents Kn
 
 -- What a rank's step on that link leaves, from m to m': its counts tell again what its lists do,
 -- the lists are all that changed of the seat, and of the other links what a hear tells alone.
-pub record HasRead (shape : Shape) (place place' : TableId) (m m' : Me Contents Knowing) (l : ℕ) (counts : InEnd)
+pub record HasRead (shape : Shape) (place place' : TableId) (m m' : Me Contents TableView) (l : ℕ) (counts : InEnd)
     (bell : Ear) : Type 0 where
   pub stays : StaysSeated shape place place' m'
   pub end : IsInEnd shape.slots (in_of (own_logs m'.0) l) counts.taken counts.waiting counts.noted
   pub ear : IsHeard shape m.0.pick (hop_at shape.dims l) (own_logs m'.0) bell.marks bell.hears
   pub here : m'.0 ≡ with_logs m.0 (own_logs m'.0)
-  pub others : ElseKept shape m.0.pick l (own_logs m.0) (own_logs m'.0)
+  pub others : KeepsOtherLinks shape m.0.pick l (own_logs m.0) (own_logs m'.0)
 
 -- A collect from link l into parcel p, which leaves p' at hand, for parcels of capacity cap: the
 -- rank's lists go from x to x', and what it counts of the link from counts to counts'.

@@ -16,16 +16,16 @@ use Rattle.atomic_table.specs.Seated.{TableId}
 use Rattle.link_slots.specs.Logs.{out_of, in_of, got_of}
 use Rattle.link_slots.specs.View.{own_logs, IsAlone}
 use Rattle.link_slots.specs.Shape.{Shape, IsShape, IsBoard}
-use Rattle.link_slots.specs.WordSteps.{Knowing, IsManned}
+use Rattle.link_slots.specs.WordSteps.{TableView, HoldsSeat}
 use Rattle.link_slots.specs.OwnLinks.{IsOwn}
 use Rattle.list_laws.specs.Counts.{saturated_count}
 use Rattle.link_slots.specs.Counts.{IsOutEnd, IsInEnd, IsHeard, AreGood, IsWire}
 
 -- The seat speaks for its rank, and its counts are those of the rank's links.
-pub record IsSeat (cap : ℕ) (shape : Shape) (m : Me Contents Knowing) (rank : ℕ) (outs : List OutEnd) (ins : List InEnd)
+pub record IsSeat (cap : ℕ) (shape : Shape) (m : Me Contents TableView) (rank : ℕ) (outs : List OutEnd) (ins : List InEnd)
     (ears : List Ear) (ended : List ℕ) : Type 0 where
   pub shaped : IsShape shape
-  pub manned : IsManned shape m
+  pub manned : HoldsSeat shape m
   pub alone : IsAlone m.0
   pub own : IsOwn shape.dims rank (own_logs m.0)
   pub rank_is : m.0.pick ≡ rank

@@ -14,8 +14,8 @@ pub record Shape : Type 0 where
   pub dims : List ℕ
   pub slots : ℕ
 
-abbrev pub nowhere : Shape
-nowhere = record { dims = []; slots = 0 }
+abbrev pub no_shape : Shape
+no_shape = record { dims = []; slots = 0 }
 
 -- A grid of one to three numbers, with 1, 2, 4 or 8 slots for each link.
 pub record IsShape (s : Shape) : Type 0 where

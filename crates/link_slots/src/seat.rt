@@ -45,10 +45,10 @@ pub struct SlotSeat<const CAP: usize> {
 impl<const CAP: usize> Model for SlotSeat<CAP> {
     ghost use Rattle.std.specs.Prelude.{map};
     ghost use Rattle.link_slots.specs.View.{own_logs};
-    ghost use Rattle.link_slots.specs.SeatView.{Manning};
+    ghost use Rattle.link_slots.specs.SeatView.{SeatView};
     ghost use Rattle.link_slots.specs.Seat.{IsSeat};
 
-    ghost Value = { Manning };
+    ghost Value = { SeatView };
 
     ghost view = { λ s. record {
       id = s.place.table_id;

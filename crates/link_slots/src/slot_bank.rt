@@ -11,7 +11,7 @@ ghost use Rattle.link_slots.specs.ClosedBank.{slot_round, AllThere};
 ghost use Rattle.atomic_table.specs.Table.{opening};
 ghost use Rattle.link_slots.specs.View.{no_logs, first_view};
 ghost use Rattle.link_slots.specs.WordSteps.{IsLawful};
-ghost use Rattle.link_slots.specs.SeatView.{Manning, posted_on, collected_from};
+ghost use Rattle.link_slots.specs.SeatView.{SeatView, posted_on, collected_from};
 
 pub(crate) mod gather;
 pub(crate) mod live;
@@ -43,10 +43,10 @@ pub struct SlotBank<const CAP: usize> {
 }
 
 impl<const CAP: usize> Model for SlotBank<CAP> {
-    ghost use Rattle.link_slots.specs.SeatView.{Identity};
+    ghost use Rattle.link_slots.specs.SeatView.{BankIdentity};
     ghost use Rattle.link_slots.specs.Seat.{IsWiredUp};
 
-    ghost Value = { Identity };
+    ghost Value = { BankIdentity };
 
     ghost view = { λ b. record { id = b.board.shared.table_id; shape = b.board.shared.key } };
 
@@ -99,9 +99,9 @@ impl<const CAP: usize> SlotBank<CAP> {
         requires all_there { AllThere self.shape g.lists }
         ensures round { result ≡ slot_round self.entry.shape CAP g.entry.lists }
         ensures in_order { IsRound result }
-        ensures sent { (s : Manning) → slice_index_or g.entry.lists s.rank None ≡ Some s.lists
+        ensures sent { (s : SeatView) → slice_index_or g.entry.lists s.rank None ≡ Some s.lists
             → starting_at self.entry.shape.dims s.rank (logs_of result.sent) ≡ posted_on s }
-        ensures got { (s : Manning) → slice_index_or g.entry.lists s.rank None ≡ Some s.lists
+        ensures got { (s : SeatView) → slice_index_or g.entry.lists s.rank None ≡ Some s.lists
             → ending_at self.entry.shape.dims s.rank (logs_of result.got) ≡ collected_from s }
     {
         let SlotBank {

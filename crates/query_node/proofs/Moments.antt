@@ -24,7 +24,7 @@ use Rattle.round_program.specs.Replies.{asks_of, queries_to, answers}
 use Rattle.query_node.specs.States.{BiState, Sides, IsBiNode}
 use Rattle.query_node.specs.Banks.{sent_to, got_from, IsOwnSide}
 use Rattle.query_node.specs.Ranks.{sides_at}
-use Rattle.query_node.specs.Moments.{IsMoment, StandsAt, IsUnderway, StepLaw}
+use Rattle.query_node.specs.Moments.{IsMoment, IsBetweenTurns, IsUnderway, StepLaw}
 use Rattle.query_node.proofs.Taken.{take_drop, items_begin}
 use Rattle.query_node.proofs.Theorem.{answers_begin, replies_begin}
 
@@ -71,7 +71,7 @@ module _ {S : Type 0} (T : Talk S) (start : S) (n : BiState S) (asking asked rep
       (answers_begin T start f (pulled_of q asked 0 f) (got_from n.queries.dims asked n.queries.rank f) (pulled_got q asked f))
 
 -- and so does one within a turn
-pub own_at : {S : Type 0} (T : Talk S) (start : S) (dims : List ℕ) (r : ℕ) (n n' : BiState S) (old new now : Sides) → StandsAt T dims r start n old → StandsAt T dims r start n' new → IsMoment old new now
+pub own_at : {S : Type 0} (T : Talk S) (start : S) (dims : List ℕ) (r : ℕ) (n n' : BiState S) (old new now : Sides) → IsBetweenTurns T dims r start n old → IsBetweenTurns T dims r start n' new → IsMoment old new now
     → IsOwnSide T dims (λ _. start) r now.asking now.replying now.asked
 own_at {S} T start dims r n n' old new now at at' m =
     record {
@@ -97,7 +97,7 @@ own_at {S} T start dims r n n' old new now at at' m =
           (subst (λ k. IsPrefix (sent_to n'.queries.dims new.asking k d) (queries_to T start d)) at'.same_rank
           (queries_sent T start n' new.asking new.asked new.replying new.replied at'.node d (subst (λ (ds : List ℕ). d < ranks ds) (sym at'.same_dims) low)))
 
-      replies : (k : BiState S) (s : Sides) → StandsAt T dims r start k s → (f : ℕ) → f < ranks dims → IsPrefix (sent_to dims s.replying r f) (answers T start f (got_from dims s.asked r f))
+      replies : (k : BiState S) (s : Sides) → IsBetweenTurns T dims r start k s → (f : ℕ) → f < ranks dims → IsPrefix (sent_to dims s.replying r f) (answers T start f (got_from dims s.asked r f))
       replies k s a f low =
           subst (λ (ds : List ℕ). IsPrefix (sent_to ds s.replying r f) (answers T start f (got_from ds s.asked r f))) a.same_dims
           (subst (λ j. IsPrefix (sent_to k.queries.dims s.replying j f) (answers T start f (got_from k.queries.dims s.asked j f))) a.same_rank

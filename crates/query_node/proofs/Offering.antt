@@ -7,7 +7,7 @@ use Rattle.port_bank.specs.Machine.{ItemLists, with_item}
 use Rattle.hop_core.specs.declared.phase.Phase.TheVariants.{Working}
 use Rattle.hop_core.specs.State.{State}
 use Rattle.convey.specs.Buffers.{buffers_of}
-use Rattle.convey.specs.Conveyors.{standing_toward}
+use Rattle.convey.specs.Conveyors.{open_count_toward}
 use Rattle.convey.specs.Parts.{part_of}
 use Rattle.list_laws.proofs.Lists.{get_map, all_get, all_from_gets, got_map}
 use Rattle.round_program.specs.Talks.{Talk, TalkLaws}
@@ -58,9 +58,9 @@ offers_start es old from count all low receivers working all_pushed =
 
 -- the end of pushes: all are pushed, or one was refused
 pub offers_end : (es : List (ℕ × Item)) (cap : ℕ) (old c : State) (from next count : ℕ) → Offers es old c from next count
-    → ((to : ℕ) (x : Item) → slice_get es next ≡ Some (to, x) → (to < ranks c.dims) × (standing_toward c to ≡ cap)) → PushesQueries es cap from next old c
+    → ((to : ℕ) (x : Item) → slice_get es next ≡ Some (to, x) → (to < ranks c.dims) × (open_count_toward c to ≡ cap)) → PushesQueries es cap from next old c
 offers_end es cap old c from next count is refused = record { forward = is.forward; low = is.next_low; same = is.same; kept = is.kept; on = is.pushed; refused = refused }
 
 -- a push that was refused left the open parcel full
-pub full_at : (cap : ℕ) (c c' : State) (to : ℕ) → c' ≡ record c { pulled = None } → to < ranks c.dims → standing_toward c to ≡ cap → (to < ranks c'.dims) × (standing_toward c' to ≡ cap)
-full_at cap c c' to new low full = subst (λ (t : State). (to < ranks t.dims) × (standing_toward t to ≡ cap)) (sym new) (low, full)
+pub full_at : (cap : ℕ) (c c' : State) (to : ℕ) → c' ≡ record c { pulled = None } → to < ranks c.dims → open_count_toward c to ≡ cap → (to < ranks c'.dims) × (open_count_toward c' to ≡ cap)
+full_at cap c c' to new low full = subst (λ (t : State). (to < ranks t.dims) × (open_count_toward t to ≡ cap)) (sym new) (low, full)

@@ -8,7 +8,7 @@ use Rattle.hop_core.specs.Relay.{waiting}
 use Rattle.hop_core.specs.State.{State, in_at, lowest_unread, pulled_from, pulls}
 use Rattle.convey.specs.Conveyors.{GivesNext}
 use Rattle.rank_node.proofs.Absorbed.{fewer_from}
-use Rattle.rank_node.specs.Pulls.{NoMore}
+use Rattle.rank_node.specs.Pulls.{InboxesShrink}
 
 pub pulled_same : (st : State) (o : Option ℕ) → pulled_from st o ≡ record st { ins = (pulled_from st o).ins; pulled = (pulled_from st o).pulled }
 pulled_same st None = refl
@@ -26,7 +26,7 @@ drop_less : {X : Type 0} (xs : List X) → length (drop 1 xs) ≤ length xs
 drop_less [] = omega arith
 drop_less (x ∷ xs) = omega arith
 
-pub fewer_pulled : (st : State) (o : Option ℕ) → NoMore st (pulled_from st o)
+pub fewer_pulled : (st : State) (o : Option ℕ) → InboxesShrink st (pulled_from st o)
 fewer_pulled st None l = omega arith
 fewer_pulled st (Some i) l = fewer_set st.ins i (in_index st.dims l) (record (in_at st i) { parcel = with_first_taken (in_at st i).parcel }) (drop_less (in_at st i).parcel.untaken)
 

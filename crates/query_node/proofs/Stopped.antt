@@ -26,7 +26,7 @@ use Rattle.round_program.specs.Talks.{Talk}
 use Rattle.convey.specs.Buffers.{is_complete}
 use Rattle.std.specs.Prelude.{IfSome}
 use Rattle.rank_node.specs.Movers.{AllRead}
-use Rattle.rank_node.specs.Pulls.{NoMore}
+use Rattle.rank_node.specs.Pulls.{InboxesShrink}
 use Rattle.rank_node.specs.Stuck.{HasCrowded}
 use Rattle.query_node.specs.States.{BiState, Sides, AdvancesOnce}
 use Rattle.query_node.specs.Still.{Known, IsStuckBoth}
@@ -46,7 +46,7 @@ complete_is p e = ap progress_of e
 pub ok_once : {T E : Type 0} {a b : T} → ◌≡◌ {A = Result T E} (Ok a) (Ok b) → a ≡ b
 ok_once e = cc
 
-lies_left : (c c1 c2 c3 : State) (got got' : Logs) → c1 ≡ record c { outs = c1.outs; pulled = c1.pulled } → NoMore c2 c3
+lies_left : (c c1 c2 c3 : State) (got got' : Logs) → c1 ≡ record c { outs = c1.outs; pulled = c1.pulled } → InboxesShrink c2 c3
     → ((l : ℕ) (more : List Shipped) → l < links c1.dims → reader_at c1.dims l ≡ c1.rank → got' l ≡ got l ++ more → Ends ((in_of c1 l).parcel.untaken ++ flat_map (λ p. p.entries) more) (in_of c2 l).parcel.untaken)
     → (l : ℕ) (more : List Shipped) → l < links c.dims → reader_at c.dims l ≡ c.rank → got' l ≡ got l ++ more
     → length (in_of c3 l).parcel.untaken ≤ length (in_of c l).parcel.untaken + length (flat_map (λ (p : Shipped). p.entries) more)
@@ -68,7 +68,7 @@ once ends c c1 log log' same one l b e =
 
 -- one way of a turn: pushes, an advance and pulls
 pub advances_once : (cap : ℕ) (told : Bool) (c c1 c2 c3 : State) (port port' : PortView) → c1 ≡ record c { outs = c1.outs; pulled = c1.pulled }
-    → StaysAtPort told c1 c2 port port' → ListsGrow cap c1 port port' → WereAsked c1 c2 port port' → c3 ≡ record c2 { ins = c3.ins; pulled = c3.pulled } → NoMore c2 c3 → AdvancesOnce cap c c3 port port'
+    → StaysAtPort told c1 c2 port port' → ListsGrow cap c1 port port' → WereAsked c1 c2 port port' → c3 ≡ record c2 { ins = c3.ins; pulled = c3.pulled } → InboxesShrink c2 c3 → AdvancesOnce cap c c3 port port'
 advances_once cap told c c1 c2 c3 port port' same stays grows asked took fewer =
     let steady : c1.steady ≡ c.steady = ap (λ (t : State). t.steady) same in
     record {

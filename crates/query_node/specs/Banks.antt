@@ -34,7 +34,7 @@ pub record IsOwnSide {S : Type 0} (T : Talk S) (dims : List ℕ) (all : ℕ → 
       → IsPrefix (sent_to dims replying r s) (answers T (all r) s (got_from dims got r s))
 
 -- It sent everything: its queries, and an answer to each query that it got.
-pub record IsAll {S : Type 0} (T : Talk S) (dims : List ℕ) (all : ℕ → S) (r : ℕ)
+pub record HasSentAll {S : Type 0} (T : Talk S) (dims : List ℕ) (all : ℕ → S) (r : ℕ)
     (asking replying got : Logs) : Type 0 where
   pub queries : (d : ℕ) → d < ranks dims → sent_to dims asking r d ≡ queries_to T (all r) d
   pub replies : (s : ℕ) → s < ranks dims → sent_to dims replying r s ≡ answers T (all r) s (got_from dims got r s)
@@ -52,7 +52,7 @@ RepliesBegin {S} T = (dims : List ℕ) (all : ℕ → S) (asking asked replying 
 abbrev pub RepliesEnd : {S : Type 0} → Talk S → Type 0
 RepliesEnd {S} T = (dims : List ℕ) (all : ℕ → S) (asking asked replying replied : Logs) → IsLawfulBank dims asking asked
     → IsLawfulBank dims replying replied
-    → (s d : ℕ) → s < ranks dims → d < ranks dims → IsAll T dims all s asking replying asked
-    → IsAll T dims all d asking replying asked
+    → (s d : ℕ) → s < ranks dims → d < ranks dims → HasSentAll T dims all s asking replying asked
+    → HasSentAll T dims all d asking replying asked
     → 0 < lasts (asked (hop_link dims s d (length dims))) → 0 < lasts (replied (hop_link dims d s (length dims)))
     → got_from dims replied s d ≡ replies_of T all d s

@@ -37,7 +37,7 @@ pub record IsMoment (old new now : Sides) : Type 0 where
   pub order : ((l : ℕ) → now.replying l ≡ old.replying l) ⊎ ((l : ℕ) → now.asked l ≡ new.asked l)
 
 -- Rank r of a grid is between two turns, by its own logs.
-pub record StandsAt {S : Type 0} (T : Talk S) (dims : List ℕ) (r : ℕ) (start : S) (n : BiState S)
+pub record IsBetweenTurns {S : Type 0} (T : Talk S) (dims : List ℕ) (r : ℕ) (start : S) (n : BiState S)
     (own : Sides) : Type 0 where
   pub same_dims : n.queries.dims ≡ dims
   pub same_rank : n.queries.rank ≡ r
@@ -49,10 +49,10 @@ pub record IsUnderway {S : Type 0} (T : Talk S) (dims : List ℕ) (r : ℕ) (sta
     (now : Sides) : Type 0 where
   pub before : BiState S
   pub old : Sides
-  pub stood : StandsAt T dims r start before old
+  pub stood : IsBetweenTurns T dims r start before old
   pub after : BiState S
   pub new : Sides
-  pub stands : StandsAt T dims r start after new
+  pub stands : IsBetweenTurns T dims r start after new
   pub moment : IsMoment old new now
 
 -- The replies theorem at every step, over two banks that keep the laws, with each rank at some

@@ -11,11 +11,11 @@ use Rattle.hop_core.specs.declared.phase.Pushed.{Pushed}
 use Rattle.hop_core.specs.declared.phase.Pushed.TheVariants.{Accepted, Full}
 use Rattle.hop_core.specs.State.{State, lowest_unread, pull_from}
 use Rattle.convey.specs.Buffers.{buffers_of}
-use Rattle.convey.specs.Conveyors.{AgreesWith, KeepsAgreement, IsStepOf, standing_toward}
+use Rattle.convey.specs.Conveyors.{AgreesWith, KeepsAgreement, IsStepOf, open_count_toward}
 use Rattle.convey.specs.Parts.{part_of}
 use Rattle.round_program.specs.Talks.{Talk, SameTalk}
 use Rattle.round_program.specs.Replies.{carrying, answers, heard_by, places_to}
-use Rattle.rank_node.specs.Pulls.{PushedOn, NoMore}
+use Rattle.rank_node.specs.Pulls.{PushedOn, InboxesShrink}
 
 -- Pushes of the items from number `from` on, until one is refused or all are pushed.
 -- refused: the open parcel toward the receiver of the first remaining item is full.
@@ -27,7 +27,7 @@ pub record PushesQueries (items : List (ℕ × Item)) (cap from next : ℕ) (c c
   pub on : (sent got : Logs) → AgreesWith c sent got
       → PushedOn items (ranks c.dims) from next (part_of (buffers_of c) sent got) (part_of (buffers_of c') sent got)
   pub refused : (to : ℕ) (x : Item) → slice_get items next ≡ Some (to, x)
-      → (to < ranks c'.dims) × (standing_toward c' to ≡ cap)
+      → (to < ranks c'.dims) × (open_count_toward c' to ≡ cap)
 
 -- Queries may be pulled of q, and their answers pushed on r: q has begun, and r is working and
 -- isn't done.
@@ -55,7 +55,7 @@ pub record AnswersOn {S : Type 0} (T : Talk S) (s : S) (p : ℕ) (asked asked' r
 pub record AnswersQueries {S : Type 0} (T : Talk S) (s : S) (q q' r r' : State) : Type 0 where
   pub same : q' ≡ record q { ins = q'.ins; pulled = q'.pulled }
   pub same_replies : r' ≡ record r { outs = r'.outs; pulled = r'.pulled }
-  pub fewer : NoMore q q'
+  pub fewer : InboxesShrink q q'
   pub kept : KeepsAgreement q q'
   pub kept_replies : KeepsAgreement r r'
   pub on : (asking asked replying replied : Logs) → AgreesWith q asking asked → AgreesWith r replying replied
@@ -68,7 +68,7 @@ pub record RefusesAnswer (cap to : ℕ) (q r : State) : Type 0 where
   pub query : Item
   pub next : pull_from q (lowest_unread q) ≡ Some (to, query)
   pub low : to < ranks r.dims
-  pub full : standing_toward r to ≡ cap
+  pub full : open_count_toward r to ≡ cap
 
 -- What a rank that began in the state `start` has heard of p ranks: `came e d` are the replies of
 -- rank d in epoch e; the only epoch is 0.
@@ -94,7 +94,7 @@ pub record MayHear {S : Type 0} (T : Talk S) (asker : S) (lines : List (List ℕ
 pub record Hears {S : Type 0} (T : Talk S) (asker asker' : S) (lines lines' : List (List ℕ))
     (r r' : State) : Type 0 where
   pub same : r' ≡ record r { ins = r'.ins; pulled = r'.pulled }
-  pub fewer : NoMore r r'
+  pub fewer : InboxesShrink r r'
   pub kept : KeepsAgreement r r'
   pub talk : T.queries asker' ≡ T.queries asker
   pub on : (start : S) (replying replied : Logs) → AgreesWith r replying replied
@@ -107,7 +107,7 @@ pub record PushesAnswer {S : Type 0} (T : Talk S) (s : S) (cap from : ℕ) (quer
   pub same : r' ≡ record r { outs = r'.outs; pulled = r'.pulled }
   pub kept : KeepsAgreement r r'
   pub accepted : result ≡ Accepted → IsStepOf (Push from (carrying (T.answer s from query.a))) r r'
-  pub refused : result ≡ Full → IsStepOf Idle r r' × (standing_toward r' from ≡ cap)
+  pub refused : result ≡ Full → IsStepOf Idle r r' × (open_count_toward r' from ≡ cap)
 
 -- One more reply of the rank `from` is heard.
 pub record HearsOne {S : Type 0} (T : Talk S) (from reply : ℕ) (asker asker' : S)

@@ -6,7 +6,7 @@ ghost use Rattle.bale_items.specs.declared.item.Item.{Item};
 ghost use Rattle.route_tensor.specs.Grid.{ranks};
 ghost use Rattle.port_bank.specs.Logs.{Logs};
 ghost use Rattle.convey.specs.Buffers.{buffers_of};
-ghost use Rattle.convey.specs.Conveyors.{AgreesWith, KeepsAgreement, standing_toward};
+ghost use Rattle.convey.specs.Conveyors.{AgreesWith, KeepsAgreement, open_count_toward};
 ghost use Rattle.convey.specs.Parts.{part_of};
 ghost use Rattle.round_program.specs.Replies.{asks_of};
 ghost use Rattle.rank_node.specs.Pulls.{PushedOn};
@@ -60,7 +60,7 @@ fn push_query<A: Asker, const CAP: usize, const HOPS: usize>(
         (part_of (buffers_of conveyor.old) sent got) (part_of (buffers_of conveyor.new) sent got) }
     ensures full { result ≡ Pushed.Full → (to : ℕ) (x : Item) → slice_get (asks_of A.talk asker.now.value) next
         ≡ Some (to, x)
-        → (to < ranks conveyor.new.dims) × (standing_toward conveyor.new to ≡ CAP) }
+        → (to < ranks conveyor.new.dims) × (open_count_toward conveyor.new to ≡ CAP) }
 {
     let (to, question) = asker.query(next);
     conveyor.push(

@@ -68,9 +68,9 @@ HasSwept R ByExstack dims starts sweeps cycle rs sent got = AllMadeHalves (most_
 -- after some sweeps: all ranks, and how many turns were made
 pub record Reached {S : Type 0} (R : Rules S) (dims : List ℕ) (cap slots : ℕ) (manner : Manner) (starts : List S) (steps0 : ℕ) (rs : List (RankState S)) (sent got : Logs) (steps : ℕ) : Type 0 where
   pub h : ℕ → ℕ → S
-  pub world : RanksOnBank R dims cap slots manner starts h rs sent got
+  pub on_bank : RanksOnBank R dims cap slots manner starts h rs sent got
   pub sweeps : ℕ
-  pub swept : HasSwept R manner dims starts sweeps world.cycle rs sent got
+  pub swept : HasSwept R manner dims starts sweeps on_bank.cycle rs sent got
   pub count : steps ≤ steps0 + ranks dims * sweeps
 
 -- over conveyors
@@ -110,10 +110,10 @@ module _ {S : Type 0} (R : Rules S) (laws : Laws R) (law : ClosesLaws) (rest : R
   module _ (order : List ℕ) (is : IsOrder (ranks dims) order) (h : ℕ → ℕ → S) (rs rs' : List (RankState S)) (sent got sent' got' : Logs)
       (w : RanksOnBank R dims cap slots (ByConveyor steady) starts h rs sent got) (on : GoesOn rs) (cycle0 : ℕ → ℕ) (s : AfterSomeTurns R dims cap slots (ByConveyor steady) starts order (length order) cycle0 rs sent got rs' sent' got') where
     before : (r : ℕ) (x : RankState S) → slice_get rs' r ≡ Some x → (y : RankState S) × (slice_get rs r ≡ Some y)
-    before r x at = find rs r (omega (arith, within rs' r x at, s.world.ranked.all, w.ranked.all))
+    before r x at = find rs r (omega (arith, within rs' r x at, s.on_bank.ranked.all, w.ranked.all))
 
     some : 0 < length rs'
-    some = omega (arith, within rs on.rank on.state on.at, s.world.ranked.all, w.ranked.all)
+    some = omega (arith, within rs on.rank on.state on.at, s.on_bank.ranked.all, w.ranked.all)
 
     -- the least epoch doesn't fall
     kept : (r : ℕ) (x : RankState S) → slice_get rs' r ≡ Some x → least rs ≤ progress x
@@ -135,7 +135,7 @@ module _ {S : Type 0} (R : Rules S) (laws : Laws R) (law : ClosesLaws) (rest : R
               let a = least_low rs on.rank x on.at in
               let p : progress x ≡ epoch_in x.node.mover = ap (λ b. cond b (epoch_in x.node.mover + 1) (epoch_in x.node.mover)) on.still in
               let b = still_within R laws law dims cap slots (ByConveyor steady) starts h rs sent got w.ranked plan.shape plan.most n plan.start plan.rounds on.rank x on.at on.still in
-              let past = all_past R laws law rest dims cap slots steady starts s.h rs' sent' got' s.world plan.shape plan.most n plan.start plan.rounds plan.some (least rs) (omega (arith, a, p, b)) kept (rested light) in
+              let past = all_past R laws law rest dims cap slots steady starts s.h rs' sent' got' s.on_bank plan.shape plan.most n plan.start plan.rounds plan.some (least rs) (omega (arith, a, p, b)) kept (rested light) in
               let up = least_high rs' (least rs + 1) some past in
               let g = s.grown in
               omega (arith, up, g)
@@ -145,7 +145,7 @@ module _ {S : Type 0} (R : Rules S) (laws : Laws R) (law : ClosesLaws) (rest : R
               let y = before r x at in
               let a = least_low rs r y.0 y.1 in
               let b = s.forward r y.0 x y.1 at in
-              let place = is.each r (omega (arith, within rs' r x at, s.world.ranked.all)) in
+              let place = is.each r (omega (arith, within rs' r x at, s.on_bank.ranked.all)) in
               s.rests light place.0 r (within order place.0 r place.1) place.1 y.0 x y.1 at over (omega (arith, a, b, here))
 
 -- over exstacks
@@ -231,18 +231,18 @@ module _ {S : Type 0} (R : Rules S) (laws : Laws R) (law : ClosesLaws) (rest : R
 
   -- a sweep is one more
   sweep_more : (manner : Manner) (order : List ℕ) → IsOrder (ranks dims) order → (h : ℕ → ℕ → S) (rs rs' : List (RankState S)) (sent got sent' got' : Logs) (w : RanksOnBank R dims cap slots manner starts h rs sent got) → GoesOn rs
-      → (s : AfterSomeTurns R dims cap slots manner starts order (length order) w.cycle rs sent got rs' sent' got') → (sweeps : ℕ) → HasSwept R manner dims starts sweeps w.cycle rs sent got → HasSwept R manner dims starts (sweeps + 1) s.world.cycle rs' sent' got'
+      → (s : AfterSomeTurns R dims cap slots manner starts order (length order) w.cycle rs sent got rs' sent' got') → (sweeps : ℕ) → HasSwept R manner dims starts sweeps w.cycle rs sent got → HasSwept R manner dims starts (sweeps + 1) s.on_bank.cycle rs' sent' got'
   sweep_more (ByConveyor steady) order is h rs rs' sent got sent' got' w on s sweeps made =
       let a = more R laws law rest dims cap slots steady starts n plan order is h rs rs' sent got sent' got' w on w.cycle s in
       omega (arith, a, made)
   sweep_more ByExstack order is h rs rs' sent got sent' got' w on s sweeps made =
-      halves_more R laws law dims cap slots starts n plan s.h rs' sent' got' s.world order is sweeps (halves_lower R laws law dims cap slots starts n plan h rs sent got w on sweeps made) (s.made sweeps made).1
+      halves_more R laws law dims cap slots starts n plan s.h rs' sent' got' s.on_bank order is sweeps (halves_lower R laws law dims cap slots starts n plan h rs sent got w on sweeps made) (s.made sweeps made).1
 
   module _ (manner : Manner) where
     -- so the turns are bounded
     pub steps_low : (steps0 steps : ℕ) (rs : List (RankState S)) (sent got : Logs) → Reached R dims cap slots manner starts steps0 rs sent got steps → steps ≤ steps0 + turns_within R manner dims starts n
     steps_low steps0 steps rs sent got r =
-        let a = mul-le-mul_left (ranks dims) (sweeps_low manner r.h rs sent got r.world r.sweeps r.swept) in
+        let a = mul-le-mul_left (ranks dims) (sweeps_low manner r.h rs sent got r.on_bank r.sweeps r.swept) in
         let b = turns_enough manner in
         let c = r.count in
         omega (arith, a, b, c)
@@ -250,19 +250,19 @@ module _ {S : Type 0} (R : Rules S) (laws : Laws R) (law : ClosesLaws) (rest : R
     -- also where a sweep is broken off
     pub steps_lower : (steps0 steps steps' : ℕ) (rs : List (RankState S)) (sent got : Logs) → GoesOn rs → Reached R dims cap slots manner starts steps0 rs sent got steps → steps' ≤ steps + ranks dims → steps' ≤ steps0 + turns_within R manner dims starts n
     steps_lower steps0 steps steps' rs sent got on r more' =
-        let a = mul-le-mul_left (ranks dims) (sweeps_lower manner r.h rs sent got r.world on r.sweeps r.swept) in
+        let a = mul-le-mul_left (ranks dims) (sweeps_lower manner r.h rs sent got r.on_bank on r.sweeps r.swept) in
         let b = turns_enough manner in
         let c = r.count in
         omega (arith, a, b, c, more')
 
     pub reached_more : (order : List ℕ) → IsOrder (ranks dims) order → (rs rs' : List (RankState S)) (sent got sent' got' : Logs) (steps0 steps steps' : ℕ) → GoesOn rs → (r : Reached R dims cap slots manner starts steps0 rs sent got steps)
-        → AfterSomeTurns R dims cap slots manner starts order (length order) r.world.cycle rs sent got rs' sent' got' → steps' ≤ steps + length order → Reached R dims cap slots manner starts steps0 rs' sent' got' steps'
+        → AfterSomeTurns R dims cap slots manner starts order (length order) r.on_bank.cycle rs sent got rs' sent' got' → steps' ≤ steps + length order → Reached R dims cap slots manner starts steps0 rs' sent' got' steps'
     reached_more order is rs rs' sent got sent' got' steps0 steps steps' on r s turned =
         record {
           h = s.h;
-          world = s.world;
+          on_bank = s.on_bank;
           sweeps = r.sweeps + 1;
-          swept = sweep_more manner order is r.h rs rs' sent got sent' got' r.world on s r.sweeps r.swept;
+          swept = sweep_more manner order is r.h rs rs' sent got sent' got' r.on_bank on s r.sweeps r.swept;
           count = (let a = r.count in let b = is.size in let c = next (ranks dims) r.sweeps in omega (arith, a, b, c, turned));
         } where
           next : (p k : ℕ) → p * (k + 1) ≡ p * k + p
@@ -291,7 +291,7 @@ pub record Driving {S : Type 0} (R : Rules S) (cap : ℕ) (rs0 : List (RankState
 
 pub driving_none : {S : Type 0} (R : Rules S) (cap : ℕ) (rs0 : List (RankState S)) (b0 : Bank) (steps0 : ℕ) → IsBank cap b0 → Driving R cap rs0 b0 steps0 rs0 b0 steps0
 driving_none R cap rs0 b0 steps0 is =
-    record { is_bank = is; same_dims = refl; same_slots = refl; reached = λ manner starts n h p w. record { h = h; world = w; sweeps = 0; swept = none_swept R manner b0.dims cap b0.slots starts h rs0 (sent_of b0) (got_of b0) w; count = omega arith } }
+    record { is_bank = is; same_dims = refl; same_slots = refl; reached = λ manner starts n h p w. record { h = h; on_bank = w; sweeps = 0; swept = none_swept R manner b0.dims cap b0.slots starts h rs0 (sent_of b0) (got_of b0) w; count = omega arith } }
 
 abbrev pub most_of : {S : Type 0} → Rules S → List S → ℕ
 most_of R [] = 0
@@ -312,7 +312,7 @@ module _ {S : Type 0} (R : Rules S) (cap : ℕ) (rs0 : List (RankState S)) (b0 :
         n,
         s.h,
         subst (λ d. DrivePlan R d b.slots starts n) (sym v.same_dims) (subst (λ k. DrivePlan R b0.dims k starts n) (sym v.same_slots) p),
-        subst (λ d. RanksOnBank R d cap b.slots manner starts s.h rs (sent_of b) (got_of b)) (sym v.same_dims) (subst (λ k. RanksOnBank R b0.dims cap k manner starts s.h rs (sent_of b) (got_of b)) (sym v.same_slots) s.world),
+        subst (λ d. RanksOnBank R d cap b.slots manner starts s.h rs (sent_of b) (got_of b)) (sym v.same_dims) (subst (λ k. RanksOnBank R b0.dims cap k manner starts s.h rs (sent_of b) (got_of b)) (sym v.same_slots) s.on_bank),
       )
 
   module _ (laws : Laws R) (law : ClosesLaws) (rest : RestLaw) (order : List ℕ) (is : IsOrder (ranks b0.dims) order) (on : GoesOn rs) (rs' : List (RankState S)) (b' : Bank) (steps' : ℕ)
@@ -331,7 +331,7 @@ module _ {S : Type 0} (R : Rules S) (cap : ℕ) (rs0 : List (RankState S)) (b0 :
         → Reached R b0.dims cap b0.slots manner starts steps0 rs' (sent_of b') (got_of b') steps'
     reached' manner starts n h p w0 =
         let r = v.reached manner starts n h p w0 in
-        reached_more R laws law rest b0.dims cap b0.slots starts n p manner order is rs rs' (sent_of b) (got_of b) (sent_of b') (got_of b') steps0 steps steps' on r (swept_at manner starts n r.h p r.world) turned
+        reached_more R laws law rest b0.dims cap b0.slots starts n p manner order is rs rs' (sent_of b) (got_of b) (sent_of b') (got_of b') steps0 steps steps' on r (swept_at manner starts n r.h p r.on_bank) turned
 
     pub driving_more : Driving R cap rs0 b0 steps0 rs' b' steps'
     driving_more = record { is_bank = lawful; same_dims = ed ∙ v.same_dims; same_slots = es ∙ v.same_slots; reached = reached' }

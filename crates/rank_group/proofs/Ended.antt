@@ -40,7 +40,7 @@ pub record Begun {S : Type 0} (R : Rules S) (cap : ℕ) (manner : Manner) (start
   pub h : ℕ → ℕ → S
   pub plan : DrivePlan R b.dims b.slots starts n
   pub few : n ≤ plan.most
-  pub world : RanksOnBank R b.dims cap b.slots manner starts h rs (sent_of b) (got_of b)
+  pub on_bank : RanksOnBank R b.dims cap b.slots manner starts h rs (sent_of b) (got_of b)
 
 slots_some : (slots : ℕ) → IsSlots slots → 0 < slots
 unfolding IsSlots
@@ -67,7 +67,7 @@ begun {S} R laws cap dims slots manner starts shape most n rs fresh some is star
       h = h;
       plan = record { shape = shape; most = most; start = start; rounds = rounds; few = (let a = laws.most_below first.0 member.valid in omega (arith, a, member.same_most, low)); some = slots_some slots is.counts };
       few = low;
-      world = record {
+      on_bank = record {
         ranked = record {
           grid = is.grid;
           links_keep = law.links_keep;
@@ -129,20 +129,20 @@ module _ {S : Type 0} (R : Rules S) (laws : Laws R) (cap : ℕ) (dims : List ℕ
   pub run_needs : (manner : Manner) × (n : ℕ) × (h : ℕ → ℕ → S) × (plan : DrivePlan R b.dims b.slots (progs_of rs) n) × (n ≤ plan.most) × RanksOnBank R b.dims cap b.slots manner (progs_of rs) h rs (sent_of b) (got_of b)
   run_needs =
       let x : Begun R cap manner (progs_of rs) ends.rounds rs b = subst (λ ps. Begun R cap manner ps ends.rounds rs b) (sym fresh.programs) (begun_at ends.rounds ends.has_rounds) in
-      (manner, ends.rounds, x.h, x.plan, x.few, x.world)
+      (manner, ends.rounds, x.h, x.plan, x.few, x.on_bank)
 
   -- and what they leave
   pub steps_at : (steps steps' : ℕ) → ((manner : Manner) (starts : List S) (n : ℕ) (h : ℕ → ℕ → S) → DrivePlan R b.dims b.slots starts n → RanksOnBank R b.dims cap b.slots manner starts h rs (sent_of b) (got_of b) → steps' ≤ steps + turns_within R manner b.dims starts n)
       → (n : ℕ) → HasRounds R starts n → steps' ≤ steps + turns_within R manner dims starts n
   steps_at steps steps' notified n rounds =
       let x = begun_at n rounds in
-      subst (λ ds. steps' ≤ steps + turns_within R manner ds starts n) (ap (λ (y : Bank). y.dims) made) (notified manner starts n x.h x.plan x.world)
+      subst (λ ds. steps' ≤ steps + turns_within R manner ds starts n) (ap (λ (y : Bank). y.dims) made) (notified manner starts n x.h x.plan x.on_bank)
 
   pub world_after : (rs' : List (RankState S)) (b' : Bank) → ((manner : Manner) (starts : List S) (n : ℕ) (h : ℕ → ℕ → S) → DrivePlan R b.dims b.slots starts n → RanksOnBank R b.dims cap b.slots manner starts h rs (sent_of b) (got_of b)
       → (g : ℕ → ℕ → S) × RanksOnBank R b.dims cap b.slots manner starts g rs' (sent_of b') (got_of b')) → (g : ℕ → ℕ → S) × RanksOnBank R dims cap slots manner starts g rs' (sent_of b') (got_of b')
   world_after rs' b' notified =
       let x = begun_at ends.rounds ends.has_rounds in
-      let w = notified manner starts ends.rounds x.h x.plan x.world in
+      let w = notified manner starts ends.rounds x.h x.plan x.on_bank in
       (w.0, subst (λ (y : Bank). RanksOnBank R y.dims cap y.slots manner starts w.0 rs' (sent_of b') (got_of b')) made w.1)
 
 logs_map : (f : Channel → List Shipped) (channels : List Channel) → f unused_channel ≡ [] → (l : ℕ) → logs_of (map f channels) l ≡ f (get_or channels l unused_channel)
@@ -192,7 +192,7 @@ module _ {S : Type 0} (R : Rules S) (laws : Laws R) (law : ClosesLaws) (cap : �
   pub notified : (round : Round) → round ≡ round_of_bank cap b → IsRound round → RecordsRun R starts n (record { dims = dims; cap = cap; slots = slots; by_slots = false }) manner round
   notified round is in_order =
       subst (λ c. RecordsRun R starts n (record { dims = dims; cap = cap; slots = slots; by_slots = false }) manner c) (sym is)
-      (tells_run R laws law (round_of_bank cap b) cap slots manner starts h rs world (subst IsRound is in_order).in_order over shape most n (subst (λ ds. InRound R (ranks ds) 0 shape most starts) (sym ed) start) rounds
+      (tells_run R laws law (round_of_bank cap b) cap slots manner starts h rs on_bank (subst IsRound is in_order).in_order over shape most n (subst (λ ds. InRound R (ranks ds) 0 shape most starts) (sym ed) start) rounds
       (record { dims = dims; cap = cap; slots = slots; by_slots = false }) (ap (λ ds. record { dims = ds; cap = cap; slots = b.slots; by_slots = false }) ed ∙ ap (λ k. record { dims = dims; cap = cap; slots = k; by_slots = false }) es) refl) where
         sent : ◌≡◌ {A = Logs} (sent_of b) (logs_of (map (λ c. c.sent) b.channels))
         sent = λ i l. sym (logs_map (λ c. c.sent) b.channels refl l) i
@@ -200,8 +200,8 @@ module _ {S : Type 0} (R : Rules S) (laws : Laws R) (law : ClosesLaws) (cap : �
         got : ◌≡◌ {A = Logs} (got_of b) (logs_of (map (λ c. c.got) b.channels))
         got = λ i l. sym (logs_map (λ c. c.got) b.channels refl l) i
 
-        world : AllRanks R b.dims cap slots manner starts h rs (logs_of (map (λ c. c.sent) b.channels)) (logs_of (map (λ c. c.got) b.channels))
-        world = subst (λ ds. AllRanks R ds cap slots manner starts h rs (logs_of (map (λ c. c.sent) b.channels)) (logs_of (map (λ c. c.got) b.channels))) (sym ed)
+        on_bank : AllRanks R b.dims cap slots manner starts h rs (logs_of (map (λ c. c.sent) b.channels)) (logs_of (map (λ c. c.got) b.channels))
+        on_bank = subst (λ ds. AllRanks R ds cap slots manner starts h rs (logs_of (map (λ c. c.sent) b.channels)) (logs_of (map (λ c. c.got) b.channels))) (sym ed)
             (subst (λ (f : Logs). AllRanks R dims cap slots manner starts h rs f (logs_of (map (λ c. c.got) b.channels))) sent (subst (λ (f : Logs). AllRanks R dims cap slots manner starts h rs (sent_of b) f) got w))
 
   -- each rank has completed all epochs, which takes a turn each

@@ -1,7 +1,7 @@
 -- A rank on its way stays on it by a turn.
 use Rattle.std.proofs.Common.{◌≡◌, ℕ, ◌+◌, ◌<◌, ◌≤◌, Bool, true, false, cond, refl, sym, ap, subst, arith}
 use Rattle.std.proofs.lemmas.Bool.{true≢false}
-use Rattle.link_slots.specs.SeatView.{Manning, table_name, posted_on, collected_from}
+use Rattle.link_slots.specs.SeatView.{SeatView, table_name, posted_on, collected_from}
 use Rattle.link_slots.proofs.Ported.{one_bank}
 use Rattle.round_program.specs.Rules.{Rules}
 use Rattle.rank_node.specs.Movers.{Manner, epoch_in}
@@ -12,7 +12,7 @@ use Rattle.rank_group.specs.Seats.{SeatedState, bank_of, HasSomeRun, TookTurns}
 pub has_way : {S : Type 0} (R : Rules S) (cap : ℕ) (notified : ℕ → ℕ → Bool) (x y : SeatedState S) → HasSomeRun R cap x → TookTurns R cap notified x y → HasSomeRun R cap y
 has_way R cap notified x y w ran = let m = ran.kept w.manner w.h w.way in record { manner = w.manner; h = m.0; way = m.2 }
 
-module _ {S : Type 0} (R : Rules S) (cap : ℕ) (x : SeatedState S) (rank : RankState S) (seat : Manning) (same : bank_of (record x { seat = seat }) ≡ bank_of x) (er : seat.rank ≡ x.seat.rank) (notified : ℕ → ℕ → Bool) (heard : notified x.seat.rank x.turns ≡ true) where
+module _ {S : Type 0} (R : Rules S) (cap : ℕ) (x : SeatedState S) (rank : RankState S) (seat : SeatView) (same : bank_of (record x { seat = seat }) ≡ bank_of x) (er : seat.rank ≡ x.seat.rank) (notified : ℕ → ℕ → Bool) (heard : notified x.seat.rank x.turns ≡ true) where
   one_more : (n : ℕ) → x.turns ≤ n → n < x.turns + 1 → notified x.seat.rank n ≡ true
   one_more n low high = let e : x.turns ≡ n = omega (arith, low, high) in subst (λ k. notified x.seat.rank k ≡ true) e heard
 
@@ -48,5 +48,5 @@ pub going_progress : {S : Type 0} (n : RankState S) → n.over ≡ false → pro
 going_progress n e = ap (λ b. cond b (epoch_in n.node.mover + 1) (epoch_in n.node.mover)) e
 
 -- seats of one bank, by what no turn changes
-pub one_place : {S : Type 0} (x : SeatedState S) (seat : Manning) → table_name seat.id ≡ table_name x.seat.id → seat.shape.dims ≡ x.seat.shape.dims → seat.shape.slots ≡ x.seat.shape.slots → bank_of (record x { seat = seat }) ≡ bank_of x
+pub one_place : {S : Type 0} (x : SeatedState S) (seat : SeatView) → table_name seat.id ≡ table_name x.seat.id → seat.shape.dims ≡ x.seat.shape.dims → seat.shape.slots ≡ x.seat.shape.slots → bank_of (record x { seat = seat }) ≡ bank_of x
 one_place x seat e ed es = let i = one_bank seat.id x.seat.id e in λ k. record { id = i k; shape = record { dims = ed k; slots = es k } }

@@ -23,7 +23,7 @@ use Rattle.rank_group.specs.RoundProgress.{most_rounds, MoverMadeHalves, next_cy
 use Rattle.rank_group.specs.Ranks.{RankState, AfterRank, IsOrder, progress}
 use Rattle.rank_group.specs.RanksOverBank.{RanksOnBank, inbox, moves, BlocksMover, DrivePlan, AfterSomeTurns, AllMadeHalves, progress_in, all_progress}
 use Rattle.rank_group.proofs.Growing.{lawful, posted_once, moves_on, got_more}
-use Rattle.rank_group.proofs.Swept.{grows, world_on, cycle_here, cycle_other, rests_here, rests_on}
+use Rattle.rank_group.proofs.Swept.{grows, on_bank_after, cycle_here, cycle_other, rests_here, rests_on}
 use Rattle.rank_group.proofs.MadeHalves.{all_made, made_here}
 
 pub swept_none : {S : Type 0} (R : Rules S) (dims : List ℕ) (cap slots : ℕ) (manner : Manner) (starts : List S) (order : List ℕ) (h : ℕ → ℕ → S) (rs : List (RankState S)) (sent got : Logs) → (w : RanksOnBank R dims cap slots manner starts h rs sent got)
@@ -31,7 +31,7 @@ pub swept_none : {S : Type 0} (R : Rules S) (dims : List ℕ) (cap slots : ℕ) 
 swept_none R dims cap slots manner starts order h rs sent got w =
     record {
       h = h;
-      world = w;
+      on_bank = w;
       grown = omega arith;
       forward = λ r x0 x a b. omega (arith, ap (λ y. progress y) (get_once rs r x0 x a b));
       rests = λ light j r low at. absurd (omega (arith, low));
@@ -60,15 +60,15 @@ pub swept_more : {S : Type 0} (R : Rules S) → Laws R → ClosesLaws → (round
     → ((n n' : RankState S) → slice_get rs r ≡ Some n → slice_get rs' r ≡ Some n' → AfterRank R dims cap slots r n n' sent got sent' got')
     → AfterSomeTurns R dims cap slots manner starts order i cycle0 rs0 sent0 got0 rs sent got → AfterSomeTurns R dims cap slots manner starts order (i + 1) cycle0 rs0 sent0 got0 rs' sent' got'
 swept_more {S} R laws closes rounds dims cap slots manner starts order i r cycle0 rs0 rs rs' sent0 got0 sent got sent' got' plan here low size others law turned v =
-    let w = v.world in
+    let w = v.on_bank in
     let n : (n : RankState S) × (slice_get rs r ≡ Some n) = find rs r (omega (arith, low, w.ranked.all)) in
     let n' : (n' : RankState S) × (slice_get rs' r ≡ Some n') = find rs' r (omega (arith, low, w.ranked.all, size)) in
     let t : AfterRank R dims cap slots r n.0 n'.0 sent got sent' got' = turned n.0 n'.0 n.1 n'.1 in
-    let on = world_on R dims cap slots manner starts v.h r n.0 n'.0 rs rs' sent got sent' got' w n.1 n'.1 others size t law laws closes rounds plan in
+    let on = on_bank_after R dims cap slots manner starts v.h r n.0 n'.0 rs rs' sent got sent' got' w n.1 n'.1 others size t law laws closes rounds plan in
     let more = moves_on dims r sent got sent' got' (inbox dims rs) (inbox dims rs') (grows R dims cap slots manner starts v.h r n.0 n'.0 rs rs' sent got sent' got' w n.1 n'.1 others size t law) in
     record {
       h = on.0;
-      world = on.1;
+      on_bank = on.1;
       grown = omega (arith, v.grown, more);
       forward = λ k x0 x a b. elim (cases_eq k r) [
         | inl same ↦
@@ -239,17 +239,17 @@ sweeping_more R laws closes cap order rs0 b0 steps0 i r rs rs' b b' steps steps'
     }
 
 -- all ranks in the midst of a sweep
-pub world_at : {S : Type 0} (R : Rules S) (cap : ℕ) (order : List ℕ) (rs0 : List (RankState S)) (b0 : Bank) (steps0 i : ℕ) (rs : List (RankState S)) (b : Bank) (steps : ℕ) → Sweeping R cap order rs0 b0 steps0 i rs b steps
+pub on_bank_at : {S : Type 0} (R : Rules S) (cap : ℕ) (order : List ℕ) (rs0 : List (RankState S)) (b0 : Bank) (steps0 i : ℕ) (rs : List (RankState S)) (b : Bank) (steps : ℕ) → Sweeping R cap order rs0 b0 steps0 i rs b steps
     → (manner : Manner) (starts : List S) (n : ℕ) (h : ℕ → ℕ → S) → DrivePlan R b0.dims b0.slots starts n → RanksOnBank R b0.dims cap b0.slots manner starts h rs0 (sent_of b0) (got_of b0)
     → (manner : Manner) × (starts : List S) × (n : ℕ) × (h : ℕ → ℕ → S) × DrivePlan R b.dims b.slots starts n × RanksOnBank R b.dims cap b.slots manner starts h rs (sent_of b) (got_of b)
-world_at R cap order rs0 b0 steps0 i rs b steps v manner starts n h p w =
+on_bank_at R cap order rs0 b0 steps0 i rs b steps v manner starts n h p w =
     let s = v.swept manner starts n h p w in (
       manner,
       starts,
       n,
       s.h,
       subst (λ d. DrivePlan R d b.slots starts n) (sym v.same_dims) (subst (λ k. DrivePlan R b0.dims k starts n) (sym v.same_slots) p),
-      subst (λ d. RanksOnBank R d cap b.slots manner starts s.h rs (sent_of b) (got_of b)) (sym v.same_dims) (subst (λ k. RanksOnBank R b0.dims cap k manner starts s.h rs (sent_of b) (got_of b)) (sym v.same_slots) s.world),
+      subst (λ d. RanksOnBank R d cap b.slots manner starts s.h rs (sent_of b) (got_of b)) (sym v.same_dims) (subst (λ k. RanksOnBank R b0.dims cap k manner starts s.h rs (sent_of b) (got_of b)) (sym v.same_slots) s.on_bank),
     )
 
 -- the rank at a place of an order

@@ -10,7 +10,7 @@ use Rattle.route_tensor.specs.Grid.{ranks}
 use Rattle.route_tensor.specs.Link.{links}
 use Rattle.port_bank.specs.Logs.{Logs}
 use Rattle.link_slots.specs.Gathering.{Gathering}
-use Rattle.link_slots.specs.SeatView.{Identity, Manning, posted_on, collected_from}
+use Rattle.link_slots.specs.SeatView.{BankIdentity, SeatView, posted_on, collected_from}
 use Rattle.link_slots.specs.Shape.{shipped_all}
 use Rattle.link_slots.specs.View.{no_logs}
 use Rattle.link_slots.proofs.Opening.{no_sent, no_got}
@@ -23,7 +23,7 @@ use Rattle.rank_group.specs.Seats.{SeatedState, IsSeated, bank_of}
 use Rattle.rank_crews.proofs.Joining.{one_less, next_is}
 
 -- some ranks have their seats
-pub record Seating {S : Type 0} (R : Rules S) (cap : ℕ) (b : Identity) (gather : Gathering) (number : ℕ) (all taken rest : List (RankState S)) (xs : List (SeatedState S)) : Type 0 where
+pub record Seating {S : Type 0} (R : Rules S) (cap : ℕ) (b : BankIdentity) (gather : Gathering) (number : ℕ) (all taken rest : List (RankState S)) (xs : List (SeatedState S)) : Type 0 where
   pub left : taken ++ rest ≡ all
   pub bank : (gather.id ≡ b.id) × (gather.shape ≡ b.shape)
   pub count : number ≡ length taken
@@ -31,13 +31,13 @@ pub record Seating {S : Type 0} (R : Rules S) (cap : ℕ) (b : Identity) (gather
   pub ranks_are : map (λ x. x.rank) xs ≡ taken
   pub each : (manner : Manner) (starts : List S) → AreFresh R b.shape.dims cap manner starts all → (r : ℕ) (x : SeatedState S) → slice_get xs r ≡ Some x → IsSeated R cap manner b r x
 
-module _ {S : Type 0} (R : Rules S) (cap : ℕ) (b : Identity) (gather : Gathering) (number : ℕ) (all taken rest now : List (RankState S)) (xs : List (SeatedState S)) (s : Seating R cap b gather number all taken now xs) where
+module _ {S : Type 0} (R : Rules S) (cap : ℕ) (b : BankIdentity) (gather : Gathering) (number : ℕ) (all taken rest now : List (RankState S)) (xs : List (SeatedState S)) (s : Seating R cap b gather number all taken now xs) where
   -- there is room for one more
   pub seat_left : (rank : RankState S) → now ≡ rank ∷ rest → (room : ℕ) → length all ≤ room → length xs < room
   seat_left rank is room below = omega (arith, below, ap length s.left, ap length is, length-append taken now, length-map xs (λ (y : SeatedState S). y.rank), ap length s.ranks_are)
 
   -- one more gets its seat
-  module _ (gather' : Gathering) (rank : RankState S) (seat : Manning) (is : now ≡ rank ∷ rest) (lists : _) (gave : gather' ≡ record gather { lists = lists; given = slice_set gather.given number true })
+  module _ (gather' : Gathering) (rank : RankState S) (seat : SeatView) (is : now ≡ rank ∷ rest) (lists : _) (gave : gather' ≡ record gather { lists = lists; given = slice_set gather.given number true })
       (noted ended : List ℕ) (seat_is : seat ≡ record { id = b.id; shape = b.shape; rank = number; lists = no_logs (links b.shape.dims); noted = noted; ended = ended }) where
     abbrev x : SeatedState S
     x = record { rank = rank; seat = seat; turns = 0; lost = false }
@@ -65,12 +65,12 @@ module _ {S : Type 0} (R : Rules S) (cap : ℕ) (b : Identity) (gather : Gatheri
           shape = λ l below own. shape_none manner cap;
         } in
         record {
-          bank = ap (λ (m : Manning). record { id = m.id; shape = m.shape }) seat_is;
-          number = ap (λ (m : Manning). m.rank) seat_is ∙ s.count;
+          bank = ap (λ (m : SeatView). record { id = m.id; shape = m.shape }) seat_is;
+          number = ap (λ (m : SeatView). m.rank) seat_is ∙ s.count;
           none = refl;
           way = record {
-            runs = λ kept. subst (λ ds. IsRank R ds cap manner seat.rank h rank (posted_on seat) (collected_from seat)) (sym (ap (λ (m : Manning). m.shape.dims) seat_is))
-                (subst (λ k. IsRank R b.shape.dims cap manner k h rank (posted_on seat) (collected_from seat)) (sym (ap (λ (m : Manning). m.rank) seat_is ∙ s.count))
+            runs = λ kept. subst (λ ds. IsRank R ds cap manner seat.rank h rank (posted_on seat) (collected_from seat)) (sym (ap (λ (m : SeatView). m.shape.dims) seat_is))
+                (subst (λ k. IsRank R b.shape.dims cap manner k h rank (posted_on seat) (collected_from seat)) (sym (ap (λ (m : SeatView). m.rank) seat_is ∙ s.count))
                 (subst (λ (a : Logs). IsRank R b.shape.dims cap manner (length taken) h rank a (collected_from seat)) (sym none_sent)
                 (subst (λ (a : Logs). IsRank R b.shape.dims cap manner (length taken) h rank (λ l. []) a) (sym none_got) own)));
             few = λ kept. let e = f.epoch in let on = ap (λ b. cond b (epoch_in rank.node.mover + 1) (epoch_in rank.node.mover)) f.on in omega (arith, e, on);
@@ -98,14 +98,14 @@ module _ {S : Type 0} (R : Rules S) (cap : ℕ) (b : Identity) (gather : Gatheri
         }
 
 -- some ranks have left their seats
-pub record Leaving {S : Type 0} (b : Identity) (gather : Gathering) (all taken rest : List (SeatedState S)) (rs : List (RankState S)) : Type 0 where
+pub record Leaving {S : Type 0} (b : BankIdentity) (gather : Gathering) (all taken rest : List (SeatedState S)) (rs : List (RankState S)) : Type 0 where
   pub left : taken ++ rest ≡ all
   pub bank : (gather.id ≡ b.id) × (gather.shape ≡ b.shape)
   pub ranks_are : rs ≡ map (λ y. y.rank) taken
   pub kept : All (λ y. y.lost ≡ false) taken
   pub there : EachAt (λ r y. get_or gather.lists r None ≡ Some y.seat.lists) taken
 
-module _ {S : Type 0} (b : Identity) (gather : Gathering) (all taken rest now : List (SeatedState S)) (rs : List (RankState S)) (s : Leaving b gather all taken now rs) (y : SeatedState S) (is : now ≡ y ∷ rest) where
+module _ {S : Type 0} (b : BankIdentity) (gather : Gathering) (all taken rest now : List (SeatedState S)) (rs : List (RankState S)) (s : Leaving b gather all taken now rs) (y : SeatedState S) (is : now ≡ y ∷ rest) where
   -- there is room for one more
   pub leave_left : (room : ℕ) → length all ≤ room → length rs < room
   leave_left room below = omega (arith, below, ap length s.left, ap length is, length-append taken now, length-map taken (λ (x : SeatedState S). x.rank), ap length s.ranks_are)

@@ -23,7 +23,7 @@ use Rattle.rank_node.specs.Stuck.{IsStuck}
 use Rattle.rank_node.proofs.Onward.{complete_is}
 use Rattle.rank_group.specs.Ranks.{crowded_in, idle_in}
 use Rattle.rank_group.specs.RanksOverBank.{no_conveyor}
-use Rattle.rank_group.specs.Rest.{Conveys, MovesNothing, IsQuietSweep, NodesRestLaw}
+use Rattle.rank_group.specs.Rest.{IsConveyingNode, MovesNothing, IsQuietSweep, NodesRestLaw}
 use Rattle.rank_group.proofs.Still as still
 use Rattle.rank_group.proofs.Resting.{ByItsConveyor, by_conveyor, complete_rests}
 
@@ -91,7 +91,7 @@ module _ {S : Type 0} (R : Rules S) (rest : RestLaw) (dims : List ℕ) (cap slot
           let s = q.stuck.still in
           let kept : (l : ℕ) → l < links dims → reader_at dims l ≡ r → length (in_of q.c l).parcel.untaken ≤ length (in_of q.c' l).parcel.untaken =
           λ l b f. subst (λ x. length (in_of q.c l).parcel.untaken ≤ lying x l) q.is' (subst (λ x. lying x l ≤ lying (new r).mover l) q.is (m.kept l)) in
-          let at : IsAtRest dims r s.before s.after sent got = still.at_rest dims slots r q.c q.c' sent got w.some q.same_dims q.same_rank s kept
+          let at : IsAtRest dims r s.before s.after sent got = still.without_latest dims slots r q.c q.c' sent got w.some q.same_dims q.same_rank s kept
           (elim q.stuck.pushed [
             | inl done ↦ inl done
             | inr c ↦ inr (still.busy_of dims slots r q.c q.c' sent got w.some q.same_dims q.same_rank s kept c)

@@ -28,10 +28,10 @@ use Rattle.rank_group.proofs.Worlds.{Core, core, still_within, over_at_last}
 use Rattle.rank_group.specs.RanksOverBank.{no_conveyor, RanksOnBank, IsBlockedRank, BlocksMover, DrivePlan}
 
 -- a rank that its turn left in its epoch is at rest
-pub at_rest : (dims : List ℕ) (slots r : ℕ) (c' : State) (sent got : Logs) → 0 < slots → (x : IsBlockedRank dims slots r c' sent got) → IsAtRest dims r x.left.stuck.still.before x.left.stuck.still.after sent got
-at_rest dims slots r c' sent got some x =
+pub without_latest : (dims : List ℕ) (slots r : ℕ) (c' : State) (sent got : Logs) → 0 < slots → (x : IsBlockedRank dims slots r c' sent got) → IsAtRest dims r x.left.stuck.still.before x.left.stuck.still.after sent got
+without_latest dims slots r c' sent got some x =
     let s = x.left.stuck in
-    still.at_rest dims slots r x.c c' sent got some x.same_dims x.same_rank s.still x.kept
+    still.without_latest dims slots r x.c c' sent got some x.same_dims x.same_rank s.still x.kept
     (elim s.pushed [
       | inl done ↦ inl done
       | inr c ↦ inr (still.busy_of dims slots r x.c c' sent got some x.same_dims x.same_rank s.still x.kept c)
@@ -136,7 +136,7 @@ module _ {S : Type 0} (R : Rules S) (laws : Laws R) (law : ClosesLaws) (rest : R
                   same_rank = s.rank_after ∙ (s.rank_before ∙ q.same_rank);
                   agrees = s.agrees_after;
                   late = omega (arith, at_e);
-                  turn = λ _. at_rest dims slots r c sent got some q;
+                  turn = λ _. without_latest dims slots r c sent got some q;
                   left = λ y from o k. (at_e, λ over. true≢false (sym (ap is_complete (s.over over)) ∙ q.left.going));
                 },
               )

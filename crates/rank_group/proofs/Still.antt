@@ -52,9 +52,9 @@ module _ (dims : List ℕ) (slots r : ℕ) (c c' : State) (sent got : Logs) (som
       subst (λ ds. NextIs ds r l y.tag (λ m. crowded_in dims slots r sent got m ≡ true)) same_dims (subst (λ k. NextIs c.dims k l y.tag (λ m. crowded_in dims slots r sent got m ≡ true)) same_rank next) in
       record { below = here.below; sender = here.sender; hop = here.hop; holds = busy_from (next_link dims r (hop_at dims l) y.tag) here.sender here.holds }
 
-  pub at_rest : (s.after.done ≡ true) ⊎ HasBusy dims r sent got → ((l : ℕ) → l < links dims → reader_at dims l ≡ r → hop_at dims l ≡ length dims → (in_of s.before l).parcel.untaken ≡ [])
+  pub without_latest : (s.after.done ≡ true) ⊎ HasBusy dims r sent got → ((l : ℕ) → l < links dims → reader_at dims l ≡ r → hop_at dims l ≡ length dims → (in_of s.before l).parcel.untaken ≡ [])
       → IsAtRest dims r s.before s.after sent got
-  at_rest pushed read = record {
+  without_latest pushed read = record {
     same_dims = s.dims_after;
     same_rank = s.rank_after;
     same_epoch = s.epoch_after;

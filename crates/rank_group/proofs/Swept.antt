@@ -108,8 +108,8 @@ module _ {S : Type 0} (R : Rules S) (dims : List ℕ) (cap slots : ℕ) (manner 
         (subst (λ f. KeepsCycle R (quota_of R (ranks dims) starts k) (w.cycle k) x (starting_at dims k sent) f) (sym (got_elsewhere dims r k got got' apart t.own.got_elsewhere)) (w.keeps k x (sym (others k apart) ∙ now))))
   ]
 
-  pub world_on : Laws R → ClosesLaws → (rounds : ℕ) → DrivePlan R dims slots starts rounds → (g : ℕ → ℕ → S) × (v : RanksOnBank R dims cap slots manner starts g rs' sent' got') × (v.cycle ≡ cycle_on)
-  world_on laws closes rounds plan = (
+  pub on_bank_after : Laws R → ClosesLaws → (rounds : ℕ) → DrivePlan R dims slots starts rounds → (g : ℕ → ℕ → S) × (v : RanksOnBank R dims cap slots manner starts g rs' sent' got') × (v.cycle ≡ cycle_on)
+  on_bank_after laws closes rounds plan = (
     history,
     record {
       ranked = ranked_on;

@@ -10,7 +10,7 @@ use Rattle.port_bank.specs.Logs.{Logs, starting_at, ending_at}
 use Rattle.port_bank.specs.Round.{Round, IsRound, logs_of}
 use Rattle.link_slots.specs.ClosedBank.{slot_round, AllThere}
 use Rattle.link_slots.specs.Gathering.{Gathering}
-use Rattle.link_slots.specs.SeatView.{Identity, Manning, posted_on, collected_from}
+use Rattle.link_slots.specs.SeatView.{BankIdentity, SeatView, posted_on, collected_from}
 use Rattle.round_program.specs.Rules.{Rules}
 use Rattle.round_program.specs.Laws.{Laws}
 use Rattle.round_program.specs.Canonical.{InRound, HasRounds}
@@ -33,7 +33,7 @@ first_true : (a b : Bool) → (a || b) ≡ true → b ≡ false → a ≡ true
 first_true true b e n = refl
 first_true false b e n = absurd (true≢false (sym e ∙ n))
 
-module _ {S : Type 0} (R : Rules S) (cap : ℕ) (b : Identity) (manner : Manner) (starts : List S) (shape : List ℕ) (most : ℕ) (start : InRound R (ranks b.shape.dims) 0 shape most starts)
+module _ {S : Type 0} (R : Rules S) (cap : ℕ) (b : BankIdentity) (manner : Manner) (starts : List S) (shape : List ℕ) (most : ℕ) (start : InRound R (ranks b.shape.dims) 0 shape most starts)
     (fs : List (RankState S)) (fresh : AreFresh R b.shape.dims cap manner starts fs) (xs ys : List (SeatedState S)) (firsts : map (λ x. x.rank) xs ≡ fs) (seated : AreSeated R cap manner b xs) (notified : ℕ → ℕ → Bool) (ran : AllRan (λ x y. TookTurns R cap notified x y) xs ys) where
   abbrev dims : List ℕ
   dims = b.shape.dims
@@ -84,8 +84,8 @@ module _ {S : Type 0} (R : Rules S) (cap : ℕ) (b : Identity) (manner : Manner)
 
   module _ (over : All (λ y. (y.rank.over || y.lost) ≡ true) ys) (kept : All (λ y. y.lost ≡ false) ys) (g : Gathering) (there : EachAt (λ r y. get_or g.lists r None ≡ Some y.seat.lists) ys)
       (in_order : IsRound (slot_round b.shape cap g.lists))
-      (sent : (s : Manning) → get_or g.lists s.rank None ≡ Some s.lists → starting_at dims s.rank (logs_of (slot_round b.shape cap g.lists).sent) ≡ posted_on s)
-      (got : (s : Manning) → get_or g.lists s.rank None ≡ Some s.lists → ending_at dims s.rank (logs_of (slot_round b.shape cap g.lists).got) ≡ collected_from s) where
+      (sent : (s : SeatView) → get_or g.lists s.rank None ≡ Some s.lists → starting_at dims s.rank (logs_of (slot_round b.shape cap g.lists).sent) ≡ posted_on s)
+      (got : (s : SeatView) → get_or g.lists s.rank None ≡ Some s.lists → ending_at dims s.rank (logs_of (slot_round b.shape cap g.lists).got) ≡ collected_from s) where
     abbrev round : Round
     round = slot_round b.shape cap g.lists
 
@@ -115,7 +115,7 @@ module _ {S : Type 0} (R : Rules S) (cap : ℕ) (b : Identity) (manner : Manner)
         let c : Came r y = came r y e in
         let h : ℕ → S = c.h in
         let w : IsRank R y.seat.shape.dims cap manner y.seat.rank h y.rank (posted_on y.seat) (collected_from y.seat) = c.way.runs (all_get (λ (z : SeatedState S). z.lost ≡ false) ys r y kept e) in
-        let ed : y.seat.shape.dims ≡ dims = ap (λ (a : Identity). a.shape.dims) c.bank in
+        let ed : y.seat.shape.dims ≡ dims = ap (λ (a : BankIdentity). a.shape.dims) c.bank in
         let here : get_or g.lists y.seat.rank None ≡ Some y.seat.lists = subst (λ k. get_or g.lists k None ≡ Some y.seat.lists) (sym c.number) (each_get (λ k (z : SeatedState S). get_or g.lists k None ≡ Some z.seat.lists) ys r y there e) in
         subst (λ k. HasRank R dims cap manner k h y.rank (logs_of round.sent) (logs_of round.got)) c.number
         (subst (λ (a : Logs). IsRank R dims cap manner y.seat.rank h y.rank a (ending_at dims y.seat.rank (logs_of round.got))) (sym (sent y.seat here))

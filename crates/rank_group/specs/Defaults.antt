@@ -22,8 +22,8 @@ count_of Four = 4
 count_of Eight = 8
 
 -- Over conveyors that aren't steady, and links of two slots.
-abbrev pub usual : Settings
-usual = record { via = Convey; slots = Two; steady = false }
+abbrev pub default_settings : Settings
+default_settings = record { via = Convey; slots = Two; steady = false }
 
 -- What a drive on one thread requires of a run.
 pub record MayDrive {S : Type 0} (R : Rules S) (cap hops : ℕ) (dims : List ℕ) (settings : Settings)

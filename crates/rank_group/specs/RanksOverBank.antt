@@ -128,7 +128,7 @@ pub record AfterSomeTurns {S : Type 0} (R : Rules S) (dims : List ℕ) (cap slot
     (order : List ℕ) (i : ℕ) (cycle0 : ℕ → ℕ) (rs0 : List (RankState S)) (sent0 got0 : Logs) (rs : List (RankState S))
     (sent got : Logs) : Type 0 where
   pub h : ℕ → ℕ → S
-  pub world : RanksOnBank R dims cap slots manner starts h rs sent got
+  pub on_bank : RanksOnBank R dims cap slots manner starts h rs sent got
   pub grown : moves dims rs0 sent0 got0 ≤ moves dims rs sent got
   pub forward : (r : ℕ) (x0 x : RankState S) → slice_get rs0 r ≡ Some x0 → slice_get rs r ≡ Some x
       → progress x0 ≤ progress x
@@ -136,6 +136,6 @@ pub record AfterSomeTurns {S : Type 0} (R : Rules S) (dims : List ℕ) (cap slot
       → (x0 x : RankState S) → slice_get rs0 r ≡ Some x0 → slice_get rs r ≡ Some x
       → x.over ≡ false → progress x ≡ progress x0 → BlocksMover dims slots r x.node.mover sent got
   pub made : (j : ℕ) → AllMadeHalves (most_rounds R (ranks dims) starts) j cycle0 rs0
-      → AllMadeHalves (most_rounds R (ranks dims) starts) j world.cycle rs
+      → AllMadeHalves (most_rounds R (ranks dims) starts) j on_bank.cycle rs
       × ((p r : ℕ) → p < i → slice_get order p ≡ Some r → (x : RankState S) → slice_get rs r ≡ Some x
-      → (x.over ≡ true) ⊎ MoverMadeHalves (most_rounds R (ranks dims) starts) (j + 1) x.over (world.cycle r) x.node.mover)
+      → (x.over ≡ true) ⊎ MoverMadeHalves (most_rounds R (ranks dims) starts) (j + 1) x.over (on_bank.cycle r) x.node.mover)

@@ -13,7 +13,7 @@ use Rattle.rank_group.specs.Ranks.{crowded_in, idle_in}
 
 -- Node n of rank r moves its items over conveyors of a bank with these logs; h m is the state of
 -- its program at the start of round m.
-pub record Conveys {S : Type 0} (R : Rules S) (dims : List ℕ) (steady : Bool) (r : ℕ) (h : ℕ → S)
+pub record IsConveyingNode {S : Type 0} (R : Rules S) (dims : List ℕ) (steady : Bool) (r : ℕ) (h : ℕ → S)
     (n : NodeState S) (sent got : Logs) : Type 0 where
   pub same_dims : mover_dims n.mover ≡ dims
   pub same_rank : mover_rank n.mover ≡ r
@@ -26,7 +26,7 @@ pub record Conveys {S : Type 0} (R : Rules S) (dims : List ℕ) (steady : Bool) 
 -- waits: what the turn waits for, given that its port knows the state of the bank.
 pub record MovesNothing {S : Type 0} (R : Rules S) (dims : List ℕ) (slots : ℕ) (steady : Bool) (r : ℕ)
     (h : ℕ → S) (n n' : NodeState S) (sent got : Logs) : Type 0 where
-  pub conveyed : Conveys R dims steady r h n sent got
+  pub conveyed : IsConveyingNode R dims steady r h n sent got
   pub epoch : epoch_in n'.mover ≡ epoch_in n.mover
   pub kept : (l : ℕ) → lying n.mover l ≤ lying n'.mover l
   pub waits : Waits R n.run n.mover n'.mover (starting_at dims r sent) (ending_at dims r got)
@@ -42,7 +42,7 @@ pub record IsQuietSweep {S : Type 0} (R : Rules S) (dims : List ℕ) (cap slots 
   pub grid : IsGrid dims
   pub some : 0 < slots
   pub links_keep : (l : ℕ) → l < links dims → LinkLaw cap slots (sent l) (got l)
-  pub conveys : (r : ℕ) → r < ranks dims → Conveys R dims steady r (h r) (new r) sent got
+  pub conveys : (r : ℕ) → r < ranks dims → IsConveyingNode R dims steady r (h r) (new r) sent got
   pub least : (r : ℕ) → r < ranks dims → e ≤ epoch_in (new r).mover
   pub turned : (r : ℕ) → r < ranks dims → epoch_in (new r).mover ≡ e
       → (has_completed (new r).mover ≡ true)

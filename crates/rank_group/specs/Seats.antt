@@ -1,6 +1,6 @@
 -- Ranks that run on threads, each with a seat at a slot bank.
 use Rattle.std.specs.Prelude.{◌≡◌, ℕ, ◌<◌, ◌≤◌, Bool, true, false, List, slice_get, Some}
-use Rattle.link_slots.specs.SeatView.{Identity, Manning, posted_on, collected_from}
+use Rattle.link_slots.specs.SeatView.{BankIdentity, SeatView, posted_on, collected_from}
 use Rattle.round_program.specs.Rules.{Rules}
 use Rattle.rank_node.specs.Movers.{Manner}
 use Rattle.rank_group.specs.TurnNotes.{HasSame}
@@ -10,12 +10,12 @@ use Rattle.rank_group.specs.Ranks.{RankState, IsRank, progress}
 -- its run.
 pub record SeatedState (S : Type 0) : Type 0 where
   pub rank : RankState S
-  pub seat : Manning
+  pub seat : SeatView
   pub turns : ℕ
   pub lost : Bool
 
 -- The bank that it belongs to.
-abbrev pub bank_of : {S : Type 0} → SeatedState S → Identity
+abbrev pub bank_of : {S : Type 0} → SeatedState S → BankIdentity
 bank_of x = record { id = x.seat.id; shape = x.seat.shape }
 
 -- By its own seat's logs, a rank takes part in some run; h m is the state of its program at the
@@ -44,7 +44,7 @@ pub record TookTurns {S : Type 0} (R : Rules S) (cap : ℕ) (notified : ℕ → 
       → (g : ℕ → S) × (g 0 ≡ h 0) × IsRankAtSeat R cap manner g y
 
 -- A rank before its first turn, with the seat of number r at the bank b.
-pub record IsSeated {S : Type 0} (R : Rules S) (cap : ℕ) (manner : Manner) (b : Identity) (r : ℕ)
+pub record IsSeated {S : Type 0} (R : Rules S) (cap : ℕ) (manner : Manner) (b : BankIdentity) (r : ℕ)
     (x : SeatedState S) : Type 0 where
   pub bank : bank_of x ≡ b
   pub number : x.seat.rank ≡ r
@@ -52,7 +52,7 @@ pub record IsSeated {S : Type 0} (R : Rules S) (cap : ℕ) (manner : Manner) (b 
   pub way : IsRankAtSeat R cap manner (λ m. x.rank.node.run.prog) x
 
 -- Ranks before their first turn, with seats at the bank b in order.
-abbrev pub AreSeated : {S : Type 0} → Rules S → ℕ → Manner → Identity → List (SeatedState S) → Type 0
+abbrev pub AreSeated : {S : Type 0} → Rules S → ℕ → Manner → BankIdentity → List (SeatedState S) → Type 0
 AreSeated {S} R cap manner b xs = (r : ℕ) (x : SeatedState S) → slice_get xs r ≡ Some x → IsSeated R cap manner b r x
 
 -- Turns from x to y made no progress: no parcel was posted or collected, no item was pushed, no

@@ -5,7 +5,7 @@ ghost use Rattle.port_bank.specs.Port.{IsSlots};
 ghost use Rattle.rank_node.specs.Movers.{manner_of};
 ghost use Rattle.rank_group.specs.Ranks.{IsOrder};
 ghost use Rattle.rank_group.specs.DrivePromises.{MayRun, HasFinished};
-ghost use Rattle.rank_group.specs.Defaults.{count_of, usual, HasDriven};
+ghost use Rattle.rank_group.specs.Defaults.{count_of, default_settings, HasDriven};
 ghost use Rattle.bale_items.specs.Ledgers.{IsBlankOf};
 ghost use Rattle.rank_node.specs.Fits.{FitsGrid};
 
@@ -59,7 +59,7 @@ pub struct Settings {
 impl Settings {
     /// By conveyors that aren't steady, over links of two slots.
     pub fn new() -> Settings
-        ensures { result ≡ usual }
+        ensures { result ≡ default_settings }
     {
         Settings {
             via: Via::Convey,

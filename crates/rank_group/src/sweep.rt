@@ -106,7 +106,7 @@ fn turn_one<const CAP: usize, const HOPS: usize, Q: Program, L: Ledger>(
 ) -> Result<PlainBank<CAP>, NoMemory>
     requires number { number < ranks bank.dims }
     requires law { ClosesLaws }
-    requires world { (manner : Manner) × (starts : List Q) × (n : ℕ) × (h : ℕ → ℕ → Q)
+    requires on_bank { (manner : Manner) × (starts : List Q) × (n : ℕ) × (h : ℕ → ℕ → Q)
         × DrivePlan Q.rules bank.dims bank.slots starts n
         × RanksOnBank Q.rules bank.dims CAP bank.slots manner starts h all.old.items (sent_of bank) (got_of bank) }
     ensures size { length all.new.items ≡ length all.old.items }
@@ -134,7 +134,7 @@ pub(crate) fn sweep<const CAP: usize, const HOPS: usize, Q: Program, L: Ledger>(
     requires law { ClosesLaws }
     requires order { IsOrder (ranks bank.dims) order.now }
     requires lawful { IsBank CAP bank }
-    requires world { (manner : Manner) × (starts : List Q) × (n : ℕ) × (h : ℕ → ℕ → Q)
+    requires on_bank { (manner : Manner) × (starts : List Q) × (n : ℕ) × (h : ℕ → ℕ → Q)
         × DrivePlan Q.rules bank.dims bank.slots starts n
         × RanksOnBank Q.rules bank.dims CAP bank.slots manner starts h all.old.items (sent_of bank) (got_of bank) }
     ensures bank { IfOk result (KeepsBank CAP bank.entry) }

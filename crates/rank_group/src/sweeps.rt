@@ -28,7 +28,7 @@ pub(crate) fn run_all<const CAP: usize, const HOPS: usize, Q: Program, L: Ledger
 ) -> Result<PlainBank<CAP>, NoMemory>
     requires order { IsOrder (ranks bank.dims) order.now }
     requires lawful { IsBank CAP bank }
-    requires world { (manner : Manner) × (n : ℕ) × (h : ℕ → ℕ → Q)
+    requires on_bank { (manner : Manner) × (n : ℕ) × (h : ℕ → ℕ → Q)
         × (plan : DrivePlan Q.rules bank.dims bank.slots (progs_of all.old.items) n) × (n ≤ plan.most)
         × RanksOnBank Q.rules bank.dims CAP bank.slots manner (progs_of all.old.items) h all.old.items (sent_of bank)
         (got_of bank) }
@@ -38,7 +38,7 @@ pub(crate) fn run_all<const CAP: usize, const HOPS: usize, Q: Program, L: Ledger
         (record { ranks = all.old.items; sent = sent_of bank.entry; got = got_of bank.entry; turns = steps.old })
         (record { ranks = all.new.items; sent = sent_of b; got = got_of b; turns = steps.new })) }
     ensures over { OnOk result ((r : ℕ) (x : RankState Q) → slice_get all.new.items r ≡ Some x → x.over ≡ true) }
-    ensures world { (manner : Manner) (starts : _) (n : ℕ) (h : ℕ → ℕ → Q)
+    ensures on_bank { (manner : Manner) (starts : _) (n : ℕ) (h : ℕ → ℕ → Q)
         → DrivePlan Q.rules bank.entry.dims bank.entry.slots starts n
         → RanksOnBank Q.rules bank.entry.dims CAP bank.entry.slots manner starts h all.old.items (sent_of bank.entry)
         (got_of bank.entry)

@@ -8,7 +8,7 @@ use Rattle.list_laws.proofs.Sums.{total_one, total_zero}
 use Rattle.item_buffer.specs.Contents.{Shipped}
 use Rattle.route_tensor.specs.Link.{links}
 use Rattle.port_bank.specs.Logs.{Logs, with_parcel}
-use Rattle.link_slots.specs.SeatView.{Manning, posted_on, collected_from}
+use Rattle.link_slots.specs.SeatView.{SeatView, posted_on, collected_from}
 use Rattle.rank_handles.specs.Statistics.{buffers_in, log_items, items_in, statistics_on, no_statistics, sent_one, received_one}
 
 -- the logs with one buffer more, at its link and at another
@@ -41,7 +41,7 @@ counts : (n k m : ℕ) → m ≡ n + k → saturated_count (saturated_count n + 
 counts n k m is = saturated (2 ^ 64 - 1) n k ∙ ap saturated_count (sym is)
 
 -- nothing moved
-pub statistics_same : (s t : Manning) → t.shape.dims ≡ s.shape.dims → posted_on t ≡ posted_on s → collected_from t ≡ collected_from s → statistics_on s ≡ statistics_on t
+pub statistics_same : (s t : SeatView) → t.shape.dims ≡ s.shape.dims → posted_on t ≡ posted_on s → collected_from t ≡ collected_from s → statistics_on s ≡ statistics_on t
 unfolding statistics_on
 statistics_same s t dims sent got = λ k. record {
   buffers_sent = saturated_count (buffers_in (links (sym dims k)) (sym sent k));
@@ -51,7 +51,7 @@ statistics_same s t dims sent got = λ k. record {
 }
 
 -- a buffer was sent
-pub statistics_sent : (s t : Manning) (l : ℕ) (p : Shipped) → l < links s.shape.dims → t.shape.dims ≡ s.shape.dims → posted_on t ≡ with_parcel (posted_on s) l p
+pub statistics_sent : (s t : SeatView) (l : ℕ) (p : Shipped) → l < links s.shape.dims → t.shape.dims ≡ s.shape.dims → posted_on t ≡ with_parcel (posted_on s) l p
     → collected_from t ≡ collected_from s → sent_one (length p.entries) (statistics_on s) ≡ statistics_on t
 unfolding statistics_on
 statistics_sent s t l p less dims sent got =
@@ -66,7 +66,7 @@ statistics_sent s t l p less dims sent got =
     }
 
 -- a buffer was received
-pub statistics_received : (s t : Manning) (l : ℕ) (p : Shipped) → l < links s.shape.dims → t.shape.dims ≡ s.shape.dims → posted_on t ≡ posted_on s
+pub statistics_received : (s t : SeatView) (l : ℕ) (p : Shipped) → l < links s.shape.dims → t.shape.dims ≡ s.shape.dims → posted_on t ≡ posted_on s
     → collected_from t ≡ with_parcel (collected_from s) l p → received_one (length p.entries) (statistics_on s) ≡ statistics_on t
 unfolding statistics_on
 statistics_received s t l p less dims sent got =
@@ -81,7 +81,7 @@ statistics_received s t l p less dims sent got =
     }
 
 -- a rank that sent and received nothing
-pub statistics_none : (s : Manning) → posted_on s ≡ (λ l. []) → collected_from s ≡ (λ l. []) → no_statistics ≡ statistics_on s
+pub statistics_none : (s : SeatView) → posted_on s ≡ (λ l. []) → collected_from s ≡ (λ l. []) → no_statistics ≡ statistics_on s
 unfolding statistics_on
 statistics_none s sent got =
     let n = links s.shape.dims in

@@ -8,11 +8,11 @@ use Rattle.port_bank.specs.Machine.{Step, IsOwnStep}
 use Rattle.port_bank.specs.Machine.Step.{Push, Pull, Unpull, Reset, Idle}
 use Rattle.convey.specs.Buffers.{is_complete}
 use Rattle.convey.specs.Progress.{advance_step}
-use Rattle.link_slots.specs.SeatView.{Identity, Manning, posted_on, collected_from}
+use Rattle.link_slots.specs.SeatView.{BankIdentity, SeatView, posted_on, collected_from}
 use Rattle.hop_core.specs.declared.phase.Phase.{Phase}
 use Rattle.hop_core.specs.declared.phase.Phase.TheVariants.{Dormant, Working, Endgame, Cleanup, Complete}
 use Rattle.hop_core.specs.State.{State, phase_of, pulled_from, after_unpull, all_closed, all_read}
-use Rattle.convey.specs.Conveyors.{AgreesWith, IsStepOf, KeepsAgreement, standing_toward}
+use Rattle.convey.specs.Conveyors.{AgreesWith, IsStepOf, KeepsAgreement, open_count_toward}
 use Rattle.rank_handles.specs.declared.answer.Answer.{Answer}
 use Rattle.rank_handles.specs.declared.answer.Answer.TheVariants.{Good, Full, Nothing, NotBegun, DoneAlready, NoSuchRank, NoMoreEpochs}
 use Rattle.rank_handles.specs.Seated.{Seated, Moved, part}
@@ -22,11 +22,11 @@ use Rattle.rank_handles.specs.declared.statistics.BaleStatistics.{BaleStatistics
 use Rattle.rank_handles.specs.RankAtBank.{seat_in, IsAtBank, IsSeatedHandle}
 
 -- a rank at its seat
-abbrev pub at : Manning → State → Seated
+abbrev pub at : SeatView → State → Seated
 at seat st = record { seat = seat; state = st }
 
 -- a call that its port doesn't see
-pub moved : (seat : Manning) (old new : State) (step : Step) (phase : Phase) → AgreesWith old (posted_on seat) (collected_from seat) → IsStepOf step old new
+pub moved : (seat : SeatView) (old new : State) (step : Step) (phase : Phase) → AgreesWith old (posted_on seat) (collected_from seat) → IsStepOf step old new
     → new.phase ≡ phase → new.rank ≡ old.rank → new.dims ≡ old.dims → Moved step phase (at seat old) (at seat new)
 unfolding Moved
 moved seat old new step phase agrees is phase_is rank dims = record {
@@ -39,20 +39,20 @@ moved seat old new step phase agrees is phase_is rank dims = record {
 }
 
 -- a call that its port sees
-pub moved_on : (bank bank' : Identity) (seat seat' : Manning) (old new : State) (step : Step) → bank' ≡ bank → IsAtBank bank seat old → IsAtBank bank' seat' new
+pub moved_on : (bank bank' : BankIdentity) (seat seat' : SeatView) (old new : State) (step : Step) → bank' ≡ bank → IsAtBank bank seat old → IsAtBank bank' seat' new
     → new.rank ≡ old.rank → new.dims ≡ old.dims → IsOwnStep step (part (at seat old)) (part (at seat' new)) → Moved step new.phase (at seat old) (at seat' new)
 unfolding Moved
 moved_on bank bank' seat seat' old new step same was now rank dims is = record {
   step_of = is;
   phase_is = refl;
-  bank = now.id ∙ (ap (λ (b : Identity). b.id) same ∙ sym was.id);
-  shape = now.shape ∙ (ap (λ (b : Identity). b.shape) same ∙ sym was.shape);
+  bank = now.id ∙ (ap (λ (b : BankIdentity). b.id) same ∙ sym was.id);
+  shape = now.shape ∙ (ap (λ (b : BankIdentity). b.shape) same ∙ sym was.shape);
   rank = rank;
   dims = dims;
 }
 
 -- a call that leaves the rank where it was, as its counts see it
-pub seated_still : (bank : Identity) (seat : Option Manning) (old new : State) (count epoch : ℕ) (done : Bool) (statistics : BaleStatistics) → IsSeatedHandle bank seat old count epoch done statistics → KeepsAgreement old new
+pub seated_still : (bank : BankIdentity) (seat : Option SeatView) (old new : State) (count epoch : ℕ) (done : Bool) (statistics : BaleStatistics) → IsSeatedHandle bank seat old count epoch done statistics → KeepsAgreement old new
     → new.rank ≡ old.rank → new.dims ≡ old.dims → new.phase ≡ old.phase → new.epoch ≡ old.epoch → new.done ≡ old.done → IsSeatedHandle bank seat new count epoch done statistics
 seated_still bank seat old new count epoch done statistics was kept rank dims phase same_epoch same_done = record {
   there = was.there;
@@ -104,7 +104,7 @@ never_not_begun (Some p) e = absurd cc
 never_not_begun None e = absurd cc
 
 -- a pull, by whether it gave an item
-pub pull_moved : (seat : Manning) (old new : State) (o : Option (ℕ × Item)) → AgreesWith old (posted_on seat) (collected_from seat)
+pub pull_moved : (seat : SeatView) (old new : State) (o : Option (ℕ × Item)) → AgreesWith old (posted_on seat) (collected_from seat)
     → IfSome o (λ p. IsStepOf (Pull p.0 p.1) old new) → (o ≡ None → IsStepOf Idle old new) → new.phase ≡ old.phase → new.rank ≡ old.rank → new.dims ≡ old.dims
     → IfOk (item_or_nothing o) (λ p. Moved (Pull p.0 p.1) old.phase (at seat old) (at seat new)) × (item_or_nothing o ≡ Err Nothing → Moved Idle old.phase (at seat old) (at seat new))
 pull_moved seat old new (Some p) agrees item none phase rank dims = (moved seat old new (Pull p.0 p.1) old.phase agrees item phase rank dims, λ e. absurd cc)
@@ -188,9 +188,9 @@ room Endgame rank there working is some = absurd cc
 room Cleanup rank there working is some = absurd cc
 room Complete rank there working is some = absurd cc
 
-pub push_good : (s : Seated) (to : ℕ) → s.state.phase ≡ Working → nat_lt to (ranks s.state.dims) ≡ true → standing_toward s.state to < s.state.cap → push_answer s to ≡ Good
+pub push_good : (s : Seated) (to : ℕ) → s.state.phase ≡ Working → nat_lt to (ranks s.state.dims) ≡ true → open_count_toward s.state to < s.state.cap → push_answer s to ≡ Good
 push_good s to working is less =
-    room s.state.phase (nat_lt to (ranks s.state.dims)) (nat_lt (standing_toward s.state to) s.state.cap) working is (lt-ltb (standing_toward s.state to) s.state.cap less)
+    room s.state.phase (nat_lt to (ranks s.state.dims)) (nat_lt (open_count_toward s.state to) s.state.cap) working is (lt-ltb (open_count_toward s.state to) s.state.cap less)
 
 pub all_good : (p : Phase) (ranks : Bool) → p ≡ Working → ranks ≡ true → while_working p (if ranks then Good else NoSuchRank) ≡ Good
 all_good Working true working is = refl

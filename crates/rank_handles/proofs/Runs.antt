@@ -6,12 +6,12 @@ use Rattle.std.proofs.lemmas.Bool.{lt-ltb, le-ltb}
 use Rattle.std.proofs.lemmas.List.{drop-set-lt, drop-append-le, take-append-drop}
 use Rattle.route_tensor.specs.Grid.{ranks}
 use Rattle.port_bank.specs.Machine.Step.{Pull, Idle}
-use Rattle.link_slots.specs.SeatView.{Identity, Manning, posted_on, collected_from}
+use Rattle.link_slots.specs.SeatView.{BankIdentity, SeatView, posted_on, collected_from}
 use Rattle.hop_core.specs.declared.phase.Phase.TheVariants.{Dormant, Working, Endgame, Cleanup, Complete}
 use Rattle.hop_core.specs.State.{State, lowest_unread, pull_from, pulled_from, pulls}
 use Rattle.convey.specs.Buffers.{buffers_of}
 use Rattle.convey.specs.Parts.{part_of}
-use Rattle.convey.specs.Conveyors.{AgreesWith, KeepsAgreement, IsStepOf, GivesNext, standing_toward}
+use Rattle.convey.specs.Conveyors.{AgreesWith, KeepsAgreement, IsStepOf, GivesNext, open_count_toward}
 use Rattle.rank_handles.specs.declared.answer.Answer.TheVariants.{Good, Full, Nothing, NoSuchRank}
 use Rattle.rank_handles.specs.Answers.{while_working, push_answer, item_or_nothing, pull_once_begun, pull_result}
 use Rattle.bale_items.specs.declared.item.Item.{Item}
@@ -85,7 +85,7 @@ pub run_pull : (steps : List Step) (n most : ℕ) (s : ℕ) (x : Item) (a b : St
 run_pull steps n most s x a b run next = run_over steps (nat_lt n most) s x a b (pulled_from b (lowest_unread b)) run next.step next.kept (pulled_same b (lowest_unread b))
 
 -- as a rank's calls
-pub ran_of : (seat : Manning) (steps : List Step) (old new : State) → AgreesWith old (posted_on seat) (collected_from seat) → RunOf steps old new → RanSteps steps (at seat old) (at seat new)
+pub ran_of : (seat : SeatView) (steps : List Step) (old new : State) → AgreesWith old (posted_on seat) (collected_from seat) → RunOf steps old new → RanSteps steps (at seat old) (at seat new)
 unfolding RanSteps
 ran_of seat steps old new agrees run = record {
   may = run.may (posted_on seat) (collected_from seat) agrees;
@@ -97,7 +97,7 @@ ran_of seat steps old new agrees run = record {
   dims = ap (λ (z : State). z.dims) run.same;
 }
 
-pub seated_of : (bank : Identity) (seat : Option Manning) (steps : List Step) (old new : State) (count epoch : ℕ) (done : Bool) (statistics : BaleStatistics) → IsSeatedHandle bank seat old count epoch done statistics → RunOf steps old new
+pub seated_of : (bank : BankIdentity) (seat : Option SeatView) (steps : List Step) (old new : State) (count epoch : ℕ) (done : Bool) (statistics : BaleStatistics) → IsSeatedHandle bank seat old count epoch done statistics → RunOf steps old new
     → IsSeatedHandle bank seat new count epoch done statistics
 seated_of bank seat steps old new count epoch done statistics was run =
     seated_still bank seat old new count epoch done statistics was run.kept (ap (λ (z : State). z.rank) run.same) (ap (λ (z : State). z.dims) run.same) (ap (λ (z : State). z.phase) run.same)
@@ -243,9 +243,9 @@ full Endgame rank room working is none = absurd cc
 full Cleanup rank room working is none = absurd cc
 full Complete rank room working is none = absurd cc
 
-pub push_full : (s : Seated) (to : ℕ) → s.state.phase ≡ Working → nat_lt to (ranks s.state.dims) ≡ true → s.state.cap ≤ standing_toward s.state to → push_answer s to ≡ Full
+pub push_full : (s : Seated) (to : ℕ) → s.state.phase ≡ Working → nat_lt to (ranks s.state.dims) ≡ true → s.state.cap ≤ open_count_toward s.state to → push_answer s to ≡ Full
 push_full s to working is most =
-    full s.state.phase (nat_lt to (ranks s.state.dims)) (nat_lt (standing_toward s.state to) s.state.cap) working is (le-ltb (standing_toward s.state to) s.state.cap most)
+    full s.state.phase (nat_lt to (ranks s.state.dims)) (nat_lt (open_count_toward s.state to) s.state.cap) working is (le-ltb (open_count_toward s.state to) s.state.cap most)
 
 -- where nothing is unread a pull finds none
 none_came : (p : Phase) → p ≢ Dormant → pull_once_begun p (Err Nothing) ≡ Err Nothing

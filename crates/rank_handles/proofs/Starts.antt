@@ -6,7 +6,7 @@ use Rattle.item_buffer.specs.Contents.{Contents}
 use Rattle.link_slots.specs.Logs.{Lists, sent_of, got_of}
 use Rattle.link_slots.specs.View.{no_logs}
 use Rattle.link_slots.specs.Shape.{Shape, shipped_all}
-use Rattle.link_slots.specs.SeatView.{Identity, Manning, posted_on, collected_from}
+use Rattle.link_slots.specs.SeatView.{BankIdentity, SeatView, posted_on, collected_from}
 use Rattle.link_slots.proofs.Opening.{no_sent, no_got}
 use Rattle.hop_core.specs.State.{State}
 use Rattle.convey.specs.Conveyors.{AgreesWith}
@@ -14,7 +14,7 @@ use Rattle.rank_handles.specs.RankAtBank.{IsAtBank}
 use Rattle.rank_handles.specs.Grouped.{new_state, NewRank}
 use Rattle.rank_handles.proofs.Moves.{at}
 
-module _ (bank : Identity) (grid : List ℕ) (rank cap : ℕ) (steady : Bool) (seat : Manning) (st : State)
+module _ (bank : BankIdentity) (grid : List ℕ) (rank cap : ℕ) (steady : Bool) (seat : SeatView) (st : State)
     (same_grid : grid ≡ bank.shape.dims) (id : seat.id ≡ bank.id) (shape : seat.shape ≡ bank.shape) (rank_is : seat.rank ≡ rank) (lists : seat.lists ≡ no_logs (links bank.shape.dims))
     (is : st ≡ new_state grid rank cap steady) (agrees : AgreesWith st (λ l. []) (λ l. [])) where
   pub none_sent : posted_on seat ≡ (λ l. [])

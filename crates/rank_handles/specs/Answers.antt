@@ -6,7 +6,7 @@ use Rattle.route_tensor.specs.Grid.{ranks}
 use Rattle.hop_core.specs.declared.phase.Phase.{Phase}
 use Rattle.hop_core.specs.declared.phase.Phase.TheVariants as phase
 use Rattle.hop_core.specs.State.{lowest_unread, pull_from}
-use Rattle.convey.specs.Conveyors.{standing_toward}
+use Rattle.convey.specs.Conveyors.{open_count_toward}
 use Rattle.rank_handles.specs.declared.answer.Answer.{Answer}
 use Rattle.rank_handles.specs.declared.answer.Answer.TheVariants.{Good, Full, Nothing, More, Near, Complete, NotBegun}
 use Rattle.rank_handles.specs.declared.answer.Answer.TheVariants.{BegunAlready, DoneAlready, NoSuchRank, NotComplete}
@@ -40,7 +40,7 @@ while_working phase.Complete a = DoneAlready
 
 abbrev pub push_answer : Seated → ℕ → Answer
 push_answer s to = while_working s.state.phase (
-    if nat_lt to (ranks s.state.dims) then (if nat_lt (standing_toward s.state to) s.state.cap then Good else Full)
+    if nat_lt to (ranks s.state.dims) then (if nat_lt (open_count_toward s.state to) s.state.cap then Good else Full)
     else NoSuchRank)
 
 -- pull needs an epoch that has begun. It gives the first unread item and its sender.

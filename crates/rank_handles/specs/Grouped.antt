@@ -6,7 +6,7 @@ use Rattle.item_buffer.specs.Capacity.{is_capacity}
 use Rattle.route_tensor.specs.Grid.{ranks}
 use Rattle.route_tensor.specs.Refusal.{refusal}
 use Rattle.port_bank.specs.Slots.{is_slot_count}
-use Rattle.link_slots.specs.SeatView.{Identity, posted_on, collected_from}
+use Rattle.link_slots.specs.SeatView.{BankIdentity, posted_on, collected_from}
 use Rattle.hop_core.specs.Lent.Lent.{Given}
 use Rattle.hop_core.specs.declared.phase.Phase.TheVariants.{Dormant}
 use Rattle.hop_core.specs.Link.{no_out, no_in}
@@ -18,7 +18,7 @@ use Rattle.rank_handles.specs.Seated.{Seated}
 -- A group: the bank that its ranks share, with its grid and its slots; how many entries a parcel
 -- holds; whether its conveyors are steady; and which ranks were made.
 pub record Grouped : Type 0 where
-  pub bank : Identity
+  pub bank : BankIdentity
   pub cap : ℕ
   pub steady : Bool
   pub given : List Bool
@@ -58,7 +58,7 @@ new_state dims rank cap steady = record {
 
 -- A rank that was just made: at this bank, before its first epoch, with nothing sent and nothing
 -- got.
-pub record NewRank (bank : Identity) (rank cap : ℕ) (steady : Bool) (s : Seated) : Type 0 where
+pub record NewRank (bank : BankIdentity) (rank cap : ℕ) (steady : Bool) (s : Seated) : Type 0 where
   pub id : s.seat.id ≡ bank.id
   pub shape : s.seat.shape ≡ bank.shape
   pub state : s.state ≡ new_state bank.shape.dims rank cap steady

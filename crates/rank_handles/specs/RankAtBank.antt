@@ -4,7 +4,7 @@ use Rattle.std.specs.Prelude.{is_some, List, [], Result, OnOk, OnErr}
 use Rattle.item_buffer.specs.Capacity.{IsCap}
 use Rattle.route_tensor.specs.Grid.{ranks}
 use Rattle.link_slots.specs.Shape.{nowhere}
-use Rattle.link_slots.specs.SeatView.{Identity, Manning, posted_on, collected_from}
+use Rattle.link_slots.specs.SeatView.{BankIdentity, SeatView, posted_on, collected_from}
 use Rattle.link_slots.specs.Gathering.{Gathering}
 use Rattle.hop_core.specs.declared.phase.Phase.TheVariants.{Dormant, Working}
 use Rattle.hop_core.specs.State.{State}
@@ -18,7 +18,7 @@ use Rattle.rank_handles.specs.Statistics.{statistics_on}
 use Rattle.rank_handles.specs.Many.{MayAll, after_all}
 
 -- No seat: of no bank, and with no lists.
-abbrev pub no_seat : Manning
+abbrev pub no_seat : SeatView
 no_seat = record {
   id = record { words = 0; slots = 0; views_name = 0; atom = 0; block = 0; offset = 0; slot_names = [] };
   shape = nowhere;
@@ -29,13 +29,13 @@ no_seat = record {
 }
 
 -- The seat that is there.
-abbrev pub seat_in : Option Manning → Manning
+abbrev pub seat_in : Option SeatView → SeatView
 seat_in (Some m) = m
 seat_in None = no_seat
 
 -- A seat and a conveyor of one rank at one bank: they agree, and the rank isn't done before it says
 -- so.
-pub record IsAtBank (bank : Identity) (seat : Manning) (state : State) : Type 0 where
+pub record IsAtBank (bank : BankIdentity) (seat : SeatView) (state : State) : Type 0 where
   pub id : seat.id ≡ bank.id
   pub shape : seat.shape ≡ bank.shape
   pub rank : seat.rank ≡ state.rank
@@ -46,7 +46,7 @@ pub record IsAtBank (bank : Identity) (seat : Manning) (state : State) : Type 0 
 
 -- The seat is there and at its bank, the counts are those of the conveyor, and the statistics those
 -- of the seat.
-pub record IsSeatedHandle (bank : Identity) (seat : Option Manning) (state : State) (count epoch : ℕ)
+pub record IsSeatedHandle (bank : BankIdentity) (seat : Option SeatView) (state : State) (count epoch : ℕ)
     (done : Bool) (statistics : BaleStatistics) : Type 0 where
   pub there : is_some seat ≡ true
   pub at_bank : IsAtBank bank (seat_in seat) state
@@ -56,13 +56,13 @@ pub record IsSeatedHandle (bank : Identity) (seat : Option Manning) (state : Sta
   pub counted : statistics ≡ statistics_on (seat_in seat)
 
 -- A gathering seat of the bank, that has given out these ranks' seats.
-pub record IsAtGather (bank : Identity) (gather : Gathering) (grid : List ℕ) : Type 0 where
+pub record IsAtGather (bank : BankIdentity) (gather : Gathering) (grid : List ℕ) : Type 0 where
   pub id : gather.id ≡ bank.id
   pub shape : gather.shape ≡ bank.shape
   pub grid_is : grid ≡ bank.shape.dims
 
 -- A rank of the bank whose seat the gathering seat has still to give out, ..
-pub record HasSeatFor (bank : Identity) (gather : Gathering) (grid : List ℕ) (rank : ℕ) : Type 0 where
+pub record HasSeatFor (bank : BankIdentity) (gather : Gathering) (grid : List ℕ) (rank : ℕ) : Type 0 where
   pub at_gather : IsAtGather bank gather grid
   pub own : rank < ranks grid
   pub here : slice_index_or gather.given rank true ≡ false
@@ -75,7 +75,7 @@ pub record GaveSeat {T E : Type 0} (rank : ℕ) (old new : Gathering) (result : 
   pub unchanged : OnErr result (new ≡ old)
 
 -- A group: its ranks are those that the gathering seat has given out.
-pub record IsGroup (cap : ℕ) (bank : Identity) (gather : Gathering) (grid : List ℕ) (given : List Bool) : Type 0 where
+pub record IsGroup (cap : ℕ) (bank : BankIdentity) (gather : Gathering) (grid : List ℕ) (given : List Bool) : Type 0 where
   pub cap_is : IsCap cap
   pub at_gather : IsAtGather bank gather grid
   pub given_is : gather.given ≡ given

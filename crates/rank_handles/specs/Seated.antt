@@ -1,7 +1,7 @@
 -- What contracts see of a rank, and which step of the exchange machine a call on it makes.
 use Rattle.std.specs.Prelude.{◌≡◌}
 use Rattle.port_bank.specs.Machine.{Part, Step, IsOwnStep}
-use Rattle.link_slots.specs.SeatView.{Manning, posted_on, collected_from}
+use Rattle.link_slots.specs.SeatView.{SeatView, posted_on, collected_from}
 use Rattle.hop_core.specs.declared.phase.Phase.{Phase}
 use Rattle.hop_core.specs.State.{State}
 use Rattle.convey.specs.Buffers.{buffers_of}
@@ -9,7 +9,7 @@ use Rattle.convey.specs.Parts.{part_of}
 
 -- A rank at its bank: its seat, which tells what it sent and got, and the state of its conveyor.
 pub record Seated : Type 0 where
-  pub seat : Manning
+  pub seat : SeatView
   pub state : State
 
 -- The rank's part of the exchange machine: its epoch, whether it is done and complete in it, and

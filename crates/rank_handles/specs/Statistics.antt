@@ -6,7 +6,7 @@ use Rattle.list_laws.specs.Sums.{total}
 use Rattle.item_buffer.specs.Contents.{Shipped}
 use Rattle.route_tensor.specs.Link.{links}
 use Rattle.port_bank.specs.Logs.{Logs}
-use Rattle.link_slots.specs.SeatView.{Manning, posted_on, collected_from}
+use Rattle.link_slots.specs.SeatView.{SeatView, posted_on, collected_from}
 use Rattle.rank_handles.specs.declared.statistics.BaleStatistics.{BaleStatistics}
 use Rattle.rank_handles.specs.Seated.{Seated}
 
@@ -25,7 +25,7 @@ items_in n logs = total n (λ l. log_items (logs l))
 
 -- What the rank of a seat sent and received, by its logs: all that it posted on its links, and all
 -- that it collected from them. A number that would be 2^64 or more is 2^64 - 1.
-unfoldable pub statistics_on : Manning → BaleStatistics
+unfoldable pub statistics_on : SeatView → BaleStatistics
 statistics_on s = record {
   buffers_sent = saturated_count (buffers_in (links s.shape.dims) (posted_on s));
   items_sent = saturated_count (items_in (links s.shape.dims) (posted_on s));

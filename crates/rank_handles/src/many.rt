@@ -5,7 +5,7 @@ ghost use Rattle.route_tensor.specs.Neighbour.{hop_to, neighbour};
 ghost use Rattle.route_tensor.specs.Tag.{IsFair, sender_of};
 ghost use Rattle.port_bank.specs.Machine.Step.{Push, Pull, Idle};
 ghost use Rattle.hop_core.specs.State.{State, in_at, lowest_unread, pulls};
-ghost use Rattle.convey.specs.Conveyors.{standing_toward};
+ghost use Rattle.convey.specs.Conveyors.{open_count_toward};
 ghost use Rattle.rank_handles.specs.Many.{steps_of, then_idle, all_ranks, SamePast};
 ghost use Rattle.rank_handles.specs.RankAtBank.{RunOf};
 
@@ -42,7 +42,7 @@ pub(crate) fn push_while_room<const CAP: usize, const HOPS: usize>(
         conveyor.old conveyor.new }
     ensures few { result ≤ length items.now }
     ensures full { result < length items.now
-        → standing_toward conveyor.new (slice_index_or to.now result 0) ≡ CAP }
+        → open_count_toward conveyor.new (slice_index_or to.now result 0) ≡ CAP }
 {
     let mut count = 0;
     while count < items.len() {

@@ -12,7 +12,7 @@ use Rattle.exstack.specs.State.{Stack, stack_dims, stack_out_at, pushed_on}
 use Rattle.exstack.specs.Agreement.{AgreesIn}
 use Rattle.exstack.specs.Parts.{stack_part, IsStackStep, StackKeepsAgreement}
 use Rattle.exstack.proofs.OneHop.{ranks_one}
-use Rattle.rank_node.specs.Pulls.{PushedOn, Fills}
+use Rattle.rank_node.specs.Pulls.{PushedOn, FillsItems}
 use Rattle.rank_node.proofs.Offered.{push_on, idle_on, pushed_none, pushed_twice, none_left}
 
 -- an exstack in the midst of pushes, from number `from` on, of which `next` are pushed by now
@@ -77,7 +77,7 @@ offers_more es old x x' from next count to y is left at new kept step =
 
 -- the push that was refused
 pub fills_refused : (cap : ℕ) (es : List (ℕ × Item)) (old x x' : Stack) (from next count to : ℕ) (y : Item) → Offers es old x from next count → slice_get es next ≡ Some (to, y)
-    → x' ≡ record x { popped = None } → StackKeepsAgreement x x' → IsStackStep Idle x x' → headroom_of cap (stack_out_at x to) ≡ 0 → Fills cap es old x' from next
+    → x' ≡ record x { popped = None } → StackKeepsAgreement x x' → IsStackStep Idle x x' → headroom_of cap (stack_out_at x to) ≡ 0 → FillsItems cap es old x' from next
 fills_refused cap es old x x' from next count to y is at new kept step full =
     record {
       forward = is.forward;
@@ -96,7 +96,7 @@ fills_refused cap es old x x' from next count to y is at new kept step full =
       receiver (Some e) = e.0
 
 -- and all were pushed
-pub fills_all : (cap : ℕ) (es : List (ℕ × Item)) (old x : Stack) (from next count : ℕ) → Offers es old x from next count → (next < count → ⊥) → Fills cap es old x from next
+pub fills_all : (cap : ℕ) (es : List (ℕ × Item)) (old x : Stack) (from next count : ℕ) → Offers es old x from next count → (next < count → ⊥) → FillsItems cap es old x from next
 fills_all cap es old x from next count is end =
     record {
       forward = is.forward;
@@ -109,7 +109,7 @@ fills_all cap es old x from next count is end =
     }
 
 -- where nothing waits and something is left, at least one item is pushed
-pub pushes_one : (cap : ℕ) (es : List (ℕ × Item)) (old x : Stack) (from next : ℕ) → 0 < cap → Fills cap es old x from next → All (λ (e : ℕ × Item). e.0 < ranks (stack_dims old)) es
+pub pushes_one : (cap : ℕ) (es : List (ℕ × Item)) (old x : Stack) (from next : ℕ) → 0 < cap → FillsItems cap es old x from next → All (λ (e : ℕ × Item). e.0 < ranks (stack_dims old)) es
     → ((b : ℕ) → b < old.ranks → (stack_out_at old b).waiting ≡ []) → from < length es → from < next
 pushes_one cap es old x from next some is below empty left =
     elim (cases_lt from next) [

@@ -20,14 +20,14 @@ use Rattle.hop_core.specs.Link.{Out, is_due, is_empty}
 use Rattle.hop_core.specs.State.{State}
 use Rattle.convey.specs.Arrived.{HasArrived}
 use Rattle.convey.specs.Buffers.{buffers_of, in_of, out_of}
-use Rattle.convey.specs.Conveyors.{AgreesWith, HoldsAtMost, standing_toward}
-use Rattle.convey.specs.Due.{Wants, IsOver, NextIs, HeldUp, next_link}
+use Rattle.convey.specs.Conveyors.{AgreesWith, HoldsAtMost, open_count_toward}
+use Rattle.convey.specs.Due.{WantsParcel, IsOver, NextIs, IsHeldUpAt, next_link}
 use Rattle.convey.specs.Progress.{progress_of}
 use Rattle.convey.specs.declared.progress.Progress.TheVariants as progress
 use Rattle.convey.proofs.OneRank.{FirstLink, first_link}
 use Rattle.round_program.specs.Rules.{Rules}
 use Rattle.rank_node.specs.Sending.{to_send, is_voting}
-use Rattle.rank_node.specs.Pulls.{NoMore, Handed}
+use Rattle.rank_node.specs.Pulls.{InboxesShrink, PushesItems}
 use Rattle.rank_node.specs.Runs.{Running}
 use Rattle.rank_node.specs.Moves.{AfterMoves, LeavesAfterAdvance}
 use Rattle.rank_node.specs.Movers.Manner.{ByConveyor}
@@ -65,16 +65,16 @@ lies_less front more back last e less = omega (arith, less, length-append front 
 pub record Advanced (c c' : State) (cap : ℕ) (sent sent' got got' : Logs) (is_crowded is_idle : ℕ → Bool) : Type 0 where
   pub epoch : c'.epoch ≡ c.epoch
   pub full : (l : ℕ) → l < links c.dims → sender_at c.dims l ≡ c.rank → sent' l ≡ sent l → length (out_of c l).parcel.untaken ≡ cap → is_crowded l ≡ true
-  pub idles : (l : ℕ) → l < links c.dims → reader_at c.dims l ≡ c.rank → Wants c l → got' l ≡ got l → sent' l ≡ sent l → is_idle l ≡ true
+  pub idles : (l : ℕ) → l < links c.dims → reader_at c.dims l ≡ c.rank → WantsParcel c l → got' l ≡ got l → sent' l ≡ sent l → is_idle l ≡ true
   pub lies : (l : ℕ) (more : List Shipped) → l < links c.dims → reader_at c.dims l ≡ c.rank → got' l ≡ got l ++ more → Ends ((in_of c l).parcel.untaken ++ flat_map (λ p. p.entries) more) (in_of c' l).parcel.untaken
   pub closing : (l : ℕ) → l < links c.dims → sender_at c.dims l ≡ c.rank → (hop_at c.dims l ≡ 1 → c'.done ≡ true) → HasArrived (buffers_of c') l → (out_of c' l).closed ≡ false → is_crowded l ≡ true
-  pub stopped : (l : ℕ) (e : Entry) → l < links c.dims → reader_at c.dims l ≡ c.rank → hop_at c.dims l < length c.dims → slice_get (in_of c' l).parcel.untaken 0 ≡ Some e → NextIs c.dims c.rank l e.tag (HeldUp cap c' sent sent' is_crowded)
+  pub stopped : (l : ℕ) (e : Entry) → l < links c.dims → reader_at c.dims l ≡ c.rank → hop_at c.dims l < length c.dims → slice_get (in_of c' l).parcel.untaken 0 ≡ Some e → NextIs c.dims c.rank l e.tag (IsHeldUpAt cap c' sent sent' is_crowded)
   pub completes : IsOver c' → c'.phase ≡ Complete
 
 module _ (c c1 c2 c3 : State) (cap : ℕ) (sent got sent' got' : Logs) (is_crowded is_idle : ℕ → Bool)
     (same1 : c1 ≡ record c { outs = c1.outs; pulled = c1.pulled }) (agrees1 : AgreesWith c1 sent got) (dims2 : c2.dims ≡ c1.dims) (rank2 : c2.rank ≡ c1.rank) (agrees2 : AgreesWith c2 sent' got')
     (advanced : Advanced c1 c2 cap sent sent' got got' is_crowded is_idle)
-    (same3 : c3 ≡ record c2 { ins = c3.ins; pulled = c3.pulled }) (fewer : NoMore c2 c3) where
+    (same3 : c3 ≡ record c2 { ins = c3.ins; pulled = c3.pulled }) (fewer : InboxesShrink c2 c3) where
   dims1 : c1.dims ≡ c.dims
   dims1 = ap (λ (c : State). c.dims) same1
 
@@ -92,7 +92,7 @@ module _ (c c1 c2 c3 : State) (cap : ℕ) (sent got sent' got' : Logs) (is_crowd
 
   module _ (sent_same : (l : ℕ) → sent' l ≡ sent l) where
     -- a push was refused toward a receiver, whose first link is crowded
-    pub crowded_toward : (to : ℕ) → IsGrid c.dims → c.rank < ranks c.dims → to < ranks c1.dims → standing_toward c1 to ≡ cap → HasCrowded c.dims c.rank is_crowded
+    pub crowded_toward : (to : ℕ) → IsGrid c.dims → c.rank < ranks c.dims → to < ranks c1.dims → open_count_toward c1 to ≡ cap → HasCrowded c.dims c.rank is_crowded
     crowded_toward to grid own low full =
         let grid1 : IsGrid c1.dims = subst IsGrid (sym dims1) grid in
         let own1 : c1.rank < ranks c1.dims = subst (λ (d : List ℕ). c1.rank < ranks d) (sym dims1) (subst (λ r. r < ranks c.dims) (sym rank1) own) in
@@ -135,10 +135,10 @@ module _ (c c1 c2 c3 : State) (cap : ℕ) (sent got sent' got' : Logs) (is_crowd
 
 module _ {S : Type 0} (R : Rules S) (h : ℕ → S) (run : Running S) (c0 c1 c2 c3 : State) (next cap : ℕ) (done complete voting : Bool) (prog : S) (sum : ℕ) (spoiled : Bool) (sent got sent' got' : Logs) (is_crowded is_idle : ℕ → Bool)
     (grid : IsGrid c3.dims) (own : c3.rank < ranks c3.dims) (push : AfterPush R run c0 c1 next sent got)
-    (refused : (to : ℕ) (x : Item) → slice_get (to_send R run.prog run.sends) next ≡ Some (to, x) → standing_toward c1 to ≡ cap)
+    (refused : (to : ℕ) (x : Item) → slice_get (to_send R run.prog run.sends) next ≡ Some (to, x) → open_count_toward c1 to ≡ cap)
     (receiver : (to : ℕ) (x : Item) → slice_get (to_send R run.prog run.sends) next ≡ Some (to, x) → to < ranks c1.dims)
     (all : done ≡ (next == length (to_send R run.prog run.sends))) (adv : AfterAdvance c1 c2 done complete sent got sent' got') (advanced : Advanced c1 c2 cap sent sent' got got' is_crowded is_idle)
-    (takes : AfterTakes R voting c2 c3 run.prog prog run.sum sum run.spoiled spoiled sent' got') (fewer : NoMore c2 c3) (is : IsNode R h (record { run = run; mover = Conveying c0 }) sent got)
+    (takes : AfterTakes R voting c2 c3 run.prog prog run.sum sum run.spoiled spoiled sent' got') (fewer : InboxesShrink c2 c3) (is : IsNode R h (record { run = run; mover = Conveying c0 }) sent got)
     (sent_same : (l : ℕ) → sent' l ≡ sent l) (got_same : (l : ℕ) → got' l ≡ got l) where
   dims31 : c3.dims ≡ c1.dims
   dims31 = ap (λ (c : State). c.dims) takes.same ∙ adv.dims
@@ -226,7 +226,7 @@ module _ {S : Type 0} (R : Rules S) (cap : ℕ) (run : Running S) (c0 c1 c2 c3 :
         shape = λ l b e was. subst (λ s. IsConveyorShape s cap (sent' l)) steady10 (grown.shape l (subst (λ s. IsConveyorShape s cap (sent l)) (sym steady10) was));
       }
 
-  pub advanced_leaves : HoldsAtMost cap c1 → (fewer : NoMore c2 c3) → R.emissions prog ≡ R.emissions run.prog → Handed cap (to_send R run.prog run.sends) c0 c1 run.next next
+  pub advanced_leaves : HoldsAtMost cap c1 → (fewer : InboxesShrink c2 c3) → R.emissions prog ≡ R.emissions run.prog → PushesItems cap (to_send R run.prog run.sends) c0 c1 run.next next
       → LeavesAfterAdvance R cap run (record { prog = prog; round = run.round; sends = run.sends; next = next; sum = sum; spoiled = spoiled }) c0 c3 got got'
   advanced_leaves fits fewer emissions handed =
       let same : to_send R run.prog run.sends ≡ to_send R prog run.sends = sym (same_sends R prog run.prog run.sends emissions) in
@@ -237,6 +237,6 @@ module _ {S : Type 0} (R : Rules S) (cap : ℕ) (run : Running S) (c0 c1 c2 c3 :
             omega (arith, ap length ins, lies_less (in_of c1 l).parcel.untaken (flat_map (λ (p : Shipped). p.entries) more) (in_of c2 l).parcel.untaken (in_of c3 l).parcel.untaken rest (fewer l));
         at_push = c1;
         fits = fits;
-        pushed = subst (λ (es : List (ℕ × Item)). Handed cap es c0 c1 run.next next) same handed;
+        pushed = subst (λ (es : List (ℕ × Item)). PushesItems cap es c0 c1 run.next next) same handed;
         done = ap (λ (c : State). c.done) takes.same ∙ (adv.done_is ∙ (all ∙ ap (λ (es : List (ℕ × Item)). next == length es) same));
       }

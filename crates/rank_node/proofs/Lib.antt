@@ -5,7 +5,7 @@ pub mod Absorbed
 pub mod Chains
 pub mod Took
 pub mod Offered
-pub mod Handed
+pub mod PushesItems
 pub mod Moved
 pub mod Halted
 pub mod Filled

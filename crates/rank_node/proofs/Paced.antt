@@ -21,7 +21,7 @@ use Rattle.rank_node.specs.Runs.{Running}
 use Rattle.rank_node.specs.Cycles.{exchanges_in, cycles_gone_on, WentOn, MarksLast, InCycle, InExchange}
 use Rattle.exstack.specs.State.{has_proceeded, has_exchanged}
 use Rattle.rank_node.specs.Movers.MoverState.{Stacking}
-use Rattle.rank_node.specs.Pulls.{Pops}
+use Rattle.rank_node.specs.Pulls.{PopsItems}
 use Rattle.rank_node.specs.Nodes.{IsNode}
 use Rattle.rank_node.proofs.Ballots.{same_sends}
 use Rattle.rank_node.proofs.Polled.{done_keeps, left_over}
@@ -298,7 +298,7 @@ filled_keep R run x x' next sent got quota n s same agrees pushed i =
 
 -- a proceed poll after pops, which says that the rank is done where all is pushed
 module _ {S : Type 0} (R : Rules S) (h : ℕ → S) (run : Running S) (cap : ℕ) (x x1 x2 : Stack) (prog : S) (sum : ℕ) (spoiled voting done : Bool) (sent got sent' got' : Logs)
-    (pops : Pops R voting x x1 run.prog prog run.sum sum run.spoiled spoiled) (all : done ≡ (run.next == length (to_send R prog run.sends))) (is : IsNode R h (record { run = run; mover = Stacking cap x }) sent got) where
+    (pops : PopsItems R voting x x1 run.prog prog run.sum sum run.spoiled spoiled) (all : done ≡ (run.next == length (to_send R prog run.sends))) (is : IsNode R h (record { run = run; mover = Stacking cap x }) sent got) where
   pub proceeds_of : IsStack cap x2 → may_proceed x.stage ≡ true → x2 ≡ record x1 { stage = x2.stage; done = done; outs = x2.outs; ins = x2.ins; popped = None }
       → MadeRound done false (in_proceed done x1) x2 sent sent' got got' → ((n : ℕ) → AgreesIn n x1 sent got → AgreesIn (cycle_after n x1.stage) x2 sent' got')
       → has_proceeded x2.stage ≡ true → (x2.stage ≡ Filling → all_ended x2 ≡ false)

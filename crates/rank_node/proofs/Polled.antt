@@ -27,7 +27,7 @@ use Rattle.rank_node.specs.declared.sends.Sends.{Sends}
 use Rattle.rank_node.specs.Sending.{to_send, is_voting}
 use Rattle.rank_node.specs.Movers.MoverState.{Stacking}
 use Rattle.rank_node.specs.Runs.{Running, HasTaken}
-use Rattle.rank_node.specs.Pulls.{Pops, Fills}
+use Rattle.rank_node.specs.Pulls.{PopsItems, FillsItems}
 use Rattle.rank_node.specs.Nodes.{IsNode}
 use Rattle.rank_node.specs.Moves.{AfterMoves, AfterFill, WaitsFor}
 use Rattle.rank_node.proofs.Ballots.{same_sends}
@@ -184,7 +184,7 @@ left_over next count done is low d =
 
 -- what the poll is told
 module _ {S : Type 0} (R : Rules S) (h : ℕ → S) (run : Running S) (cap : ℕ) (x x1 : Stack) (prog : S) (sum : ℕ) (spoiled voting done : Bool) (sent got : Logs)
-    (pops : Pops R voting x x1 run.prog prog run.sum sum run.spoiled spoiled) (all : done ≡ (run.next == length (to_send R prog run.sends))) (is : IsNode R h (record { run = run; mover = Stacking cap x }) sent got) where
+    (pops : PopsItems R voting x x1 run.prog prog run.sum sum run.spoiled spoiled) (all : done ≡ (run.next == length (to_send R prog run.sends))) (is : IsNode R h (record { run = run; mover = Stacking cap x }) sent got) where
   same_items : to_send R prog run.sends ≡ to_send R run.prog run.sends
   same_items = same_sends R prog run.prog run.sends pops.emissions
 
@@ -205,7 +205,7 @@ module _ {S : Type 0} (R : Rules S) (h : ℕ → S) (run : Running S) (cap : ℕ
       ]
 
 module _ {S : Type 0} (R : Rules S) (h : ℕ → S) (run : Running S) (cap : ℕ) (x x1 x' : Stack) (prog : S) (sum : ℕ) (spoiled voting done : Bool) (sent got sent' got' : Logs)
-    (is_v : is_voting run.sends ≡ voting) (pops : Pops R voting x x1 run.prog prog run.sum sum run.spoiled spoiled) (all : done ≡ (run.next == length (to_send R prog run.sends)))
+    (is_v : is_voting run.sends ≡ voting) (pops : PopsItems R voting x x1 run.prog prog run.sum sum run.spoiled spoiled) (all : done ≡ (run.next == length (to_send R prog run.sends)))
     (p : AfterProceed cap x1 x' done sent got sent' got') (is : IsNode R h (record { run = run; mover = Stacking cap x }) sent got) where
   h0 : HasTaken R (ranks (stack_dims x)) x.rank h run.round run.sends run.next run.prog run.sum run.spoiled (stack_part x sent got)
   h0 = record { passed = is.passed; within = is.within }
@@ -262,7 +262,7 @@ exchanged R h run cap x x' sent got sent' got' p is =
     record { moving = record { stack = p.standing; agrees = p.agrees }; paced = λ s d. absurd (p.apart s); passed = h2.passed; within = h2.within }
 
 -- what pushes leave
-pub filled : {S : Type 0} (R : Rules S) (h : ℕ → S) (run : Running S) (cap : ℕ) (x x' : Stack) (next : ℕ) (sent got : Logs) → IsStack cap x' → x.stage ≡ Filling → Fills cap (to_send R run.prog run.sends) x x' run.next next
+pub filled : {S : Type 0} (R : Rules S) (h : ℕ → S) (run : Running S) (cap : ℕ) (x x' : Stack) (next : ℕ) (sent got : Logs) → IsStack cap x' → x.stage ≡ Filling → FillsItems cap (to_send R run.prog run.sends) x x' run.next next
     → IsNode R h (record { run = run; mover = Stacking cap x }) sent got → IsNode R h (record { run = record run { next = next }; mover = Stacking cap x' }) sent got
 filled R h run cap x x' next sent got standing filling fills is =
     let h0 : HasTaken R (ranks (stack_dims x)) x.rank h run.round run.sends run.next run.prog run.sum run.spoiled (stack_part x sent got) = record { passed = is.passed; within = is.within } in

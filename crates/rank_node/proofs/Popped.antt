@@ -16,7 +16,7 @@ use Rattle.exstack.proofs.OneHop.{ranks_one}
 use Rattle.round_program.specs.Rules.{Rules}
 use Rattle.round_program.specs.Laws.{Laws}
 use Rattle.rank_node.specs.Runs.{HasTaken}
-use Rattle.rank_node.specs.Pulls.{Pops}
+use Rattle.rank_node.specs.Pulls.{PopsItems}
 use Rattle.rank_node.specs.Batches.{TakesEach}
 use Rattle.rank_node.proofs.Chains.{TakesOne, Chain, each_chain, none_more, one_more, all_more, from_none}
 use Rattle.rank_node.proofs.Took.{take_on, taken_same}
@@ -71,12 +71,12 @@ popped_same : (st : Stack) (o : Option ℕ) → popped_from st o ≡ record st {
 popped_same st None = refl
 popped_same st (Some a) = refl
 
-pub pops_none : {S : Type 0} (R : Rules S) (voting : Bool) (x : Stack) (prog : S) (sum : ℕ) (spoiled : Bool) → Pops R voting x x prog prog sum sum spoiled spoiled
+pub pops_none : {S : Type 0} (R : Rules S) (voting : Bool) (x : Stack) (prog : S) (sum : ℕ) (spoiled : Bool) → PopsItems R voting x x prog prog sum sum spoiled spoiled
 pops_none R voting x prog sum spoiled = record { same = refl; emissions = refl; kept = λ n sent got a. a; taken = λ h rank round next sends n sent got v a t. t }
 
 -- one more pop
-pops_more : {S : Type 0} (R : Rules S) → Laws R → (voting : Bool) (old x : Stack) (prog mid prog' : S) (from : ℕ) (y : Item) (sum sum1 sum2 : ℕ) (spoiled now after : Bool) → Pops R voting old x prog mid sum sum1 spoiled now
-    → PopGivesNext x from y → from < x.ranks → TakesOne R voting mid prog' from y sum1 sum2 now after → Pops R voting old (popped_from x (lowest_unread_sender x)) prog prog' sum sum2 spoiled after
+pops_more : {S : Type 0} (R : Rules S) → Laws R → (voting : Bool) (old x : Stack) (prog mid prog' : S) (from : ℕ) (y : Item) (sum sum1 sum2 : ℕ) (spoiled now after : Bool) → PopsItems R voting old x prog mid sum sum1 spoiled now
+    → PopGivesNext x from y → from < x.ranks → TakesOne R voting mid prog' from y sum1 sum2 now after → PopsItems R voting old (popped_from x (lowest_unread_sender x)) prog prog' sum sum2 spoiled after
 pops_more R laws voting old x prog mid prog' from y sum sum1 sum2 spoiled now after is next low takes =
     let like = popped_same x (lowest_unread_sender x) in
     let same : x.ranks ≡ old.ranks = ap (λ (t : Stack). t.ranks) is.same in
@@ -90,8 +90,8 @@ pops_more R laws voting old x prog mid prog' from y sum sum1 sum2 spoiled now af
     }
 
 -- a call that only forgets the right to put an item back
-pub pops_rest : {S : Type 0} (R : Rules S) (voting : Bool) (old x x' : Stack) (prog prog' : S) (sum sum' : ℕ) (spoiled spoiled' : Bool) → Pops R voting old x prog prog' sum sum' spoiled spoiled'
-    → x' ≡ record x { popped = None } → StackKeepsAgreement x x' → IsStackStep Idle x x' → Pops R voting old x' prog prog' sum sum' spoiled spoiled'
+pub pops_rest : {S : Type 0} (R : Rules S) (voting : Bool) (old x x' : Stack) (prog prog' : S) (sum sum' : ℕ) (spoiled spoiled' : Bool) → PopsItems R voting old x prog prog' sum sum' spoiled spoiled'
+    → x' ≡ record x { popped = None } → StackKeepsAgreement x x' → IsStackStep Idle x x' → PopsItems R voting old x' prog prog' sum sum' spoiled spoiled'
 pops_rest R voting old x x' prog prog' sum sum' spoiled spoiled' is new kept step =
     record {
       same = subst (λ (t : Stack). t ≡ record old { ins = t.ins; popped = t.popped }) (sym new) (ap (λ (t : Stack). record t { popped = None }) is.same);
@@ -103,8 +103,8 @@ pops_rest R voting old x x' prog prog' sum sum' spoiled spoiled' is new kept ste
     }
 
 -- pops after pops
-pub pops_both : {S : Type 0} (R : Rules S) (voting : Bool) (old x x' : Stack) (prog mid prog' : S) (sum sum1 sum2 : ℕ) (spoiled now after : Bool) → Pops R voting old x prog mid sum sum1 spoiled now
-    → Pops R voting x x' mid prog' sum1 sum2 now after → Pops R voting old x' prog prog' sum sum2 spoiled after
+pub pops_both : {S : Type 0} (R : Rules S) (voting : Bool) (old x x' : Stack) (prog mid prog' : S) (sum sum1 sum2 : ℕ) (spoiled now after : Bool) → PopsItems R voting old x prog mid sum sum1 spoiled now
+    → PopsItems R voting x x' mid prog' sum1 sum2 now after → PopsItems R voting old x' prog prog' sum sum2 spoiled after
 pops_both R voting old x x' prog mid prog' sum sum1 sum2 spoiled now after p q =
     let dims : ranks (stack_dims x) ≡ ranks (stack_dims old) = ap (λ (t : Stack). ranks (stack_dims t)) p.same in
     record {
@@ -119,26 +119,26 @@ pops_both R voting old x x' prog mid prog' sum sum1 sum2 spoiled now after p q =
 
 -- after so many pops of one batch as after n, and one more
 pub pops_next : {S : Type 0} (R : Rules S) → Laws R → (voting : Bool) (st : Stack) (n : ℕ) (prog mid prog' : S) (from : ℕ) (y : Item) (sum sum1 sum2 : ℕ) (spoiled now after : Bool)
-    → Pops R voting st (pops n st) prog mid sum sum1 spoiled now → PopGivesNext (pops n st) from y → from < st.ranks → TakesOne R voting mid prog' from y sum1 sum2 now after
-    → Pops R voting st (pops (n + 1) st) prog prog' sum sum2 spoiled after
+    → PopsItems R voting st (pops n st) prog mid sum sum1 spoiled now → PopGivesNext (pops n st) from y → from < st.ranks → TakesOne R voting mid prog' from y sum1 sum2 now after
+    → PopsItems R voting st (pops (n + 1) st) prog prog' sum sum2 spoiled after
 pops_next R laws voting st n prog mid prog' from y sum sum1 sum2 spoiled now after is next low takes =
     let same : (pops n st).ranks ≡ st.ranks = ap (λ (t : Stack). t.ranks) is.same in
-    subst (λ m. Pops R voting st (pops m st) prog prog' sum sum2 spoiled after) (sym (add-one n))
+    subst (λ m. PopsItems R voting st (pops m st) prog prog' sum sum2 spoiled after) (sym (add-one n))
     (pops_more R laws voting st (pops n st) prog mid prog' from y sum sum1 sum2 spoiled now after is next (omega (arith, low, same)) takes)
 
 -- and all that is left of it
 pub pops_chain : {S : Type 0} (R : Rules S) → Laws R → (voting : Bool) (st : Stack) (n : ℕ) (prog mid prog' : S) (es : List (ℕ × Item)) (sum sum1 sum2 : ℕ) (spoiled now after : Bool)
-    → Pops R voting st (pops n st) prog mid sum sum1 spoiled now → ((i : ℕ) (e : ℕ × Item) → slice_get es i ≡ Some e → (e.0 < st.ranks) × PopGivesNext (pops (n + i) st) e.0 e.1)
-    → Chain R voting mid prog' es sum1 sum2 now after → Pops R voting st (pops (n + length es) st) prog prog' sum sum2 spoiled after
+    → PopsItems R voting st (pops n st) prog mid sum sum1 spoiled now → ((i : ℕ) (e : ℕ × Item) → slice_get es i ≡ Some e → (e.0 < st.ranks) × PopGivesNext (pops (n + i) st) e.0 e.1)
+    → Chain R voting mid prog' es sum1 sum2 now after → PopsItems R voting st (pops (n + length es) st) prog prog' sum sum2 spoiled after
 pops_chain R laws voting st n prog mid prog' [] sum sum1 sum2 spoiled now later is gives c =
-    subst (λ m. Pops R voting st (pops m st) prog prog' sum sum2 spoiled later) (sym (none_more n))
-    (subst (λ b. Pops R voting st (pops n st) prog prog' sum sum2 spoiled b) (sym c.2)
-    (subst (λ k. Pops R voting st (pops n st) prog prog' sum k spoiled now) (sym c.1)
-    (subst (λ s. Pops R voting st (pops n st) prog s sum sum1 spoiled now) (sym c.0) is)))
+    subst (λ m. PopsItems R voting st (pops m st) prog prog' sum sum2 spoiled later) (sym (none_more n))
+    (subst (λ b. PopsItems R voting st (pops n st) prog prog' sum sum2 spoiled b) (sym c.2)
+    (subst (λ k. PopsItems R voting st (pops n st) prog prog' sum k spoiled now) (sym c.1)
+    (subst (λ s. PopsItems R voting st (pops n st) prog s sum sum1 spoiled now) (sym c.0) is)))
 pops_chain R laws voting st n prog mid prog' (e ∷ es) sum sum1 sum2 spoiled now later is gives c =
     let first = subst (λ m. (e.0 < st.ranks) × PopGivesNext (pops m st) e.0 e.1) (none_more n) (gives 0 e refl) in
     let one = pops_next R laws voting st n prog mid c.0 e.0 e.1 sum sum1 c.1 spoiled now c.2 is first.1 first.0 c.3 in
-    subst (λ m. Pops R voting st (pops m st) prog prog' sum sum2 spoiled later) (all_more n e es)
+    subst (λ m. PopsItems R voting st (pops m st) prog prog' sum sum2 spoiled later) (all_more n e es)
     (pops_chain R laws voting st (n + 1) prog c.0 prog' es sum c.1 sum2 spoiled c.2 later one
     (λ i y at. subst (λ m. (y.0 < st.ranks) × PopGivesNext (pops m st) y.0 y.1) (one_more n i) (gives (suc i) y at)) c.4)
 
@@ -154,14 +154,14 @@ fewer_all st n (e ∷ es) is gives =
 -- all of one sender, where something is unread of it
 pub pops_batch : {S : Type 0} (R : Rules S) → Laws R → (voting : Bool) (st new : Stack) (m : ℕ) (prog prog' : S) (es : List (ℕ × Item)) (sum sum' : ℕ) (spoiled spoiled' : Bool)
     → m ≡ length es → new ≡ pops m st → 0 < length es → ((i : ℕ) (e : ℕ × Item) → slice_get es i ≡ Some e → (e.0 < st.ranks) × PopGivesNext (pops i st) e.0 e.1)
-    → TakesEach R voting prog prog' es sum sum' spoiled spoiled' → Pops R voting st new prog prog' sum sum' spoiled spoiled' × (stack_unread new < stack_unread st)
+    → TakesEach R voting prog prog' es sum sum' spoiled spoiled' → PopsItems R voting st new prog prog' sum sum' spoiled spoiled' × (stack_unread new < stack_unread st)
 pops_batch R laws voting st new m prog prog' es sum sum' spoiled spoiled' count is some gives t =
     let at_end : new ≡ pops (0 + length es) st = is ∙ ap (λ k. pops k st) (count ∙ from_none (length es)) in
     let each : (i : ℕ) (e : ℕ × Item) → slice_get es i ≡ Some e → (e.0 < st.ranks) × PopGivesNext (pops (0 + i) st) e.0 e.1 =
     λ i e at. subst (λ k. (e.0 < st.ranks) × PopGivesNext (pops k st) e.0 e.1) (from_none i) (gives i e at) in
     let fewer : 0 + length es + stack_unread (pops (0 + length es) st) ≤ stack_unread st = fewer_all st 0 es (omega arith) each in
     let left : stack_unread new ≡ stack_unread (pops (0 + length es) st) = ap stack_unread at_end in (
-      subst (λ x. Pops R voting st x prog prog' sum sum' spoiled spoiled') (sym at_end)
+      subst (λ x. PopsItems R voting st x prog prog' sum sum' spoiled spoiled') (sym at_end)
           (pops_chain R laws voting st 0 prog prog prog' es sum sum sum' spoiled spoiled spoiled' (pops_none R voting st prog sum spoiled) each (each_chain R laws voting prog prog' es sum sum' spoiled spoiled' some t)),
       omega (arith, some, fewer, left),
     )

@@ -26,7 +26,7 @@ use Rattle.rank_node.specs.declared.sends.Sends.{Sends}
 use Rattle.rank_node.specs.declared.sends.Sends.TheVariants.{Emissions, Nothing, Votes}
 use Rattle.rank_node.specs.Sending.{to_send, is_voting, spoiled_vote}
 use Rattle.rank_node.specs.Runs.{part_lists, IsPushed, HasPassed, IsWithinEpoch, HasTaken}
-use Rattle.rank_node.specs.Pulls.{NoMore, Takes}
+use Rattle.rank_node.specs.Pulls.{InboxesShrink, PullsItems}
 use Rattle.rank_node.specs.Batches.{TakesEach}
 use Rattle.rank_node.proofs.Chains.{TakesOne, Chain, each_chain, none_more, one_more, all_more, from_none}
 use Rattle.hop_core.specs.Relay.{waiting}
@@ -179,18 +179,18 @@ drop_less : {X : Type 0} (xs : List X) → length (drop 1 xs) ≤ length xs
 drop_less [] = omega arith
 drop_less (x ∷ xs) = omega arith
 
-fewer_pulled : (st : State) (o : Option ℕ) → NoMore st (pulled_from st o)
+fewer_pulled : (st : State) (o : Option ℕ) → InboxesShrink st (pulled_from st o)
 fewer_pulled st None l = omega arith
 fewer_pulled st (Some i) l = fewer_set st.ins i (in_index st.dims l) (record (in_at st i) { parcel = with_first_taken (in_at st i).parcel }) (drop_less (in_at st i).parcel.untaken)
 
 -- no pull so far
-pub takes_start : {S : Type 0} (R : Rules S) (voting : Bool) (old : State) (prog : S) (sum : ℕ) (spoiled : Bool) → old.phase ≢ Dormant → Takes R voting old old prog prog sum sum spoiled spoiled
+pub takes_start : {S : Type 0} (R : Rules S) (voting : Bool) (old : State) (prog : S) (sum : ℕ) (spoiled : Bool) → old.phase ≢ Dormant → PullsItems R voting old old prog prog sum sum spoiled spoiled
 takes_start R voting old prog sum spoiled begun =
     record { begun = begun; same = refl; ends = λ l. refl; fewer = λ l. omega arith; emissions = refl; kept = λ sent got a. a; taken = λ h rank round next sends sent got v a is. is }
 
-pub takes_more : {S : Type 0} (R : Rules S) → Laws R → (voting : Bool) (old c c' : State) (prog mid prog' : S) (from : ℕ) (x : Item) (sum sum1 sum2 : ℕ) (spoiled now after : Bool) → Takes R voting old c prog mid sum sum1 spoiled now
+pub takes_more : {S : Type 0} (R : Rules S) → Laws R → (voting : Bool) (old c c' : State) (prog mid prog' : S) (from : ℕ) (x : Item) (sum sum1 sum2 : ℕ) (spoiled now after : Bool) → PullsItems R voting old c prog mid sum sum1 spoiled now
     → c' ≡ pulled_from c (lowest_unread c) → KeepsAgreement c c' → from < ranks c.dims → IsStepOf (Pull from x) c c'
-    → TakesOne R voting mid prog' from x sum1 sum2 now after → Takes R voting old c' prog prog' sum sum2 spoiled after
+    → TakesOne R voting mid prog' from x sum1 sum2 now after → PullsItems R voting old c' prog prog' sum sum2 spoiled after
 takes_more R laws voting old c c' prog mid prog' from x sum sum1 sum2 spoiled now after is new kept below step takes =
     let like : c' ≡ record c { ins = c'.ins; pulled = c'.pulled } =
     subst (λ (t : State). t ≡ record c { ins = t.ins; pulled = t.pulled }) (sym new) (pulled_same c (lowest_unread c)) in
@@ -208,8 +208,8 @@ takes_more R laws voting old c c' prog mid prog' from x sum sum1 sum2 spoiled no
     }
 
 -- the last pull, which gives nothing
-pub takes_end : {S : Type 0} (R : Rules S) (voting : Bool) (old c c' : State) (prog prog' : S) (sum sum' : ℕ) (spoiled spoiled' : Bool) → Takes R voting old c prog prog' sum sum' spoiled spoiled'
-    → c' ≡ record c { pulled = None } → KeepsAgreement c c' → IsStepOf Idle c c' → Takes R voting old c' prog prog' sum sum' spoiled spoiled'
+pub takes_end : {S : Type 0} (R : Rules S) (voting : Bool) (old c c' : State) (prog prog' : S) (sum sum' : ℕ) (spoiled spoiled' : Bool) → PullsItems R voting old c prog prog' sum sum' spoiled spoiled'
+    → c' ≡ record c { pulled = None } → KeepsAgreement c c' → IsStepOf Idle c c' → PullsItems R voting old c' prog prog' sum sum' spoiled spoiled'
 takes_end R voting old c c' prog prog' sum sum' spoiled spoiled' is new kept step =
     record {
       begun = λ e. is.begun (sym (ap (λ (t : State). t.phase) new) ∙ e);
@@ -224,8 +224,8 @@ takes_end R voting old c c' prog prog' sum sum' spoiled spoiled' is new kept ste
     }
 
 -- pulls after pulls
-pub takes_both : {S : Type 0} (R : Rules S) (voting : Bool) (old c c' : State) (prog mid prog' : S) (sum sum1 sum2 : ℕ) (spoiled now after : Bool) → Takes R voting old c prog mid sum sum1 spoiled now
-    → Takes R voting c c' mid prog' sum1 sum2 now after → Takes R voting old c' prog prog' sum sum2 spoiled after
+pub takes_both : {S : Type 0} (R : Rules S) (voting : Bool) (old c c' : State) (prog mid prog' : S) (sum sum1 sum2 : ℕ) (spoiled now after : Bool) → PullsItems R voting old c prog mid sum sum1 spoiled now
+    → PullsItems R voting c c' mid prog' sum1 sum2 now after → PullsItems R voting old c' prog prog' sum sum2 spoiled after
 takes_both R voting old c c' prog mid prog' sum sum1 sum2 spoiled now after p q =
     let dims : ranks c.dims ≡ ranks old.dims = ap (λ (t : State). ranks t.dims) p.same in
     record {
@@ -243,25 +243,25 @@ takes_both R voting old c c' prog mid prog' sum sum1 sum2 spoiled now after p q 
 
 -- after so many pulls of one inbox as after n, and one more
 pub takes_next : {S : Type 0} (R : Rules S) → Laws R → (voting : Bool) (st : State) (n : ℕ) (prog mid prog' : S) (from from' : ℕ) (x : Item) (sum sum1 sum2 : ℕ) (spoiled now after : Bool)
-    → Takes R voting st (pulls n st) prog mid sum sum1 spoiled now → GivesNext (pulls n st) from x → from' ≡ from → TakesOne R voting mid prog' from' x sum1 sum2 now after
-    → Takes R voting st (pulls (n + 1) st) prog prog' sum sum2 spoiled after
+    → PullsItems R voting st (pulls n st) prog mid sum sum1 spoiled now → GivesNext (pulls n st) from x → from' ≡ from → TakesOne R voting mid prog' from' x sum1 sum2 now after
+    → PullsItems R voting st (pulls (n + 1) st) prog prog' sum sum2 spoiled after
 takes_next R laws voting st n prog mid prog' from from' x sum sum1 sum2 spoiled now after is next same takes =
-    subst (λ m. Takes R voting st (pulls m st) prog prog' sum sum2 spoiled after) (sym (add-one n))
+    subst (λ m. PullsItems R voting st (pulls m st) prog prog' sum sum2 spoiled after) (sym (add-one n))
     (takes_more R laws voting st (pulls n st) (pulls (suc n) st) prog mid prog' from x sum sum1 sum2 spoiled now after is refl next.kept next.sender next.step
     (subst (λ f. TakesOne R voting mid prog' f x sum1 sum2 now after) same takes))
 
 -- and all that is left of it
 pub takes_chain : {S : Type 0} (R : Rules S) → Laws R → (voting : Bool) (st : State) (n : ℕ) (prog mid prog' : S) (es : List (ℕ × Item)) (sum sum1 sum2 : ℕ) (spoiled now after : Bool)
-    → Takes R voting st (pulls n st) prog mid sum sum1 spoiled now → ((i : ℕ) (e : ℕ × Item) → slice_get es i ≡ Some e → GivesNext (pulls (n + i) st) e.0 e.1)
-    → Chain R voting mid prog' es sum1 sum2 now after → Takes R voting st (pulls (n + length es) st) prog prog' sum sum2 spoiled after
+    → PullsItems R voting st (pulls n st) prog mid sum sum1 spoiled now → ((i : ℕ) (e : ℕ × Item) → slice_get es i ≡ Some e → GivesNext (pulls (n + i) st) e.0 e.1)
+    → Chain R voting mid prog' es sum1 sum2 now after → PullsItems R voting st (pulls (n + length es) st) prog prog' sum sum2 spoiled after
 takes_chain R laws voting st n prog mid prog' [] sum sum1 sum2 spoiled now later is gives c =
-    subst (λ m. Takes R voting st (pulls m st) prog prog' sum sum2 spoiled later) (sym (none_more n))
-    (subst (λ b. Takes R voting st (pulls n st) prog prog' sum sum2 spoiled b) (sym c.2)
-    (subst (λ k. Takes R voting st (pulls n st) prog prog' sum k spoiled now) (sym c.1)
-    (subst (λ s. Takes R voting st (pulls n st) prog s sum sum1 spoiled now) (sym c.0) is)))
+    subst (λ m. PullsItems R voting st (pulls m st) prog prog' sum sum2 spoiled later) (sym (none_more n))
+    (subst (λ b. PullsItems R voting st (pulls n st) prog prog' sum sum2 spoiled b) (sym c.2)
+    (subst (λ k. PullsItems R voting st (pulls n st) prog prog' sum k spoiled now) (sym c.1)
+    (subst (λ s. PullsItems R voting st (pulls n st) prog s sum sum1 spoiled now) (sym c.0) is)))
 takes_chain R laws voting st n prog mid prog' (e ∷ es) sum sum1 sum2 spoiled now later is gives c =
     let one = takes_next R laws voting st n prog mid c.0 e.0 e.0 e.1 sum sum1 c.1 spoiled now c.2 is (subst (λ m. GivesNext (pulls m st) e.0 e.1) (none_more n) (gives 0 e refl)) refl c.3 in
-    subst (λ m. Takes R voting st (pulls m st) prog prog' sum sum2 spoiled later) (all_more n e es)
+    subst (λ m. PullsItems R voting st (pulls m st) prog prog' sum sum2 spoiled later) (all_more n e es)
     (takes_chain R laws voting st (n + 1) prog c.0 prog' es sum c.1 sum2 spoiled c.2 later one
     (λ i y at. subst (λ m. GivesNext (pulls m st) y.0 y.1) (one_more n i) (gives (suc i) y at)) c.4)
 
@@ -276,13 +276,13 @@ fewer_all st n (e ∷ es) is gives =
 -- all of one inbox, where something lies in it
 pub takes_batch : {S : Type 0} (R : Rules S) → Laws R → (voting : Bool) (st new : State) (m : ℕ) (prog prog' : S) (es : List (ℕ × Item)) (sum sum' : ℕ) (spoiled spoiled' : Bool) → st.phase ≢ Dormant
     → m ≡ length es → new ≡ pulls m st → 0 < length es → ((i : ℕ) (e : ℕ × Item) → slice_get es i ≡ Some e → GivesNext (pulls i st) e.0 e.1)
-    → TakesEach R voting prog prog' es sum sum' spoiled spoiled' → Takes R voting st new prog prog' sum sum' spoiled spoiled' × (waiting new.ins < waiting st.ins)
+    → TakesEach R voting prog prog' es sum sum' spoiled spoiled' → PullsItems R voting st new prog prog' sum sum' spoiled spoiled' × (waiting new.ins < waiting st.ins)
 takes_batch R laws voting st new m prog prog' es sum sum' spoiled spoiled' begun count is some gives t =
     let at_end : new ≡ pulls (0 + length es) st = is ∙ ap (λ k. pulls k st) (count ∙ from_none (length es)) in
     let each : (i : ℕ) (e : ℕ × Item) → slice_get es i ≡ Some e → GivesNext (pulls (0 + i) st) e.0 e.1 = λ i e at. subst (λ k. GivesNext (pulls k st) e.0 e.1) (from_none i) (gives i e at) in
     let fewer : 0 + length es + waiting (pulls (0 + length es) st).ins ≤ waiting st.ins = fewer_all st 0 es (omega arith) each in
     let left : waiting new.ins ≡ waiting (pulls (0 + length es) st).ins = ap (λ (x : State). waiting x.ins) at_end in (
-      subst (λ x. Takes R voting st x prog prog' sum sum' spoiled spoiled') (sym at_end)
+      subst (λ x. PullsItems R voting st x prog prog' sum sum' spoiled spoiled') (sym at_end)
           (takes_chain R laws voting st 0 prog prog prog' es sum sum sum' spoiled spoiled spoiled' (takes_start R voting st prog sum spoiled begun) each (each_chain R laws voting prog prog' es sum sum' spoiled spoiled' some t)),
       omega (arith, some, fewer, left),
     )

@@ -16,8 +16,8 @@ from_link site number entries =
     map (λ e. (sender_of site.dims e.tag (length site.dims) (neighbour site.dims site.rank number), e.item)) entries
 
 -- All that is unread on a conveyor's link in.
-abbrev pub came_on : State → ℕ → List (ℕ × Item)
-came_on st number = from_link (record { dims = st.dims; rank = st.rank }) number (in_at st number).parcel.untaken
+abbrev pub unread_items_on : State → ℕ → List (ℕ × Item)
+unread_items_on st number = from_link (record { dims = st.dims; rank = st.rank }) number (in_at st number).parcel.untaken
 
 -- Entries that came from one sender.
 abbrev pub from_sender : ℕ → List Entry → List (ℕ × Item)

@@ -20,7 +20,7 @@ use Rattle.rank_node.specs.Movers.{MoverState, IsLogShape, mover_dims, mover_ran
 use Rattle.rank_node.specs.Movers.MoverState.{Conveying, Stacking}
 use Rattle.rank_node.specs.Runs.{Running}
 use Rattle.rank_node.specs.Nodes.{NodeState, IsNode}
-use Rattle.rank_node.specs.Pulls.{Handed, Fills}
+use Rattle.rank_node.specs.Pulls.{PushesItems, FillsItems}
 use Rattle.rank_node.specs.Stuck.{IsStuck}
 
 -- A node that may turn over its own port, in a run whose programs began in these states.
@@ -65,7 +65,7 @@ pub record LeavesAfterAdvance {S : Type 0} (R : Rules S) (cap : ℕ) (run run' :
       → length (in_of c' l).parcel.untaken ≤ length (in_of c l).parcel.untaken + length (flat_map (λ p. p.entries) more)
   pub at_push : State
   pub fits : HoldsAtMost cap at_push
-  pub pushed : Handed cap (to_send R run'.prog run'.sends) c at_push run.next run'.next
+  pub pushed : PushesItems cap (to_send R run'.prog run'.sends) c at_push run.next run'.next
   pub done : c'.done ≡ (run'.next == length (to_send R run'.prog run'.sends))
 
 -- What a turn over an exstack further does.
@@ -74,7 +74,7 @@ pub record LeavesAfterAdvance {S : Type 0} (R : Rules S) (cap : ℕ) (run run' :
 -- unpushed: in other stages nothing is pushed.
 pub record LeavesAfterPoll {S : Type 0} (R : Rules S) (cap : ℕ) (run run' : Running S) (x : Stack) : Type 0 where
   pub pushed : x.stage ≡ Filling
-      → (at_push : Stack) × Fills cap (to_send R run'.prog run'.sends) x at_push run.next run'.next
+      → (at_push : Stack) × FillsItems cap (to_send R run'.prog run'.sends) x at_push run.next run'.next
   pub unpushed : (x.stage ≡ Filling → ⊥) → run'.next ≡ run.next
 
 -- If a parcel of its round remains to be posted, the link is crowded, unless this turn collected a
@@ -90,7 +90,7 @@ pub record AfterFill {S : Type 0} (R : Rules S) (cap : ℕ) (run run' : Running 
       → IsNode R h (record { run = run'; mover = Stacking cap x' }) sent got
   pub round : run'.round ≡ run.round
   pub sends : run'.sends ≡ run.sends
-  pub pushed : Fills cap (to_send R run'.prog run'.sends) x x' run.next run'.next
+  pub pushed : FillsItems cap (to_send R run'.prog run'.sends) x x' run.next run'.next
 
 -- What a turn further does, over either transport.
 abbrev pub Leaves : {S : Type 0} → Rules S → ℕ → Running S → Running S → MoverState → MoverState → Logs → Logs → Type 0

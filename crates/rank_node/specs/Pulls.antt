@@ -3,7 +3,7 @@ use Rattle.std.specs.Prelude.{◌≡◌, ◌≢◌, ℕ, ◌<◌, ◌≤◌, len
 use Rattle.bale_items.specs.declared.item.Item.{Item}
 use Rattle.port_bank.specs.Machine.{Part}
 use Rattle.convey.specs.Buffers.{buffers_of, in_of}
-use Rattle.convey.specs.Conveyors.{AgreesWith, KeepsAgreement, standing_toward}
+use Rattle.convey.specs.Conveyors.{AgreesWith, KeepsAgreement, open_count_toward}
 use Rattle.convey.specs.Parts.{part_of}
 use Rattle.hop_core.specs.declared.phase.Phase.TheVariants.{Dormant}
 use Rattle.hop_core.specs.State.{State}
@@ -32,16 +32,16 @@ abbrev pub SameEnds : State → State → Type 0
 SameEnds old new = (l : ℕ) → (in_of new l).ended ≡ (in_of old l).ended
 
 -- No inbox holds more than before.
-abbrev pub NoMore : State → State → Type 0
-NoMore old new = (l : ℕ) → length (in_of new l).parcel.untaken ≤ length (in_of old l).parcel.untaken
+abbrev pub InboxesShrink : State → State → Type 0
+InboxesShrink old new = (l : ℕ) → length (in_of new l).parcel.untaken ≤ length (in_of old l).parcel.untaken
 
 -- What pulls do to a conveyor; their items are summed or absorbed.
-pub record Takes {S : Type 0} (R : Rules S) (voting : Bool) (old c : State) (prog prog' : S) (sum sum' : ℕ)
+pub record PullsItems {S : Type 0} (R : Rules S) (voting : Bool) (old c : State) (prog prog' : S) (sum sum' : ℕ)
     (spoiled spoiled' : Bool) : Type 0 where
   pub begun : c.phase ≢ Dormant
   pub same : c ≡ record old { ins = c.ins; pulled = c.pulled }
   pub ends : SameEnds old c
-  pub fewer : NoMore old c
+  pub fewer : InboxesShrink old c
   pub emissions : R.emissions prog' ≡ R.emissions prog
   pub kept : KeepsAgreement old c
   pub taken : (h : ℕ → S) (rank round next : ℕ) (sends : Sends) (sent got : Logs) → is_voting sends ≡ voting
@@ -51,19 +51,19 @@ pub record Takes {S : Type 0} (R : Rules S) (voting : Bool) (old c : State) (pro
 
 -- What pushes do to a conveyor: of the items from number `from` on those below `next` are pushed.
 -- If one remains, the open parcel toward its receiver is full.
-pub record Handed (cap : ℕ) (es : List (ℕ × Item)) (old c : State) (from next : ℕ) : Type 0 where
+pub record PushesItems (cap : ℕ) (es : List (ℕ × Item)) (old c : State) (from next : ℕ) : Type 0 where
   pub forward : from ≤ next
   pub low : next ≤ length es
   pub same : c ≡ record old { outs = c.outs; pulled = c.pulled }
   pub kept : KeepsAgreement old c
   pub pushed : (sent got : Logs) → AgreesWith old sent got
       → PushedOn es (ranks old.dims) from next (part_of (buffers_of old) sent got) (part_of (buffers_of c) sent got)
-  pub refused : (to : ℕ) (x : Item) → slice_get es next ≡ Some (to, x) → standing_toward c to ≡ cap
+  pub refused : (to : ℕ) (x : Item) → slice_get es next ≡ Some (to, x) → open_count_toward c to ≡ cap
   pub receiver : (to : ℕ) (x : Item) → slice_get es next ≡ Some (to, x) → to < ranks c.dims
 
 -- What pushes do to an exstack: of the items from number `from` on those below `next` are pushed.
 -- If one remains, the buffer toward its receiver is full.
-pub record Fills (cap : ℕ) (es : List (ℕ × Item)) (old x : Stack) (from next : ℕ) : Type 0 where
+pub record FillsItems (cap : ℕ) (es : List (ℕ × Item)) (old x : Stack) (from next : ℕ) : Type 0 where
   pub forward : from ≤ next
   pub low : next ≤ length es
   pub same : x ≡ record old { outs = x.outs; popped = x.popped }
@@ -74,7 +74,7 @@ pub record Fills (cap : ℕ) (es : List (ℕ × Item)) (old x : Stack) (from nex
   pub none : next ≡ from → x.outs ≡ old.outs
 
 -- What pops do to an exstack; their items are summed or absorbed.
-pub record Pops {S : Type 0} (R : Rules S) (voting : Bool) (old x : Stack) (prog prog' : S) (sum sum' : ℕ)
+pub record PopsItems {S : Type 0} (R : Rules S) (voting : Bool) (old x : Stack) (prog prog' : S) (sum sum' : ℕ)
     (spoiled spoiled' : Bool) : Type 0 where
   pub same : x ≡ record old { ins = x.ins; popped = x.popped }
   pub emissions : R.emissions prog' ≡ R.emissions prog

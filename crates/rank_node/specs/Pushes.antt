@@ -7,7 +7,7 @@ use Rattle.port_bank.specs.Machine.Step.{Push, Idle}
 use Rattle.hop_core.specs.declared.phase.Phase.TheVariants.{Working}
 use Rattle.hop_core.specs.State.{State}
 use Rattle.convey.specs.Conveyors as conveyors
-use Rattle.convey.specs.Conveyors.{standing_toward}
+use Rattle.convey.specs.Conveyors.{open_count_toward}
 use Rattle.exstack.specs.declared.stage.Stage.TheVariants.{Filling}
 use Rattle.exstack.specs.Links.{headroom_of}
 use Rattle.exstack.specs.State.{Stack}
@@ -34,7 +34,7 @@ pub record AfterConveyorPush (cap : ℕ) (old : State) (to : ℕ) (x : Item) (ac
   pub kept : conveyors.KeepsAgreement old c
   pub step : accepted ≡ true → conveyors.IsStepOf (Push to x) old c
   pub idle : accepted ≡ false → conveyors.IsStepOf Idle old c
-  pub full : accepted ≡ false → standing_toward c to ≡ cap
+  pub full : accepted ≡ false → open_count_toward c to ≡ cap
 
 -- An item for a rank may be pushed into an exstack.
 pub record MayFill (x : Stack) (to : ℕ) : Type 0 where

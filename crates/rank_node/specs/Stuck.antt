@@ -10,7 +10,7 @@ use Rattle.convey.specs.Buffers.{buffers_of, out_of, in_of}
 use Rattle.list_laws.specs.Lists.{Ends}
 use Rattle.convey.specs.Conveyors.{AgreesWith}
 use Rattle.convey.specs.Arrived.{HasArrived}
-use Rattle.convey.specs.Due.{Wants, IsOver, NextIs}
+use Rattle.convey.specs.Due.{WantsParcel, IsOver, NextIs}
 
 -- Some link out of a rank is crowded.
 pub record HasCrowded (dims : List ℕ) (rank : ℕ) (is_crowded : ℕ → Bool) : Type 0 where
@@ -44,7 +44,7 @@ pub record IsStill (c c' : State) (sent got sent' got' : Logs) (is_crowded is_id
   pub agrees_after : AgreesWith after sent' got'
   pub lies : (l : ℕ) → l < links c.dims → reader_at c.dims l ≡ c.rank
       → Ends (in_of before l).parcel.untaken (in_of after l).parcel.untaken
-  pub idle : (l : ℕ) → l < links c.dims → reader_at c.dims l ≡ c.rank → Wants before l → is_idle l ≡ true
+  pub idle : (l : ℕ) → l < links c.dims → reader_at c.dims l ≡ c.rank → WantsParcel before l → is_idle l ≡ true
   pub stopped : (l : ℕ) (e : Entry) → l < links c.dims → reader_at c.dims l ≡ c.rank → hop_at c.dims l < length c.dims
       → slice_get (in_of after l).parcel.untaken 0 ≡ Some e
       → NextIs c.dims c.rank l e.tag (λ m. is_crowded m ≡ true)

@@ -2,7 +2,7 @@
 ghost use Rattle.std.specs.Prelude.{◌≡◌};
 ghost use Rattle.rank_node.specs.Sending.{to_send};
 ghost use Rattle.rank_node.specs.Pushes.{MayPushOn};
-ghost use Rattle.rank_node.specs.Pulls.{Handed};
+ghost use Rattle.rank_node.specs.Pulls.{PushesItems};
 
 use crate::departures::OnConveyor;
 use crate::sends::{Sends, send_each};
@@ -18,7 +18,7 @@ pub(crate) fn push_all<Q: Program, const CAP: usize, const HOPS: usize>(
     from: u64,
 ) -> u64
     requires { MayPushOn (to_send Q.rules prog.now.value sends) conveyor.old from }
-    ensures { Handed CAP (to_send Q.rules prog.now.value sends) conveyor.old conveyor.new from result }
+    ensures { PushesItems CAP (to_send Q.rules prog.now.value sends) conveyor.old conveyor.new from result }
 {
     let mut out = OnConveyor { conveyor };
     push_each(prog, sends, &mut out, from)
@@ -32,7 +32,7 @@ fn push_each<Q: Program, const CAP: usize, const HOPS: usize>(
     from: u64,
 ) -> u64
     requires { MayPushOn (to_send Q.rules prog.now.value sends) out.old.conveyor.now from }
-    ensures handed { Handed CAP (to_send Q.rules prog.now.value sends) out.old.conveyor.now out.new.conveyor.now from
+    ensures handed { PushesItems CAP (to_send Q.rules prog.now.value sends) out.old.conveyor.now out.new.conveyor.now from
         result }
     ensures same_conveyor { out.new.conveyor.ghost_name ≡ out.old.conveyor.ghost_name }
 {

@@ -9,7 +9,7 @@ ghost use Rattle.rank_node.specs.Movers.MoverState.{Stacking};
 ghost use Rattle.rank_node.specs.Movers.Manner.{ByExstack};
 ghost use Rattle.port_bank.specs.Logs.{Logs};
 ghost use Rattle.rank_node.specs.Pushes.{MayFillOn};
-ghost use Rattle.rank_node.specs.Pulls.{Pops, Fills};
+ghost use Rattle.rank_node.specs.Pulls.{PopsItems, FillsItems};
 ghost use Rattle.rank_node.specs.Runs.{running};
 ghost use Rattle.rank_node.specs.Sending.{to_send};
 ghost use Rattle.rank_node.specs.Nodes.{IsNode};
@@ -142,7 +142,7 @@ fn push_on<const CAP: usize, Q: Program>(
     from: u64,
 ) -> u64
     requires { MayFillOn (to_send Q.rules prog.now.value sends) exstack.old from }
-    ensures { Fills CAP (to_send Q.rules prog.now.value sends) exstack.old exstack.new from result }
+    ensures { FillsItems CAP (to_send Q.rules prog.now.value sends) exstack.old exstack.new from result }
 {
     let mut out = OnExstack { exstack };
     push_each(prog, sends, &mut out, from)
@@ -156,7 +156,7 @@ fn push_each<const CAP: usize, Q: Program>(
     from: u64,
 ) -> u64
     requires { MayFillOn (to_send Q.rules prog.now.value sends) out.old.exstack.now from }
-    ensures fills { Fills CAP (to_send Q.rules prog.now.value sends) out.old.exstack.now out.new.exstack.now from
+    ensures fills { FillsItems CAP (to_send Q.rules prog.now.value sends) out.old.exstack.now out.new.exstack.now from
         result }
     ensures same_exstack { out.new.exstack.ghost_name ≡ out.old.exstack.ghost_name }
 {
@@ -170,7 +170,7 @@ fn pop_all<const CAP: usize, Q: Program>(
     voting: bool,
     taken: Taken,
 ) -> Taken
-    ensures pops { Pops Q.rules voting exstack.old exstack.new prog.old.value prog.new.value taken.sum result.sum
+    ensures pops { PopsItems Q.rules voting exstack.old exstack.new prog.old.value prog.new.value taken.sum result.sum
         taken.spoiled result.spoiled }
     ensures read { stack_unread exstack.new ≡ 0 }
 {
@@ -190,7 +190,7 @@ fn pop_batch<const CAP: usize, Q: Program>(
     taken: Taken,
 ) -> Taken
     requires lowest { lowest_unread_sender exstack.old ≡ Some sender }
-    ensures pops { Pops Q.rules voting exstack.old exstack.new prog.old.value prog.new.value taken.sum result.sum
+    ensures pops { PopsItems Q.rules voting exstack.old exstack.new prog.old.value prog.new.value taken.sum result.sum
         taken.spoiled result.spoiled }
     ensures less { stack_unread exstack.new < stack_unread exstack.old }
 {

@@ -4,8 +4,8 @@ ghost use Rattle.hop_core.specs.Relay.{waiting};
 ghost use Rattle.hop_core.specs.State.{lowest_unread, pulls};
 ghost use Rattle.convey.specs.Conveyors.{GivesNext};
 ghost use Rattle.rank_node.specs.Movers.{AllRead};
-ghost use Rattle.rank_node.specs.Pulls.{Takes};
-ghost use Rattle.rank_node.specs.Batches.{sum_after, came_on, TakesEach};
+ghost use Rattle.rank_node.specs.Pulls.{PullsItems};
+ghost use Rattle.rank_node.specs.Batches.{sum_after, unread_items_on, TakesEach};
 ghost use Rattle.bale_items.specs.declared.item.Item.{Item};
 
 use crate::arrivals::{FromLink, FromSender};
@@ -38,7 +38,7 @@ pub(crate) fn take_all<Q: Program, const CAP: usize, const HOPS: usize>(
     taken: Taken,
 ) -> Taken
     requires begun { conveyor.old.phase ≢ Phase.Dormant }
-    ensures takes { Takes Q.rules voting conveyor.old conveyor.new prog.old.value prog.new.value taken.sum result.sum
+    ensures takes { PullsItems Q.rules voting conveyor.old conveyor.new prog.old.value prog.new.value taken.sum result.sum
         taken.spoiled result.spoiled }
     ensures read { AllRead conveyor.new }
 {
@@ -59,7 +59,7 @@ fn take_batch<Q: Program, const CAP: usize, const HOPS: usize>(
 ) -> Taken
     requires begun { conveyor.old.phase ≢ Phase.Dormant }
     requires lowest { lowest_unread conveyor.old ≡ Some number }
-    ensures takes { Takes Q.rules voting conveyor.old conveyor.new prog.old.value prog.new.value taken.sum result.sum
+    ensures takes { PullsItems Q.rules voting conveyor.old conveyor.new prog.old.value prog.new.value taken.sum result.sum
         taken.spoiled result.spoiled }
     ensures less { waiting conveyor.new.ins < waiting conveyor.old.ins }
 {
@@ -79,9 +79,9 @@ fn take_unread<Q: Program, const CAP: usize, const HOPS: usize>(
 ) -> Taken
     requires lowest { lowest_unread conveyor.now ≡ Some number }
     ensures takes { TakesEach Q.rules voting prog.old.value prog.new.value
-        (came_on conveyor.now number) taken.sum result.sum taken.spoiled result.spoiled }
-    ensures some { 0 < length (came_on conveyor.now number) }
-    ensures gives { (i : ℕ) (e : ℕ × Item) → slice_get (came_on conveyor.now number) i ≡ Some e
+        (unread_items_on conveyor.now number) taken.sum result.sum taken.spoiled result.spoiled }
+    ensures some { 0 < length (unread_items_on conveyor.now number) }
+    ensures gives { (i : ℕ) (e : ℕ × Item) → slice_get (unread_items_on conveyor.now number) i ≡ Some e
         → GivesNext (pulls i conveyor.now) e.0 e.1 }
 {
     let routes = conveyor.routes();

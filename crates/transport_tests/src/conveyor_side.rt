@@ -3,7 +3,7 @@ ghost use Rattle.std.specs.Prelude.{◌≡◌};
 ghost use Rattle.item_buffer.specs.Capacity.{IsCap};
 ghost use Rattle.route_tensor.specs.Grid.{ranks};
 ghost use Rattle.convey.specs.Advance.{IsAtPort, KeepsPort};
-ghost use Rattle.convey.specs.Conveyors.{StartsOut, StaysWithRank};
+ghost use Rattle.convey.specs.Conveyors.{IsUnusedConveyor, StaysWithRank};
 
 use bale_items::{Item, NoMemory};
 use convey::{Conveyor, Phase, Progress, Pushed};
@@ -59,7 +59,7 @@ impl<const CAP: usize, const HOPS: usize> Side<CAP, HOPS> {
         requires cap { IsCap CAP }
         requires hops { length grid.now ≡ HOPS }
         requires rank { rank < ranks grid.now }
-        ensures starts { IfOk result (λ s. StartsOut grid.now rank s.conveyor) }
+        ensures starts { IfOk result (λ s. IsUnusedConveyor grid.now rank s.conveyor) }
     {
         let conveyor = Conveyor::new(alloc, grid, rank, steady)?;
         conveyor.known();

@@ -3,7 +3,7 @@ ghost use Rattle.std.specs.Prelude.{◌≡◌};
 ghost use Rattle.item_buffer.specs.Contents.{Contents};
 ghost use Rattle.atomic_table.specs.Table.{State};
 ghost use Rattle.link_slots.specs.Shape.{Shape};
-ghost use Rattle.link_slots.specs.WordSteps.{Knowing, IsLawful};
+ghost use Rattle.link_slots.specs.WordSteps.{TableView, IsLawful};
 ghost use Rattle.link_slots.specs.ClosedBank.{LiveLaw};
 ghost use Rattle.link_slots.specs.Offered.{BellLaw, HeardLaw, HearLaw};
 ghost use Rattle.link_slots.specs.Room.{NoRoomLaw, LookLaw};
@@ -21,7 +21,7 @@ impl<const CAP: usize> SlotBank<CAP> {
     pub fn table(&self) -> &Shared<Slot<CAP>, Knows, Plan, Links<CAP>>
         ensures id { result.now.table_id ≡ self.now.id }
         ensures shape { result.now.key ≡ self.now.shape }
-        ensures lawful { (s : State Contents Knowing)
+        ensures lawful { (s : State Contents TableView)
             → ⟦<Links<CAP> as TableRule<Slot<CAP>, Knows, Plan>>⟧.holds result.now.key s
             → IsLawful CAP self.now.shape s }
     {
@@ -34,7 +34,7 @@ impl<const CAP: usize> SlotBank<CAP> {
 /// keeps (`SlotBank::table`), `Links`, says so in all six parts. This call tells it, and does
 /// nothing else.
 pub fn rule_law<const CAP: usize>()
-    ensures { (shape : Shape) (s : State Contents Knowing)
+    ensures { (shape : Shape) (s : State Contents TableView)
         → ⟦<Links<CAP> as TableRule<Slot<CAP>, Knows, Plan>>⟧.holds shape s → IsLawful CAP shape s }
 {}
 

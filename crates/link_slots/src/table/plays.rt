@@ -1,7 +1,7 @@
 //! What each kind of step tells the seat that makes it.
 ghost use Rattle.link_slots.specs.WordSteps.{room_told, post_told, look_told, release_told, spare_told, parcel_told, ring_look_told, ring_told, hear_look_told, hear_told, pick_told};
 ghost use Rattle.link_slots.specs.View.{without_pick, pick_alone, emptied, gathered, spent};
-ghost use Rattle.link_slots.specs.Shape.{nowhere};
+ghost use Rattle.link_slots.specs.Shape.{no_shape};
 
 use crate::table::slot::Slot;
 use crate::table::view::Knows;
@@ -102,5 +102,5 @@ pub(crate) struct Gather;
 impl Join<Knows> for Gather {
     ghost both = { gathered };
 
-    ghost spent = { spent nowhere };
+    ghost spent = { spent no_shape };
 }

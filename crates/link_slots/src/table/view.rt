@@ -8,10 +8,10 @@ pub struct Knows {
 
 impl Model for Knows {
     ghost use Rattle.item_buffer.specs.Contents.{Contents};
-    ghost use Rattle.link_slots.specs.Shape.{Shape, nowhere};
+    ghost use Rattle.link_slots.specs.Shape.{Shape, no_shape};
     ghost use Rattle.link_slots.specs.View.{View, spent};
 
     ghost Value = { View Shape Contents };
 
-    ghost view = { λ _. spent nowhere };
+    ghost view = { λ _. spent no_shape };
 }

@@ -14,7 +14,7 @@ use Rattle.biconvey.specs.Turns.{AskingScene, IsAskingTurn}
 use Rattle.biconvey.specs.RanksOverBanks.{sides_of}
 use Rattle.biconvey.specs.Drives.{askers_of}
 use Rattle.biconvey.specs.DrivePromises.{HasExchanged, HasSweptBoth}
-use Rattle.biconvey.proofs.Ended.{first, banks_first, world_first, begins, steps_at, fewest_at, world_last, banks_last, have_heard, notified}
+use Rattle.biconvey.proofs.Ended.{first, banks_first, on_bank_first, begins, steps_at, fewest_at, on_bank_last, banks_last, have_heard, notified}
 use Rattle.biconvey.proofs.drive.drive_both.Goals as goal
 
 pub run_all-requires : goal.run_all-requires
@@ -26,7 +26,7 @@ run_all-requires g c = (
       subst (λ (b : Bank). IsOrder (ranks b.dims) c.args.order.now) (sym c.in_ok-banks.ensures.queries) c.requires.order,
       (
         banks_first g.A.Asker.talk g.row.CAP c.args.grid.now c.args.slots c.args.steady c.args.askers c.in_ok-all.all.items c.in_ok-banks.banks.queries c.in_ok-banks.banks.replies c.in_ok-all.ensures c.requires.askers c.requires.fits.cap_is.some c.in_ok-banks.ensures.queries c.in_ok-banks.ensures.replies c.in_ok-banks.ensures.lawful,
-        (c.args.steady, begins g.A.Asker.talk g.row.CAP c.args.grid.now c.args.slots c.args.steady c.args.askers c.in_ok-all.all.items c.in_ok-banks.banks.queries c.in_ok-banks.banks.replies c.in_ok-all.ensures c.requires.askers c.requires.fits.cap_is.some c.in_ok-banks.ensures.queries c.in_ok-banks.ensures.replies c.in_ok-banks.ensures.lawful, world_first g.A.Asker.talk g.row.CAP c.args.grid.now c.args.slots c.args.steady c.args.askers c.in_ok-all.all.items c.in_ok-banks.banks.queries c.in_ok-banks.banks.replies c.in_ok-all.ensures c.requires.askers c.requires.fits.cap_is.some c.in_ok-banks.ensures.queries c.in_ok-banks.ensures.replies c.in_ok-banks.ensures.lawful),
+        (c.args.steady, begins g.A.Asker.talk g.row.CAP c.args.grid.now c.args.slots c.args.steady c.args.askers c.in_ok-all.all.items c.in_ok-banks.banks.queries c.in_ok-banks.banks.replies c.in_ok-all.ensures c.requires.askers c.requires.fits.cap_is.some c.in_ok-banks.ensures.queries c.in_ok-banks.ensures.replies c.in_ok-banks.ensures.lawful, on_bank_first g.A.Asker.talk g.row.CAP c.args.grid.now c.args.slots c.args.steady c.args.askers c.in_ok-all.all.items c.in_ok-banks.banks.queries c.in_ok-banks.banks.replies c.in_ok-all.ensures c.requires.askers c.requires.fits.cap_is.some c.in_ok-banks.ensures.queries c.in_ok-banks.ensures.replies c.in_ok-banks.ensures.lawful),
       ),
     ),
   ),
@@ -43,7 +43,7 @@ returns-clause-exchanged g c =
     let T = g.A.Asker.talk in
     let ns = c.run_all.new.all.items in
     let b = c.in_ok-banks-2.banks in
-    let w = world_last g.A.Asker.talk g.row.CAP c.args.grid.now c.args.slots c.args.steady c.args.askers c.in_ok-all.all.items c.in_ok-banks.banks.queries c.in_ok-banks.banks.replies c.in_ok-all.ensures c.requires.askers c.requires.fits.cap_is.some c.in_ok-banks.ensures.queries c.in_ok-banks.ensures.replies c.in_ok-banks.ensures.lawful ns b.queries b.replies c.in_ok-banks-2.ensures.world in
+    let w = on_bank_last g.A.Asker.talk g.row.CAP c.args.grid.now c.args.slots c.args.steady c.args.askers c.in_ok-all.all.items c.in_ok-banks.banks.queries c.in_ok-banks.banks.replies c.in_ok-all.ensures c.requires.askers c.requires.fits.cap_is.some c.in_ok-banks.ensures.queries c.in_ok-banks.ensures.replies c.in_ok-banks.ensures.lawful ns b.queries b.replies c.in_ok-banks-2.ensures.on_bank in
     let banks = banks_last g.A.Asker.talk g.row.CAP c.args.grid.now c.args.slots c.args.steady c.args.askers c.in_ok-all.all.items c.in_ok-banks.banks.queries c.in_ok-banks.banks.replies c.in_ok-all.ensures c.requires.askers c.requires.fits.cap_is.some c.in_ok-banks.ensures.queries c.in_ok-banks.ensures.replies c.in_ok-banks.ensures.lawful b.queries b.replies c.in_ok-banks-2.ensures.banks in
     if_ok_from (HasExchanged T c.args.askers (record { dims = c.args.grid.now; cap = g.row.CAP; slots = c.args.slots; by_slots = false }) c.args.steady) c.finish.result
     (λ f e.

@@ -1,6 +1,6 @@
 use Rattle.std.proofs.Common.{◌++◌, ◌∷◌, [], ◌≤◌, length, vec_capacity, ap, ◌∙◌, sym, subst, arith, lit<}
 use Rattle.link_slots.specs.Gathering.{Gathering}
-use Rattle.link_slots.specs.SeatView.{Identity}
+use Rattle.link_slots.specs.SeatView.{BankIdentity}
 use Rattle.biconvey.specs.Seats.{BiSeatedState}
 use Rattle.biconvey.proofs.Placing.{next_numbers, next_banks, leave_left, leaving_more}
 use Rattle.biconvey.proofs.seating.gather_all.Goals as goal
@@ -15,7 +15,7 @@ gather-requires g c =
     let v = c.loop-seated.invariant.leaving in
     let is = c.in-Some.ensures.steps ∙ ap (λ z. z ∷ rest) (sym here) in
     let same = next_banks c.args.queries.now c.args.replies.now c.loop-seated.of_queries c.loop-seated.of_replies c.args.ended.items c.loop-seated.invariant.taken rest c.loop-seated.seated-iterator c.loop-seated.nodes.items v y is c.requires.same in
-    (lit< tt, (lit< tt, (lit< tt, (v.queries.bank, (ap (λ (b : Identity). b.id) same.0, ap (λ (b : Identity). b.shape) same.0)))))
+    (lit< tt, (lit< tt, (lit< tt, (v.queries.bank, (ap (λ (b : BankIdentity). b.id) same.0, ap (λ (b : BankIdentity). b.shape) same.0)))))
 
 pub gather-requires-in-loop-seated : goal.gather-requires-in-loop-seated
 gather-requires-in-loop-seated g c =
@@ -27,7 +27,7 @@ gather-requires-in-loop-seated g c =
     let v = c.loop-seated.invariant.leaving in
     let is = c.in-Some.ensures.steps ∙ ap (λ z. z ∷ rest) (sym here) in
     let same = next_banks c.args.queries.now c.args.replies.now c.loop-seated.of_queries c.loop-seated.of_replies c.args.ended.items c.loop-seated.invariant.taken rest c.loop-seated.seated-iterator c.loop-seated.nodes.items v y is c.requires.same in
-    (lit< tt, (lit< tt, (lit< tt, (v.replies.bank, (ap (λ (b : Identity). b.id) same.1, ap (λ (b : Identity). b.shape) same.1)))))
+    (lit< tt, (lit< tt, (lit< tt, (v.replies.bank, (ap (λ (b : BankIdentity). b.id) same.1, ap (λ (b : BankIdentity). b.shape) same.1)))))
 
 pub push_reserved-requires : goal.push_reserved-requires
 push_reserved-requires g c =

@@ -8,7 +8,7 @@ use Rattle.rank_group.specs.Turns.{InTurn}
 use Rattle.rank_group.proofs.Ordered.{turns_more}
 use Rattle.biconvey.specs.Turns.{AskingScene, IsAskingTurn}
 use Rattle.biconvey.specs.RanksOverBanks.{AfterBiRank, AfterSomeBiTurns, sides_of}
-use Rattle.biconvey.proofs.Swept.{sweeping_more, swept_none, same_turn, same_banks, same_world, order_at}
+use Rattle.biconvey.proofs.Swept.{sweeping_more, swept_none, same_turn, same_banks, same_on_bank, order_at}
 use Rattle.biconvey.proofs.sweep.sweep.Goals as goal
 
 pub loop-i-init : goal.loop-i-init
@@ -27,7 +27,7 @@ loop-i-init g c =
 pub turn_one-requires : goal.turn_one-requires
 turn_one-requires g c =
     let v = c.loop-i.invariant.sweeping in
-    let q = c.requires.world in
+    let q = c.requires.on_bank in
     let d = c.args.banks.queries.dims in
     let k = c.args.banks.queries.slots in
     let low : c.loop-i.i < length c.args.order.now = c.loop-i-test.true in
@@ -42,7 +42,7 @@ turn_one-requires g c =
             (
               q.0,
               q.1,
-              same_world g.A.Asker.talk g.row.CAP c.loop-i.banks.queries.dims d c.loop-i.banks.queries.slots k q.0 q.1 c.loop-i.all.items (sides_of c.loop-i.banks.queries c.loop-i.banks.replies) (sym v.banks.queries_dims) (sym v.banks.queries_slots) (v.swept q.0 q.1 q.2).world,
+              same_on_bank g.A.Asker.talk g.row.CAP c.loop-i.banks.queries.dims d c.loop-i.banks.queries.slots k q.0 q.1 c.loop-i.all.items (sides_of c.loop-i.banks.queries c.loop-i.banks.replies) (sym v.banks.queries_dims) (sym v.banks.queries_slots) (v.swept q.0 q.1 q.2).on_bank,
             ),
           ),
         ),
@@ -60,7 +60,7 @@ loop-i-preserved g c =
     let number = get_or c.args.order.now c.loop-i.i 0 in
     let below = all_get (λ r. r < ranks d) c.args.order.now c.loop-i.i number c.requires.order.below here in
     let b = c.in_ok-banks.banks in
-    let w = (v.swept c.requires.world.0 c.requires.world.1 c.requires.world.2).world in
+    let w = (v.swept c.requires.on_bank.0 c.requires.on_bank.1 c.requires.on_bank.2).on_bank in
     let all = sym (length-map c.loop-i.all.items (λ (n : BiState g.row.A.Denot). n.queries)) ∙ w.queries.all in
     let same : (n n' : BiState g.row.A.Denot) → slice_get c.loop-i.all.items number ≡ Some n → slice_get c.turn_one.new.all.items number ≡ Some n'
     → AfterBiRank T d g.row.CAP k number n n' (sides_of c.loop-i.banks.queries c.loop-i.banks.replies) (sides_of b.queries b.replies) = λ n n' was now. same_turn T g.row.CAP d c.loop-i.banks.queries.dims k c.loop-i.banks.queries.slots number n n' (sides_of c.loop-i.banks.queries c.loop-i.banks.replies) (sides_of b.queries b.replies) v.banks.queries_dims v.banks.queries_slots (c.in_ok-banks.ensures.turned n n' was now) in

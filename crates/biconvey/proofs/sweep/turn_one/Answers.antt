@@ -10,12 +10,12 @@ pub turn_node-requires : goal.turn_node-requires
 turn_node-requires g c =
     let ns = c.args.all.now.items in
     let r = c.args.number in
-    let w = c.requires.world.2 in
+    let w = c.requires.on_bank.2 in
     let n = c.index_mut.result.now in
     let size = sym (length-map ns (λ (x : BiState g.row.A.Denot). x.queries)) ∙ w.queries.all in
     let low : r < length ns = omega (arith, c.requires.number, size) in
     let at : slice_get ns r ≡ Some n = slice_get_read ns (length ns) r n refl low c.index_mut.ensures.value in
-    (search rules, (search rules, (c.requires.number, (c.requires.banks, (c.requires.world.1 r, w.each r n at)))))
+    (search rules, (search rules, (c.requires.number, (c.requires.banks, (c.requires.on_bank.1 r, w.each r n at)))))
 
 pub returns-clause-others : goal.returns-clause-others
 returns-clause-others g c = λ k apart. get_other c.args.all.now.items c.args.number k c.turn_node.new.node apart
@@ -25,7 +25,7 @@ returns-clause-turned g c = λ n n' was now.
     let T = g.A.Asker.talk in
     let ns = c.args.all.now.items in
     let r = c.args.number in
-    let w = c.requires.world.2 in
+    let w = c.requires.on_bank.2 in
     let q = c.args.banks.queries in
     let s = sides_of c.args.banks.queries c.args.banks.replies in
     let size = sym (length-map ns (λ (x : BiState g.row.A.Denot). x.queries)) ∙ w.queries.all in

@@ -8,14 +8,14 @@ use Rattle.rank_group.proofs.Ordered.{sweeps_more}
 use Rattle.biconvey.specs.Turns.{AskingScene, IsAskingTurn}
 use Rattle.biconvey.specs.RanksOverBanks.{is_over, BiRanksOnBanks, AfterSomeBiTurns, sides_of}
 use Rattle.biconvey.proofs.Driven.{each_over, driving_none, steps_low, steps_lower, driving_more, fewer_left}
-use Rattle.biconvey.proofs.Swept.{same_banks, same_world}
+use Rattle.biconvey.proofs.Swept.{same_banks, same_on_bank}
 use Rattle.biconvey.proofs.sweeps.run_all.Goals as goal
 
 pub returns-then-all_over-clause-over : goal.returns-then-all_over-clause-over
 returns-then-all_over-clause-over g c = each_over c.loop-banks.all.items (ap (list_all is_over) (sym c.deref.ensures.value) ∙ (sym c.all_over.ensures ∙ c.if-all_over.true))
 
-pub returns-then-all_over-clause-world : goal.returns-then-all_over-clause-world
-returns-then-all_over-clause-world g c = λ steady starts w. (c.loop-banks.invariant.driving.reached steady starts w).world
+pub returns-then-all_over-clause-on_bank : goal.returns-then-all_over-clause-on_bank
+returns-then-all_over-clause-on_bank g c = λ steady starts w. (c.loop-banks.invariant.driving.reached steady starts w).on_bank
 
 pub returns-then-all_over-clause-steps : goal.returns-then-all_over-clause-steps
 returns-then-all_over-clause-steps g c = λ steady starts w.
@@ -25,7 +25,7 @@ returns-then-all_over-clause-steps g c = λ steady starts w.
 pub sweep-requires : goal.sweep-requires
 sweep-requires g c =
     let v = c.loop-banks.invariant.driving in
-    let w = c.requires.world in
+    let w = c.requires.on_bank in
     let d = c.args.banks.queries.dims in
     let k = c.args.banks.queries.slots in
     let b = c.loop-banks.banks in (
@@ -39,7 +39,7 @@ sweep-requires g c =
             (
               w.0,
               w.1,
-              same_world g.A.Asker.talk g.row.CAP b.queries.dims d b.queries.slots k w.0 w.1 c.loop-banks.all.items (sides_of b.queries b.replies) (sym v.banks.queries_dims) (sym v.banks.queries_slots) (v.reached w.0 w.1 w.2).world,
+              same_on_bank g.A.Asker.talk g.row.CAP b.queries.dims d b.queries.slots k w.0 w.1 c.loop-banks.all.items (sides_of b.queries b.replies) (sym v.banks.queries_dims) (sym v.banks.queries_slots) (v.reached w.0 w.1 w.2).on_bank,
             ),
           ),
         ),
@@ -56,7 +56,7 @@ pub loop-banks-smaller : goal.loop-banks-smaller
 loop-banks-smaller g c =
     let T = g.A.Asker.talk in
     let v = c.loop-banks.invariant.driving in
-    let w = c.requires.world in
+    let w = c.requires.on_bank in
     let d : List ℕ = c.args.banks.queries.dims in
     let k : ℕ = c.args.banks.queries.slots in
     let b = c.loop-banks.banks in

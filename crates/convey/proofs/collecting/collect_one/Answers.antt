@@ -13,7 +13,7 @@ use Rattle.port_bank.proofs.Channels.{changed-here}
 use Rattle.hop_core.specs.Link.{is_wanted}
 use Rattle.hop_core.specs.State.{in_at}
 use Rattle.convey.specs.Buffers.{in_of}
-use Rattle.convey.specs.Due.{Wants}
+use Rattle.convey.specs.Due.{WantsParcel}
 use Rattle.port_bank.specs.Calls.{once_if}
 use Rattle.port_bank.specs.Calls.Call.{Collect}
 use Rattle.convey.specs.AdvanceSteps.{GoesOn}
@@ -36,7 +36,7 @@ returns-in-Got-clause-leaves g c =
     let s = c.known.ensures.standing in
     let below : c.args.link < links st.dims = subst (λ ds. c.args.link < links ds) (sym c.requires.ready.same_dims) c.requires.link in
     let n : c.args.number ≡ in_index st.dims c.args.link = c.requires.number ∙ ap (λ ds. in_index ds c.args.link) (sym c.requires.ready.same_dims) in
-    let wants : Wants st c.args.link = subst (λ i. is_wanted (in_at st i) ≡ true) n (sym c.wants_from.ensures ∙ c.if-not-wants_from.false) in
+    let wants : WantsParcel st c.args.link = subst (λ i. is_wanted (in_at st i) ≡ true) n (sym c.wants_from.ensures ∙ c.if-not-wants_from.false) in
     let q = as_shipped c.collect.new.p in
     let e = c.in-Got.ensures.collects in
     let new = filled st c.take_in.new.self c.args.number c.args.link _ n c.take_in.ensures.state in
@@ -71,7 +71,7 @@ returns-in-Got-clause-inbox g c =
     let s = c.known.ensures.standing in
     let below : c.args.link < links st.dims = subst (λ ds. c.args.link < links ds) (sym c.requires.ready.same_dims) c.requires.link in
     let n : c.args.number ≡ in_index st.dims c.args.link = c.requires.number ∙ ap (λ ds. in_index ds c.args.link) (sym c.requires.ready.same_dims) in
-    let wants : Wants st c.args.link = subst (λ i. is_wanted (in_at st i) ≡ true) n (sym c.wants_from.ensures ∙ c.if-not-wants_from.false) in
+    let wants : WantsParcel st c.args.link = subst (λ i. is_wanted (in_at st i) ≡ true) n (sym c.wants_from.ensures ∙ c.if-not-wants_from.false) in
     let q = as_shipped c.collect.new.p in
     let e = c.in-Got.ensures.collects in
     let new = filled st c.take_in.new.self c.args.number c.args.link _ n c.take_in.ensures.state in
@@ -83,7 +83,7 @@ returns-in-Got-clause-asked g c =
     let s = c.known.ensures.standing in
     let below : c.args.link < links st.dims = subst (λ ds. c.args.link < links ds) (sym c.requires.ready.same_dims) c.requires.link in
     let n : c.args.number ≡ in_index st.dims c.args.link = c.requires.number ∙ ap (λ ds. in_index ds c.args.link) (sym c.requires.ready.same_dims) in
-    let wants : Wants st c.args.link = subst (λ i. is_wanted (in_at st i) ≡ true) n (sym c.wants_from.ensures ∙ c.if-not-wants_from.false) in
+    let wants : WantsParcel st c.args.link = subst (λ i. is_wanted (in_at st i) ≡ true) n (sym c.wants_from.ensures ∙ c.if-not-wants_from.false) in
     let more = ap (λ logs. logs c.args.link) (c.in-Got.ensures.collects.got refl) ∙ added-here (g.P.Port.view c.args.port.now).got c.args.link (as_shipped c.collect.new.p) in
     record {
       left = λ no. absurd (no wants);
@@ -99,7 +99,7 @@ returns-in-Nothing-clause-asked g c =
     let s = c.known.ensures.standing in
     let below : c.args.link < links st.dims = subst (λ ds. c.args.link < links ds) (sym c.requires.ready.same_dims) c.requires.link in
     let n : c.args.number ≡ in_index st.dims c.args.link = c.requires.number ∙ ap (λ ds. in_index ds c.args.link) (sym c.requires.ready.same_dims) in
-    let wants : Wants st c.args.link = subst (λ i. is_wanted (in_at st i) ≡ true) n (sym c.wants_from.ensures ∙ c.if-not-wants_from.false) in
+    let wants : WantsParcel st c.args.link = subst (λ i. is_wanted (in_at st i) ≡ true) n (sym c.wants_from.ensures ∙ c.if-not-wants_from.false) in
     let link : ℕ = c.args.link in
     let e = c.in-Nothing.ensures.collects in
     let noted : (g.P.Port.view c.collect.new.self).noted link ≡ (g.P.Port.view c.collect.new.self).listens link = ap (λ n. n link) e.noted ∙ changed-here (g.P.Port.view c.args.port.now).noted link ((g.P.Port.view c.collect.new.self).listens link) in
@@ -127,7 +127,7 @@ returns-in-Got-clause-lies g c =
     let s = c.known.ensures.standing in
     let below : c.args.link < links st.dims = subst (λ ds. c.args.link < links ds) (sym c.requires.ready.same_dims) c.requires.link in
     let n : c.args.number ≡ in_index st.dims c.args.link = c.requires.number ∙ ap (λ ds. in_index ds c.args.link) (sym c.requires.ready.same_dims) in
-    let wants : Wants st c.args.link = subst (λ i. is_wanted (in_at st i) ≡ true) n (sym c.wants_from.ensures ∙ c.if-not-wants_from.false) in
+    let wants : WantsParcel st c.args.link = subst (λ i. is_wanted (in_at st i) ≡ true) n (sym c.wants_from.ensures ∙ c.if-not-wants_from.false) in
     let q = as_shipped c.collect.new.p in
     let e = c.in-Got.ensures.collects in
     let new = filled st c.take_in.new.self c.args.number c.args.link _ n c.take_in.ensures.state in
@@ -140,7 +140,7 @@ returns-then-not-wants_from-clause-asked g c =
     let s = c.known.ensures.standing in
     let below : c.args.link < links st.dims = subst (λ ds. c.args.link < links ds) (sym c.requires.ready.same_dims) c.requires.link in
     let n : c.args.number ≡ in_index st.dims c.args.link = c.requires.number ∙ ap (λ ds. in_index ds c.args.link) (sym c.requires.ready.same_dims) in
-    let no : Wants st c.args.link → ⊥ = λ w. absurd (false≢true (sym c.if-not-wants_from.true ∙ (c.wants_from.ensures ∙ subst (λ i. is_wanted (in_at st i) ≡ true) (sym n) w))) in
+    let no : WantsParcel st c.args.link → ⊥ = λ w. absurd (false≢true (sym c.if-not-wants_from.true ∙ (c.wants_from.ensures ∙ subst (λ i. is_wanted (in_at st i) ≡ true) (sym n) w))) in
     record {
       left = λ z. refl;
       unasked = λ z. refl;
@@ -175,7 +175,7 @@ returns-in-Got-clause-calls g c =
     let st = c.args.state.now in
     let s = c.known.ensures.standing in
     let n : c.args.number ≡ in_index st.dims c.args.link = c.requires.number ∙ ap (λ ds. in_index ds c.args.link) (sym c.requires.ready.same_dims) in
-    let wants : Wants st c.args.link = subst (λ i. is_wanted (in_at st i) ≡ true) n (sym c.wants_from.ensures ∙ c.if-not-wants_from.false) in
+    let wants : WantsParcel st c.args.link = subst (λ i. is_wanted (in_at st i) ≡ true) n (sym c.wants_from.ensures ∙ c.if-not-wants_from.false) in
     c.collect.ensures.collects.calls ∙ ap (λ b. (g.P.Port.view c.args.port.now).calls ++ once_if b (Collect c.args.link)) (sym wants)
 
 pub returns-in-Got-clause-elsewhere : goal.returns-in-Got-clause-elsewhere
@@ -186,7 +186,7 @@ returns-in-Nothing-clause-calls g c =
     let st = c.args.state.now in
     let s = c.known.ensures.standing in
     let n : c.args.number ≡ in_index st.dims c.args.link = c.requires.number ∙ ap (λ ds. in_index ds c.args.link) (sym c.requires.ready.same_dims) in
-    let wants : Wants st c.args.link = subst (λ i. is_wanted (in_at st i) ≡ true) n (sym c.wants_from.ensures ∙ c.if-not-wants_from.false) in
+    let wants : WantsParcel st c.args.link = subst (λ i. is_wanted (in_at st i) ≡ true) n (sym c.wants_from.ensures ∙ c.if-not-wants_from.false) in
     c.collect.ensures.collects.calls ∙ ap (λ b. (g.P.Port.view c.args.port.now).calls ++ once_if b (Collect c.args.link)) (sym wants)
 
 pub returns-in-Nothing-clause-elsewhere : goal.returns-in-Nothing-clause-elsewhere

@@ -71,7 +71,7 @@ loop-a-preserved g c =
     let y : StackIn = c.collect.new.self in
     let others : (m : ℕ) → m < n → m ≢ a → after (in_number n r m) ≡ mid (in_number n r m) = λ m w ne. in_seen l (g.P.Port.view c.loop-a.port) (g.P.Port.view c.collect.new.port) e.elsewhere (number n m r) (λ q. in_apart n r a m c.requires.port.within ne (q ∙ sym here)) in
     let moved : Collected c.args.exchange x y (mid (number n a r)) (after (number n a r)) = subst (λ m. Collected c.args.exchange x y (mid m) (after m)) (sym here) e.moved in
-    let vain : Asked x y (mid (number n a r)) (after (number n a r)) = subst (λ m. Asked x y (mid m) (after m)) (sym here) e.in_vain in
+    let vain : Asked x y (mid (number n a r)) (after (number n a r)) = subst (λ m. Asked x y (mid m) (after m)) (sym here) e.still_stuck in
     let self : ℕ = number n r r in
     let starts : a ≡ r → sender_at (g.P.Port.view c.loop-a.port).dims l ≡ (g.P.Port.view c.loop-a.port).rank = λ same.
     ap (λ ds. sender_at ds l) dims ∙ (ap (sender_at (n ∷ [])) (sym here) ∙ (number_sender n a r within c.requires.port.within c.requires.port.few ∙ (same ∙ (sym c.requires.port.rank ∙ sym k.left.same_port.rank)))) in
@@ -105,8 +105,8 @@ loop-a-preserved g c =
 pub returns-clause-moved : goal.returns-clause-moved
 returns-clause-moved g c = sweep_each (Collected c.args.exchange) no_stack_in _ _ _ _ _ _ (none_collected c.args.exchange) c.loop-a.invariant.collected
 
-pub returns-clause-in_vain : goal.returns-clause-in_vain
-returns-clause-in_vain g c = λ a w.
+pub returns-clause-still_stuck : goal.returns-clause-still_stuck
+returns-clause-still_stuck g c = λ a w.
     c.loop-a.invariant.asked.done a (omega (arith, w, c.loop-a-test.false, c.len-a-end.ensures, c.args.ins.now.ok)) w
 
 pub returns-clause-calls : goal.returns-clause-calls

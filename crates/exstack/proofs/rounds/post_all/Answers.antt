@@ -78,7 +78,7 @@ loop-b-preserved g c =
     let y : StackOut = c.post.new.self in
     let others : (m : ℕ) → m < n → m ≢ b → after (number n r m) ≡ mid (number n r m) = λ m w ne. out_seen l (g.P.Port.view c.loop-b.port) (g.P.Port.view c.post.new.port) e.elsewhere (number n r m) (λ q. out_apart n r b m ne (q ∙ sym here)) in
     let moved : Posted c.args.last c.args.epoch x y (mid (number n r b)) (after (number n r b)) = subst (λ m. Posted c.args.last c.args.epoch x y (mid m) (after m)) (sym here) e.moved in
-    let vain : Served x y (mid (number n r b)) (after (number n r b)) = subst (λ m. Served x y (mid m) (after m)) (sym here) (e.in_vain (search rules)) in
+    let vain : Served x y (mid (number n r b)) (after (number n r b)) = subst (λ m. Served x y (mid m) (after m)) (sym here) (e.still_stuck (search rules)) in
     record {
       posted = sweep_more (Posted c.args.last c.args.epoch) no_stack_out (number n r) b xs c.loop-b.outs.items before mid after x y within k.posted c.index_mut.ensures.value moved others;
       served = sweep_more Served no_stack_out (number n r) b xs c.loop-b.outs.items before mid after x y within k.served c.index_mut.ensures.value vain others;
@@ -118,8 +118,8 @@ returns-in_err-post-clause-moved g c =
 pub returns-clause-moved : goal.returns-clause-moved
 returns-clause-moved g c = sweep_each (Posted c.args.last c.args.epoch) no_stack_out _ _ _ _ _ _ (none_posted c.args.last c.args.epoch) c.loop-b.invariant.posted
 
-pub returns-clause-in_vain : goal.returns-clause-in_vain
-returns-clause-in_vain g c = λ ok b w.
+pub returns-clause-still_stuck : goal.returns-clause-still_stuck
+returns-clause-still_stuck g c = λ ok b w.
     c.loop-b.invariant.served.done b (omega (arith, w, c.loop-b-test.false, c.len-b-end.ensures, c.args.outs.now.ok)) w
 
 pub returns-clause-calls : goal.returns-clause-calls

@@ -2,7 +2,7 @@ use Rattle.std.proofs.Common.{rules, ◌≡◌, ℕ, ◌<◌, slice_get, sym, ap
 use Rattle.bale_items.specs.declared.item.Item.{Item}
 use Rattle.route_tensor.specs.Grid.{ranks}
 use Rattle.convey.specs.Buffers.{buffers_of}
-use Rattle.convey.specs.Conveyors.{standing_toward}
+use Rattle.convey.specs.Conveyors.{open_count_toward}
 use Rattle.convey.specs.Parts.{part_of}
 use Rattle.list_laws.proofs.Lists.{all_get, get_once}
 use Rattle.round_program.specs.Replies.{carrying, asks_of}
@@ -33,4 +33,4 @@ returns-clause-full g c = λ r to x is.
     let same = get_once (asks_of T c.args.asker.now.value) c.args.next (q.0, carrying q.1) (to, x) at is in
     let low = all_get (λ (e : ℕ × Item). e.0 < ranks c.args.conveyor.now.dims) (asks_of T c.args.asker.now.value) c.args.next (to, x) c.requires.receivers is in
     full_at g.row.CAP c.args.conveyor.now c.push.new.self to (c.push.ensures.unchanged r) low
-    (subst (λ (e : ℕ × Item). standing_toward c.args.conveyor.now e.0 ≡ g.row.CAP) same (c.push.ensures.full r))
+    (subst (λ (e : ℕ × Item). open_count_toward c.args.conveyor.now e.0 ≡ g.row.CAP) same (c.push.ensures.full r))

@@ -51,7 +51,7 @@ returns-clause-steps g c =
 pub returns-clause-finished : goal.returns-clause-finished
 returns-clause-finished g c =
     let w = world_after g.Q.Program.rules g.met.Q.Program.laws g.row.CAP c.args.grid.now c.args.slots (manner_of c.args.via c.args.steady) c.args.progs c.requires.run.begins.0 c.requires.run.begins.1 c.requires.run.begins.2 c.requires.run.begins.3 c.in_ok-all.all.items c.in_ok-all.ensures.fresh c.requires.fits.cap_is.some
-    c.in_ok-bank.bank c.in_ok-bank.ensures.made c.in_ok-bank.ensures.lawful c.run_all.new.all.items c.in_ok-bank-2.bank c.in_ok-bank-2.ensures.world in
+    c.in_ok-bank.bank c.in_ok-bank.ensures.made c.in_ok-bank.ensures.lawful c.run_all.new.all.items c.in_ok-bank-2.bank c.in_ok-bank-2.ensures.on_bank in
     let ed = c.in_ok-bank-2.ensures.bank.same_dims ∙ ap (λ (b : Bank). b.dims) c.in_ok-bank.ensures.made in
     let es = c.in_ok-bank-2.ensures.bank.same_slots ∙ ap (λ (b : Bank). b.slots) c.in_ok-bank.ensures.made in
     record {
@@ -71,7 +71,7 @@ returns-clause-swept g c =
     let last : Scene g.row.Q.Denot = record { ranks = c.run_all.new.all.items; sent = sent_of c.in_ok-bank-2.bank; got = got_of c.in_ok-bank-2.bank; turns = c.run_all.new.steps } in
     let made = c.in_ok-bank.ensures.made in
     let w = world_after g.Q.Program.rules g.met.Q.Program.laws g.row.CAP c.args.grid.now c.args.slots (manner_of c.args.via c.args.steady) c.args.progs c.requires.run.begins.0 c.requires.run.begins.1 c.requires.run.begins.2 c.requires.run.begins.3 first c.in_ok-all.ensures.fresh c.requires.fits.cap_is.some
-    c.in_ok-bank.bank made c.in_ok-bank.ensures.lawful c.run_all.new.all.items c.in_ok-bank-2.bank c.in_ok-bank-2.ensures.world in
+    c.in_ok-bank.bank made c.in_ok-bank.ensures.lawful c.run_all.new.all.items c.in_ok-bank-2.bank c.in_ok-bank-2.ensures.on_bank in
     let ed = c.in_ok-bank-2.ensures.bank.same_dims ∙ ap (λ (b : Bank). b.dims) made in
     let es = c.in_ok-bank-2.ensures.bank.same_slots ∙ ap (λ (b : Bank). b.slots) made in
     let more = subst (λ (b : Bank). all_progress b.dims c.run_all.new.all.items + c.args.steps.now ≤ all_progress b.dims first + c.run_all.new.steps) made c.in_ok-bank-2.ensures.fewest in

@@ -1,6 +1,6 @@
 use Rattle.std.proofs.Common.{◌++◌, ◌∷◌, [], ◌≤◌, length, vec_capacity, ap, ◌∙◌, sym, subst, arith, lit<}
 use Rattle.link_slots.specs.Gathering.{Gathering}
-use Rattle.link_slots.specs.SeatView.{Identity}
+use Rattle.link_slots.specs.SeatView.{BankIdentity}
 use Rattle.rank_group.specs.Seats.{SeatedState}
 use Rattle.rank_group.proofs.Places.{next_number, next_bank, leave_left, leaving_more}
 use Rattle.rank_group.proofs.seating.gather_all.Goals as goal
@@ -14,7 +14,7 @@ gather-requires g c =
     let v = c.loop-seated.invariant.leaving in
     let is = c.in-Some.ensures.steps ∙ ap (λ z. z ∷ rest) (sym here) in
     let same = next_bank c.args.bank.now c.loop-seated.gather c.args.ended.items c.loop-seated.invariant.taken rest c.loop-seated.seated-iterator c.loop-seated.ranks.items v y is c.requires.same in
-    (lit< tt, (lit< tt, (lit< tt, (v.bank, (ap (λ (b : Identity). b.id) same, ap (λ (b : Identity). b.shape) same)))))
+    (lit< tt, (lit< tt, (lit< tt, (v.bank, (ap (λ (b : BankIdentity). b.id) same, ap (λ (b : BankIdentity). b.shape) same)))))
 
 pub push_reserved-requires : goal.push_reserved-requires
 push_reserved-requires g c =

@@ -8,7 +8,7 @@ use Rattle.rank_group.specs.Ranks.{RankState}
 use Rattle.rank_group.specs.Turns.{Scene, IsTurnOf, TurnsOf}
 use Rattle.rank_group.specs.RanksOverBank.{AfterSomeTurns}
 use Rattle.rank_group.proofs.Ordered.{turns_more}
-use Rattle.rank_group.proofs.Orders.{NoneTurned, sweeping_more, some_turn, swept_none, world_at, order_at}
+use Rattle.rank_group.proofs.Orders.{NoneTurned, sweeping_more, some_turn, swept_none, on_bank_at, order_at}
 use Rattle.rank_group.proofs.sweep.sweep.Goals as goal
 
 pub loop-i-init : goal.loop-i-init
@@ -35,7 +35,7 @@ loop-i-init g c =
 pub turn_one-requires : goal.turn_one-requires
 turn_one-requires g c =
     let v = c.loop-i.invariant.sweeping in
-    let q = c.requires.world in
+    let q = c.requires.on_bank in
     let low : c.loop-i.i < length c.args.order.now = c.loop-i-test.true in
     let number = all_get (λ r. r < ranks c.args.bank.dims) c.args.order.now c.loop-i.i (get_or c.args.order.now c.loop-i.i 0) c.requires.order.below (order_at c.args.order.now c.loop-i.i low) in (
       search rules,
@@ -45,7 +45,7 @@ turn_one-requires g c =
           subst (λ d. get_or c.args.order.now c.loop-i.i 0 < ranks d) (sym v.same_dims) number,
           (
             c.requires.law,
-            world_at g.Q.Program.rules g.row.CAP c.args.order.now c.args.all.now.items c.args.bank c.args.steps.now c.loop-i.i c.loop-i.all.items c.loop-i.bank c.loop-i.steps v q.0 q.1 q.2 q.3 q.4 q.5,
+            on_bank_at g.Q.Program.rules g.row.CAP c.args.order.now c.args.all.now.items c.args.bank c.args.steps.now c.loop-i.i c.loop-i.all.items c.loop-i.bank c.loop-i.steps v q.0 q.1 q.2 q.3 q.4 q.5,
           ),
         ),
       ),
@@ -57,7 +57,7 @@ loop-i-preserved g c =
     let low : c.loop-i.i < length c.args.order.now = c.loop-i-test.true in
     let at = order_at c.args.order.now c.loop-i.i low in
     let number = all_get (λ r. r < ranks c.args.bank.dims) c.args.order.now c.loop-i.i (get_or c.args.order.now c.loop-i.i 0) c.requires.order.below at in
-    let w = (world_at g.Q.Program.rules g.row.CAP c.args.order.now c.args.all.now.items c.args.bank c.args.steps.now c.loop-i.i c.loop-i.all.items c.loop-i.bank c.loop-i.steps v c.requires.world.0 c.requires.world.1 c.requires.world.2 c.requires.world.3 c.requires.world.4 c.requires.world.5).5 in
+    let w = (on_bank_at g.Q.Program.rules g.row.CAP c.args.order.now c.args.all.now.items c.args.bank c.args.steps.now c.loop-i.i c.loop-i.all.items c.loop-i.bank c.loop-i.steps v c.requires.on_bank.0 c.requires.on_bank.1 c.requires.on_bank.2 c.requires.on_bank.3 c.requires.on_bank.4 c.requires.on_bank.5).5 in
     let sweeping = sweeping_more g.Q.Program.rules g.met.Q.Program.laws c.requires.law g.row.CAP c.args.order.now c.args.all.now.items c.args.bank c.args.steps.now c.loop-i.i (get_or c.args.order.now c.loop-i.i 0) c.loop-i.all.items c.turn_one.new.all.items c.loop-i.bank c.in_ok-bank.bank c.loop-i.steps c.turn_one.new.steps
     v at (subst (λ d. get_or c.args.order.now c.loop-i.i 0 < ranks d) (sym v.same_dims) number) c.in_ok-bank.ensures.bank.lawful c.in_ok-bank.ensures.bank.same_dims c.in_ok-bank.ensures.bank.same_slots c.turn_one.ensures.most_steps
     c.turn_one.ensures.fewest_steps (λ n was on. c.in_ok-bank.ensures.steps n was ∙ ap (λ b. c.loop-i.steps + cond b 0 1) on) w.ranked.all c.turn_one.ensures.size c.turn_one.ensures.others c.in_ok-bank.ensures.turned in
@@ -85,7 +85,7 @@ pub returns-clause-some_step : goal.returns-clause-some_step
 returns-clause-some_step g c = λ r x at on.
     let v = c.loop-i.invariant.sweeping in
     let end : c.loop-i.i ≡ length c.args.order.now = omega (arith, c.loop-i-test.false, c.loop-i.auto.i-end) in
-    some_turn (ranks c.args.bank.dims) c.args.order.now c.args.all.now.items c.loop-i.all.items c.args.steps.now c.loop-i.steps c.requires.order c.requires.world.5.ranked.all v.size
+    some_turn (ranks c.args.bank.dims) c.args.order.now c.args.all.now.items c.loop-i.all.items c.args.steps.now c.loop-i.steps c.requires.order c.requires.on_bank.5.ranked.all v.size
     (subst (λ i. (c.args.steps.now < c.loop-i.steps) ⊎ NoneTurned c.args.order.now i c.args.all.now.items c.loop-i.all.items) end v.turns) r x at on
 
 pub returns-clause-order : goal.returns-clause-order

@@ -13,13 +13,13 @@ turn_rank-requires g c =
     let R = g.Q.Program.rules in
     let rs = c.args.all.now.items in
     let r = c.args.number in
-    let w = c.requires.world.5 in
+    let w = c.requires.on_bank.5 in
     let n = c.index_mut.result.now in
     let low : r < length rs = omega (arith, c.requires.number, w.ranked.all) in
     let at : slice_get rs r ≡ Some n = slice_get_read rs (length rs) r n refl low c.index_mut.ensures.value in
     let has = w.ranked.each r n at in
-    let few = epoch_few R g.met.Q.Program.laws c.requires.law c.args.bank.dims g.row.CAP c.args.bank.slots c.requires.world.0 c.requires.world.1 c.requires.world.3 rs (sent_of c.args.bank) (got_of c.args.bank) w c.requires.world.2 c.requires.world.4 r n at in
-    (search rules, (search rules, (c.requires.number, (few, (c.requires.world.0, c.requires.world.3 r, has)))))
+    let few = epoch_few R g.met.Q.Program.laws c.requires.law c.args.bank.dims g.row.CAP c.args.bank.slots c.requires.on_bank.0 c.requires.on_bank.1 c.requires.on_bank.3 rs (sent_of c.args.bank) (got_of c.args.bank) w c.requires.on_bank.2 c.requires.on_bank.4 r n at in
+    (search rules, (search rules, (c.requires.number, (few, (c.requires.on_bank.0, c.requires.on_bank.3 r, has)))))
 
 pub returns-clause-others : goal.returns-clause-others
 returns-clause-others g c = λ k apart. get_other c.args.all.now.items c.args.number k c.turn_rank.new.rank apart
@@ -28,7 +28,7 @@ pub returns-clause-steps : goal.returns-clause-steps
 returns-clause-steps g c = λ n was.
     let rs = c.args.all.now.items in
     let r = c.args.number in
-    let w = c.requires.world.5 in
+    let w = c.requires.on_bank.5 in
     let low : r < length rs = omega (arith, c.requires.number, w.ranked.all) in
     let at : slice_get rs r ≡ Some c.index_mut.result.now = slice_get_read rs (length rs) r c.index_mut.result.now refl low c.index_mut.ensures.value in
     let same : c.index_mut.result.now ≡ n = get_once rs r c.index_mut.result.now n at was in
@@ -38,7 +38,7 @@ pub returns-clause-turned : goal.returns-clause-turned
 returns-clause-turned g c = λ n n' was now.
     let rs = c.args.all.now.items in
     let r = c.args.number in
-    let w = c.requires.world.5 in
+    let w = c.requires.on_bank.5 in
     let low : r < length rs = omega (arith, c.requires.number, w.ranked.all) in
     let at : slice_get rs r ≡ Some c.index_mut.result.now = slice_get_read rs (length rs) r c.index_mut.result.now refl low c.index_mut.ensures.value in
     let same : c.index_mut.result.now ≡ n = get_once rs r c.index_mut.result.now n at was in

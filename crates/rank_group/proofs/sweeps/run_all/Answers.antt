@@ -17,8 +17,8 @@ loop-bank-init g c = record { completed = omega arith; posted = λ l below. omeg
 pub returns-then-all_over-clause-over : goal.returns-then-all_over-clause-over
 returns-then-all_over-clause-over g c = each_over c.loop-bank.all.items (ap (list_all (λ (n : RankState g.row.Q.Denot). n.over)) (sym c.deref.ensures.value) ∙ (sym c.all_over.ensures ∙ c.if-all_over.true))
 
-pub returns-then-all_over-clause-world : goal.returns-then-all_over-clause-world
-returns-then-all_over-clause-world g c = λ manner starts n h p w. let r = c.loop-bank.invariant.driving.reached manner starts n h p w in (r.h, r.world)
+pub returns-then-all_over-clause-on_bank : goal.returns-then-all_over-clause-on_bank
+returns-then-all_over-clause-on_bank g c = λ manner starts n h p w. let r = c.loop-bank.invariant.driving.reached manner starts n h p w in (r.h, r.on_bank)
 
 pub returns-then-all_over-clause-steps : goal.returns-then-all_over-clause-steps
 returns-then-all_over-clause-steps g c = λ manner starts n h p w.
@@ -28,7 +28,7 @@ returns-then-all_over-clause-steps g c = λ manner starts n h p w.
 pub sweep-requires : goal.sweep-requires
 sweep-requires g c =
     let v = c.loop-bank.invariant.driving in
-    let q = c.requires.world in (
+    let q = c.requires.on_bank in (
       search rules,
       (
         search rules,
@@ -55,7 +55,7 @@ returns-in_err-bank-clause-steps g c = λ manner starts n h p w.
 pub loop-bank-smaller : goal.loop-bank-smaller
 loop-bank-smaller g c =
     let on = some_goes c.loop-bank.all.items (ap (list_all (λ (n : RankState g.row.Q.Denot). n.over)) (sym c.deref.ensures.value) ∙ (sym c.all_over.ensures ∙ c.if-all_over.false)) in
-    let q = c.requires.world in
+    let q = c.requires.on_bank in
     fewer_left g.Q.Program.rules g.row.CAP c.args.all.now.items c.args.bank c.args.steps.now c.loop-bank.all.items c.loop-bank.bank c.loop-bank.steps c.loop-bank.invariant.driving g.met.Q.Program.laws c.closes_laws.ensures c.rest_law.ensures c.args.order.now c.requires.order on
     c.sweep.new.all.items c.in_ok-bank.bank c.sweep.new.steps c.in_ok-bank.ensures.bank.lawful c.in_ok-bank.ensures.bank.same_dims c.in_ok-bank.ensures.bank.same_slots c.sweep.ensures.most_steps c.in_ok-bank.ensures.swept (c.in_ok-bank.ensures.some_step on.rank on.state on.at on.still) q.0 q.1 q.2 q.3 q.4 q.5
 

@@ -3,7 +3,7 @@ use Rattle.round_program.proofs.Emissions.{seen_through, stays_same}
 use Rattle.rank_node.specs.declared.departures.OnConveyor.{OnConveyor}
 use Rattle.rank_node.specs.Pushes.{AfterConveyorPush}
 use Rattle.rank_node.specs.Sending.{to_send}
-use Rattle.rank_node.proofs.Handed.{may_push, handed}
+use Rattle.rank_node.proofs.PushesItems.{may_push, handed}
 use Rattle.rank_node.proofs.sending.push_each.Goals as goal
 
 pub send_each-requires : goal.send_each-requires

@@ -122,7 +122,7 @@ returns-clause-in_full g c =
       awaits = exchange_awaits g.row.CAP c.poll_exchange-polled.new.self c.known.ensures.standing _ c.in_ok-_made.ensures.answer c.in_ok-_made.ensures.stage;
       due = tt;
       waits = waits_like x0 (in_exchange x0) c.poll_exchange-polled.new.self (g.P.Port.view c.args.port.now).got (g.P.Port.view c.poll_exchange-polled.new.port).got (is_crowded (g.P.Port.view c.poll_exchange-polled.new.port)) (is_idle (g.P.Port.view c.poll_exchange-polled.new.port))
-          begun.ranks begun.rank (record { posts = asks.crowded; collects = λ a w due. (asks.asked a w due).in_vain });
+          begun.ranks begun.rank (record { posts = asks.crowded; collects = λ a w due. (asks.asked a w due).still_stuck });
     }
 
 pub returns-clause-stage : goal.returns-clause-stage

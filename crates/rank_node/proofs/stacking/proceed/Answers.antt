@@ -203,7 +203,7 @@ returns-in-GoOn-clause-in_full g c =
       due = tt;
       waits = waits_like c.args.exstack.now (in_proceed done x1) c.poll_proceed-polled.new.self (g.P.Port.view c.args.port.now).got (g.P.Port.view c.poll_proceed-polled.new.port).got (is_crowded (g.P.Port.view c.poll_proceed-polled.new.port)) (is_idle (g.P.Port.view c.poll_proceed-polled.new.port))
           (proceed_ranks done x1 ∙ ap (λ (t : Stack). t.ranks) pops.same) (proceed_rank done x1 ∙ ap (λ (t : Stack). t.rank) pops.same)
-          (record { posts = asks.crowded; collects = λ a low due. (asks.asked a low due).in_vain });
+          (record { posts = asks.crowded; collects = λ a low due. (asks.asked a low due).still_stuck });
     }
 
 pub returns-in_err-polled-clause-cycle : goal.returns-in_err-polled-clause-cycle
@@ -274,5 +274,5 @@ returns-in-AllDone-clause-in_full g c =
       due = tt;
       waits = waits_like c.args.exstack.now (in_proceed done x1) c.poll_proceed-polled.new.self (g.P.Port.view c.args.port.now).got (g.P.Port.view c.poll_proceed-polled.new.port).got (is_crowded (g.P.Port.view c.poll_proceed-polled.new.port)) (is_idle (g.P.Port.view c.poll_proceed-polled.new.port))
           (proceed_ranks done x1 ∙ ap (λ (t : Stack). t.ranks) pops.same) (proceed_rank done x1 ∙ ap (λ (t : Stack). t.rank) pops.same)
-          (record { posts = asks.crowded; collects = λ a low due. (asks.asked a low due).in_vain });
+          (record { posts = asks.crowded; collects = λ a low due. (asks.asked a low due).still_stuck });
     }

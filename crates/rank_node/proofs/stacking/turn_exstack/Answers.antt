@@ -4,7 +4,7 @@ use Rattle.exstack.specs.State.{Stack, stack_dims, may_proceed, may_exchange}
 use Rattle.rank_node.specs.Runs.{running}
 use Rattle.list_laws.proofs.Results.{on_ok_map}
 use Rattle.rank_node.specs.Sending.{to_send}
-use Rattle.rank_node.specs.Pulls.{Fills}
+use Rattle.rank_node.specs.Pulls.{FillsItems}
 use Rattle.port_bank.specs.Port.{is_crowded, is_idle}
 use Rattle.port_bank.proofs.Frames.{port_at_first}
 use Rattle.rank_node.proofs.Ballots.{same_sends}
@@ -55,8 +55,8 @@ returns-in-Filling-clause-turns g c =
       leaves = record {
         pushed = λ s. (
           x1,
-          subst (λ n. Fills g.row.CAP (to_send R c.exchange.new.run.prog.value c.exchange.new.run.sends) x0 x1 c.args.run.now.next n) (sym polls.next)
-              (subst (λ es. Fills g.row.CAP es x0 x1 c.args.run.now.next c.fill.new.run.next) (sym items) filled.filled.pushed),
+          subst (λ n. FillsItems g.row.CAP (to_send R c.exchange.new.run.prog.value c.exchange.new.run.sends) x0 x1 c.args.run.now.next n) (sym polls.next)
+              (subst (λ es. FillsItems g.row.CAP es x0 x1 c.args.run.now.next c.fill.new.run.next) (sym items) filled.filled.pushed),
         );
         unpushed = λ apart. absurd (apart at);
       };

@@ -6,7 +6,7 @@ use Rattle.route_tensor.specs.Routes.{Site}
 use Rattle.route_tensor.specs.Tag.{sender_of}
 use Rattle.hop_core.specs.State.{State, in_at, pulls}
 use Rattle.convey.specs.Conveyors.{GivesNext}
-use Rattle.rank_node.specs.Batches.{from_link, came_on, TakesEach}
+use Rattle.rank_node.specs.Batches.{from_link, unread_items_on, TakesEach}
 use Rattle.rank_node.proofs.Chains.{mapped_at}
 use Rattle.rank_node.proofs.OneHop.{of_neighbour}
 use Rattle.rank_node.proofs.taking.take_unread.Goals as goal
@@ -25,7 +25,7 @@ pub returns-else-this-eq1-clause-takes : goal.returns-else-this-eq1-clause-takes
 returns-else-this-eq1-clause-takes g c =
     let st : State = c.args.conveyor.now in
     let site : Site = record { dims = st.dims; rank = st.rank } in
-    let same : from_link c.routes-routes.result.now c.args.number c.batch-entries.result.now ≡ came_on st c.args.number =
+    let same : from_link c.routes-routes.result.now c.args.number c.batch-entries.result.now ≡ unread_items_on st c.args.number =
     ap (λ (s : Site). from_link s c.args.number c.batch-entries.result.now) c.routes-routes.ensures.value ∙ ap (from_link site c.args.number) c.batch-entries.ensures.value in
     subst (λ es. TakesEach g.Q.Program.rules c.args.voting c.args.prog.now.value c.take_each-else-this-eq1.new.prog.value es c.args.taken.sum c.take_each-else-this-eq1.result.sum c.args.taken.spoiled c.take_each-else-this-eq1.result.spoiled)
     same c.take_each-else-this-eq1.ensures

@@ -10,7 +10,7 @@ use Rattle.hop_core.specs.Standing.{IsState}
 use Rattle.list_laws.specs.Lists.{IsPrefix}
 use Rattle.convey.specs.Buffers.{out_of, in_of, is_complete, buffers_of}
 use Rattle.convey.specs.Agreement.{Agrees}
-use Rattle.convey.specs.Due.{IsDue, WasServed, StopsAt, NextIs, WasFull, HeldUp, collects_of, posts_below}
+use Rattle.convey.specs.Due.{IsDue, WasServed, StopsAt, NextIs, WasFull, IsHeldUpAt, collects_of, posts_below}
 use Rattle.convey.specs.Progress.{progress_of}
 use Rattle.convey.specs.AdvanceSteps.{MovesOn, HasServed}
 use Rattle.convey.specs.Advance.{WereAsked}
@@ -197,8 +197,8 @@ returns-clause-in_full g c =
             closing = λ l below from says arrived open'.
                 ending l below from (reaches_end new l c.settle.ensures.standing (subst (λ ds. l < links ds) (sym same) below) (λ one. says (sym (ap (λ ds. hop_at ds l) same) ∙ one)) arrived) open';
             stopped = λ l x below to less.
-                subst (λ s. slice_get (in_of s l).parcel.untaken 0 ≡ Some x → NextIs now.dims now.rank l x.tag (HeldUp g.row.CAP s sent sent' crowded)) (sym e)
-                (λ at. next_map now.dims now.rank l x.tag (HeldUp now.cap mid sent sent' crowded) (HeldUp g.row.CAP (record mid { phase = phase_of mid; pulled = None }) sent sent' crowded)
+                subst (λ s. slice_get (in_of s l).parcel.untaken 0 ≡ Some x → NextIs now.dims now.rank l x.tag (IsHeldUpAt g.row.CAP s sent sent' crowded)) (sym e)
+                (λ at. next_map now.dims now.rank l x.tag (IsHeldUpAt now.cap mid sent sent' crowded) (IsHeldUpAt g.row.CAP (record mid { phase = phase_of mid; pulled = None }) sent sent' crowded)
                 (λ m b from hop held. same_held now.cap g.row.CAP mid (phase_of mid) sent sent' crowded m cap held) (k.stopped l x below to less at));
           };
     }

@@ -7,7 +7,7 @@ use Rattle.hop_core.specs.Standing.{IsState}
 use Rattle.port_bank.specs.Machine.{IsOwnStep}
 use Rattle.port_bank.specs.Machine.Step.{Push}
 use Rattle.convey.specs.Buffers.{buffers_of}
-use Rattle.convey.specs.Conveyors.{standing_toward}
+use Rattle.convey.specs.Conveyors.{open_count_toward}
 use Rattle.convey.specs.Agreement.{Agrees}
 use Rattle.convey.specs.Parts.{part_of}
 use Rattle.convey.proofs.Pushes.{pushed_agrees, pushed_step, standing_index, idle_agrees}
@@ -22,7 +22,7 @@ returns-clause-room g c =
     let now : State = c.args.self.now in
     let s : IsState now = subst IsState c.self.view_is c.known.ensures.standing in
     let cap : now.cap ≡ g.row.CAP = subst (λ (t : State). t.cap ≡ g.row.CAP) c.self.view_is c.known.ensures.cap in
-    λ r. subst (λ n. standing_toward now c.args.to < n) cap (subst (λ n. n < now.cap) (standing_index now c.args.to c.args.item s c.requires.to) (subst (λ (t : State). length (out_at t (coord t.dims c.args.to 1)).parcel.untaken < t.cap) c.self.view_is (c.push.ensures.room r)))
+    λ r. subst (λ n. open_count_toward now c.args.to < n) cap (subst (λ n. n < now.cap) (standing_index now c.args.to c.args.item s c.requires.to) (subst (λ (t : State). length (out_at t (coord t.dims c.args.to 1)).parcel.untaken < t.cap) c.self.view_is (c.push.ensures.room r)))
 
 pub returns-clause-full : goal.returns-clause-full
 returns-clause-full g c =

@@ -7,7 +7,7 @@ use Rattle.port_bank.proofs.Kept.{law_same}
 use Rattle.exstack.specs.Links.{no_stack_in}
 use Rattle.exstack.specs.State.{Stack, stack_dims, number, stack_link_from}
 use Rattle.exstack.specs.Agreement.{AgreesIn}
-use Rattle.exstack.specs.Steps.{WasCollected, MadeRound, InVain, StackStopsAt, posts_to, collects_from}
+use Rattle.exstack.specs.Steps.{WasCollected, MadeRound, AskedWithoutSuccess, StackStopsAt, posts_to, collects_from}
 use Rattle.exstack.specs.Standing.{IsStack}
 use Rattle.exstack.proofs.Making.{after_round, PostsDone, CollectsDone, Before, before, none_done, round_done, stack_done, agrees_done}
 use Rattle.exstack.proofs.exstack.Exstack.go_round.Goals as goal
@@ -217,8 +217,8 @@ returns-clause-asks g c =
       asked = λ a w due.
           let u : a < n = omega (arith, w, s.all_ins, ap (λ (t : Stack). t.ranks) view) in
           let number_is : number n a st.rank ≡ stack_link_from now a = ap (λ m. number m a st.rank) s.all_ins ∙ ap (λ (t : Stack). stack_link_from t a) view in
-          subst (λ l. InVain ((g.P.Port.view c.args.port.now).noted l) (noted' l) (idle' l)) number_is
-          (subst (λ (counts : ℕ → ℕ). InVain (counts (number n a st.rank)) (noted' (number n a st.rank)) (idle' (number n a st.rank))) c.post_all.ensures.left.same_ins.noted (c.collect_all.ensures.in_vain a u due));
+          subst (λ l. AskedWithoutSuccess ((g.P.Port.view c.args.port.now).noted l) (noted' l) (idle' l)) number_is
+          (subst (λ (counts : ℕ → ℕ). AskedWithoutSuccess (counts (number n a st.rank)) (noted' (number n a st.rank)) (idle' (number n a st.rank))) c.post_all.ensures.left.same_ins.noted (c.collect_all.ensures.still_stuck a u due));
       calls =
           let before : List Call = (g.P.Port.view c.args.port.now).calls in
           let posted = c.in_ok-post_all.ensures.calls ∙ ap (λ m. before ++ posts_to m st.rank st.outs m) s.all_outs in

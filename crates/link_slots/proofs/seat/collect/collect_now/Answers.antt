@@ -7,19 +7,19 @@ use Rattle.route_tensor.specs.Ends.{hop_at}
 use Rattle.link_slots.specs.Logs.{InLog, Lists, out_of, in_of, with_in, taken_more, listens}
 use Rattle.link_slots.specs.View.{own_logs, with_logs, Speaks}
 use Rattle.link_slots.specs.Shape.{Shape}
-use Rattle.link_slots.specs.WordSteps.{Knowing}
+use Rattle.link_slots.specs.WordSteps.{TableView}
 use Rattle.list_laws.specs.Counts.{saturated_count}
-use Rattle.link_slots.specs.Counts.{IsInEnd, IsHeard, ElseKept}
+use Rattle.link_slots.specs.Counts.{IsInEnd, IsHeard, KeepsOtherLinks}
 use Rattle.link_slots.specs.Doorbell.{is_due, HeardWhere}
 use Rattle.link_slots.proofs.Moves.{own_with, in_here, in_there, in_same}
-use Rattle.link_slots.proofs.Manning.{with_twice}
+use Rattle.link_slots.proofs.HeldSeats.{with_twice}
 use Rattle.link_slots.proofs.Counting.{end_taken}
 use Rattle.link_slots.proofs.Due.{looked_then_taken}
 use Rattle.link_slots.proofs.Hearing.{else_kept, in_elsewhere, good_same, heard_same}
 use Rattle.link_slots.proofs.seat.collect.collect_now.Goals as goal
 
 -- the seat's lists after the release, and the link's own part of them
-module _ (v2 v3 : Knowing) (l : ℕ) (e : v3 ≡ with_logs v2 (with_in (own_logs v2) l (taken_more (in_of (own_logs v2) l) (in_of (own_logs v3) l).released_at))) (speaks : Speaks v2) where
+module _ (v2 v3 : TableView) (l : ℕ) (e : v3 ≡ with_logs v2 (with_in (own_logs v2) l (taken_more (in_of (own_logs v2) l) (in_of (own_logs v3) l).released_at))) (speaks : Speaks v2) where
   own : own_logs v3 ≡ with_in (own_logs v2) l (taken_more (in_of (own_logs v2) l) (in_of (own_logs v3) l).released_at)
   own = ap own_logs e ∙ own_with v2 (with_in (own_logs v2) l (taken_more (in_of (own_logs v2) l) (in_of (own_logs v3) l).released_at)) speaks
 
@@ -30,7 +30,7 @@ pub returns-clause-left : goal.returns-clause-left
 returns-clause-left g c =
     record {
       stays = record { table = c.receive.ensures.stays.table ∙ c.find_parcel.ensures.left.stays.table; seat = c.receive.ensures.stays.seat };
-      end = (let key : Shape = c.args.top.now.key in let f = c.find_parcel.ensures in let v2 : Knowing = c.find_parcel.new.place.me.0 in let v3 : Knowing = c.receive.new.place.me.0 in let l : ℕ = c.args.link in
+      end = (let key : Shape = c.args.top.now.key in let f = c.find_parcel.ensures in let v2 : TableView = c.find_parcel.new.place.me.0 in let v3 : TableView = c.receive.new.place.me.0 in let l : ℕ = c.args.link in
           let i2 : InLog Contents = in_of (own_logs v2) l in
           let a = at v2 v3 l c.receive.ensures.released f.left.stays.seat.speaks (let w = f.left.others.long in let u = c.requires.reads.long in let h = c.requires.reads.at.below in omega arith) in
           let k : ℕ = c.find_parcel.new.end.waiting - 1 in
@@ -41,7 +41,7 @@ returns-clause-left g c =
           (ap (λ (z : InLog Contents). z.seen) a) (ap (λ (z : InLog Contents). z.taken) a)
           refl
           (hs ∙ sym (ap (λ (z : InLog Contents). saturated_count z.hears) a)));
-      ear = (let key : Shape = c.args.top.now.key in let f = c.find_parcel.ensures in let v : Knowing = c.args.place.now.me.0 in let v2 : Knowing = c.find_parcel.new.place.me.0 in let v3 : Knowing = c.receive.new.place.me.0 in let l : ℕ = c.args.link in
+      ear = (let key : Shape = c.args.top.now.key in let f = c.find_parcel.ensures in let v : TableView = c.args.place.now.me.0 in let v2 : TableView = c.find_parcel.new.place.me.0 in let v3 : TableView = c.receive.new.place.me.0 in let l : ℕ = c.args.link in
           let i : InLog Contents = taken_more (in_of (own_logs v2) l) (in_of (own_logs v3) l).released_at in
           let o = own v2 v3 l c.receive.ensures.released f.left.stays.seat.speaks in
           let long : l < length (own_logs v2).ins = (let w = f.left.others.long in let u = c.requires.reads.long in let h = c.requires.reads.at.below in omega arith) in
@@ -49,28 +49,28 @@ returns-clause-left g c =
           (heard_same key v.pick (hop_at key.dims l) (own_logs v2) (with_in (own_logs v2) l i) c.find_parcel.new.ear.marks c.find_parcel.new.ear.hears
           (in_same (own_logs v2) l (λ (z : InLog Contents). z.marked) i (λ m. (in_of (own_logs v2) m).marked) long refl (λ _ _. refl))
           (in_same (own_logs v2) l (λ (z : InLog Contents). z.hears) i (λ m. (in_of (own_logs v2) m).hears) long refl (λ _ _. refl)) f.left.ear));
-      here = (let f = c.find_parcel.ensures in let v : Knowing = c.args.place.now.me.0 in let v2 : Knowing = c.find_parcel.new.place.me.0 in let v3 : Knowing = c.receive.new.place.me.0 in let l : ℕ = c.args.link in
+      here = (let f = c.find_parcel.ensures in let v : TableView = c.args.place.now.me.0 in let v2 : TableView = c.find_parcel.new.place.me.0 in let v3 : TableView = c.receive.new.place.me.0 in let l : ℕ = c.args.link in
           let y : Lists Contents = with_in (own_logs v2) l (taken_more (in_of (own_logs v2) l) (in_of (own_logs v3) l).released_at) in
-          c.receive.ensures.released ∙ ap (λ (z : Knowing). with_logs z y) f.left.here ∙ with_twice v (own_logs v2) y ∙ ap (with_logs v) (sym (own v2 v3 l c.receive.ensures.released f.left.stays.seat.speaks)));
-      others = (let key : Shape = c.args.top.now.key in let f = c.find_parcel.ensures in let v : Knowing = c.args.place.now.me.0 in let v2 : Knowing = c.find_parcel.new.place.me.0 in let v3 : Knowing = c.receive.new.place.me.0 in let l : ℕ = c.args.link in
+          c.receive.ensures.released ∙ ap (λ (z : TableView). with_logs z y) f.left.here ∙ with_twice v (own_logs v2) y ∙ ap (with_logs v) (sym (own v2 v3 l c.receive.ensures.released f.left.stays.seat.speaks)));
+      others = (let key : Shape = c.args.top.now.key in let f = c.find_parcel.ensures in let v : TableView = c.args.place.now.me.0 in let v2 : TableView = c.find_parcel.new.place.me.0 in let v3 : TableView = c.receive.new.place.me.0 in let l : ℕ = c.args.link in
           let o = own v2 v3 l c.receive.ensures.released f.left.stays.seat.speaks in
           else_kept key v.pick l (own_logs v) (own_logs v2) (own_logs v3) f.left.others
-          (subst (ElseKept key v.pick l (own_logs v2)) (sym o) (in_elsewhere key c.requires.reads.at.board.shape v.pick l c.requires.reads.at.below c.requires.reads.at.own (own_logs v2) (f.left.others.long ∙ c.requires.reads.long) (taken_more (in_of (own_logs v2) l) (in_of (own_logs v3) l).released_at))));
+          (subst (KeepsOtherLinks key v.pick l (own_logs v2)) (sym o) (in_elsewhere key c.requires.reads.at.board.shape v.pick l c.requires.reads.at.below c.requires.reads.at.own (own_logs v2) (f.left.others.long ∙ c.requires.reads.long) (taken_more (in_of (own_logs v2) l) (in_of (own_logs v3) l).released_at))));
     }
 
 pub returns-clause-collects : goal.returns-clause-collects
 returns-clause-collects g c =
-    let f = c.find_parcel.ensures in let v : Knowing = c.args.place.now.me.0 in let v2 : Knowing = c.find_parcel.new.place.me.0 in let v3 : Knowing = c.receive.new.place.me.0 in let l : ℕ = c.args.link in
+    let f = c.find_parcel.ensures in let v : TableView = c.args.place.now.me.0 in let v2 : TableView = c.find_parcel.new.place.me.0 in let v3 : TableView = c.receive.new.place.me.0 in let l : ℕ = c.args.link in
     let a = at v2 v3 l c.receive.ensures.released f.left.stays.seat.speaks (let w = f.left.others.long in let u = c.requires.reads.long in let h = c.requires.reads.at.below in omega arith) in
     record {
       good =
-          let key : Shape = c.args.top.now.key in let f = c.find_parcel.ensures in let v2 : Knowing = c.find_parcel.new.place.me.0 in let v3 : Knowing = c.receive.new.place.me.0 in let l : ℕ = c.args.link in
+          let key : Shape = c.args.top.now.key in let f = c.find_parcel.ensures in let v2 : TableView = c.find_parcel.new.place.me.0 in let v3 : TableView = c.receive.new.place.me.0 in let l : ℕ = c.args.link in
           let a = at v2 v3 l c.receive.ensures.released f.left.stays.seat.speaks (let w = f.left.others.long in let u = c.requires.reads.long in let h = c.requires.reads.at.below in omega arith) in
           good_same g.row.CAP key l (in_of (own_logs v2) l) (in_of (own_logs v3) l) (ap (λ (z : InLog Contents). z.seen) a) f.good;
       seen = ap (λ (z : InLog Contents). take (length (in_of (own_logs v) l).seen) z.seen) a ∙ f.seen;
       more = subst (λ (z : InLog Contents). listens (in_of (own_logs v) l) ≤ listens z) (sym a) f.more;
       noted =
-          let f = c.find_parcel.ensures in let v2 : Knowing = c.find_parcel.new.place.me.0 in let v3 : Knowing = c.receive.new.place.me.0 in let l : ℕ = c.args.link in
+          let f = c.find_parcel.ensures in let v2 : TableView = c.find_parcel.new.place.me.0 in let v3 : TableView = c.receive.new.place.me.0 in let l : ℕ = c.args.link in
           let i2 : InLog Contents = in_of (own_logs v2) l in
           let a = at v2 v3 l c.receive.ensures.released f.left.stays.seat.speaks (let w = f.left.others.long in let u = c.requires.reads.long in let h = c.requires.reads.at.below in omega arith) in
           let hs : c.find_parcel.new.ear.hears ≡ saturated_count i2.hears = f.left.ear.heard l c.requires.reads.at.below c.requires.reads.at.own refl in
@@ -78,10 +78,10 @@ returns-clause-collects g c =
       taken = λ _. ap (λ (z : InLog Contents). z.taken) a ∙ ap suc f.taken;
       parcel = λ _. subst (λ (z : InLog Contents). get_elem? z.seen (in_of (own_logs v) l).taken ≡ some c.receive.new.parcel) (sym a) (subst (λ (n : ℕ). get_elem? (in_of (own_logs v2) l).seen n ≡ some c.receive.new.parcel) f.taken c.receive.ensures.parcel);
       own = λ _ from.
-          let f = c.find_parcel.ensures in let v2 : Knowing = c.find_parcel.new.place.me.0 in let v3 : Knowing = c.receive.new.place.me.0 in let l : ℕ = c.args.link in
+          let f = c.find_parcel.ensures in let v2 : TableView = c.find_parcel.new.place.me.0 in let v3 : TableView = c.receive.new.place.me.0 in let l : ℕ = c.args.link in
           let o = own v2 v3 l c.receive.ensures.released f.left.stays.seat.speaks in
           let a = at v2 v3 l c.receive.ensures.released f.left.stays.seat.speaks (let w = f.left.others.long in let u = c.requires.reads.long in let h = c.requires.reads.at.below in omega arith) in
-          let p : v2.pick ≡ c.args.place.now.me.0.pick = ap (λ (z : Knowing). z.pick) f.left.here in
+          let p : v2.pick ≡ c.args.place.now.me.0.pick = ap (λ (z : TableView). z.pick) f.left.here in
           subst (λ (z : InLog Contents × Lists Contents). IsPrefix z.0.seen (out_of z.1 l).sent) (λ k. (sym a k, sym o k)) (c.receive.ensures.own (from ∙ sym p));
       not_taken = search rules;
       none_known = search rules;
@@ -90,14 +90,14 @@ returns-clause-collects g c =
       kept = search rules;
       at_hand = search rules;
       no_looking = λ some.
-          let v2 : Knowing = c.find_parcel.new.place.me.0 in let v3 : Knowing = c.receive.new.place.me.0 in let l : ℕ = c.args.link in
-          own v2 v3 l c.receive.ensures.released c.find_parcel.ensures.left.stays.seat.speaks ∙ ap (λ (z : Knowing). with_in (own_logs z) l (taken_more (in_of (own_logs z) l) (in_of (own_logs v3) l).released_at)) (c.find_parcel.ensures.at_hand some);
+          let v2 : TableView = c.find_parcel.new.place.me.0 in let v3 : TableView = c.receive.new.place.me.0 in let l : ℕ = c.args.link in
+          own v2 v3 l c.receive.ensures.released c.find_parcel.ensures.left.stays.seat.speaks ∙ ap (λ (z : TableView). with_in (own_logs z) l (taken_more (in_of (own_logs z) l) (in_of (own_logs v3) l).released_at)) (c.find_parcel.ensures.at_hand some);
       heard = λ none m inside mine hop ne.
-          let v : Knowing = c.args.place.now.me.0 in let v2 : Knowing = c.find_parcel.new.place.me.0 in let v3 : Knowing = c.receive.new.place.me.0 in let l : ℕ = c.args.link in
+          let v : TableView = c.args.place.now.me.0 in let v2 : TableView = c.find_parcel.new.place.me.0 in let v3 : TableView = c.receive.new.place.me.0 in let l : ℕ = c.args.link in
           let same : in_of (own_logs v3) m ≡ in_of (own_logs v2) m = ap (λ (z : Lists Contents). in_of z m) (own v2 v3 l c.receive.ensures.released c.find_parcel.ensures.left.stays.seat.speaks) ∙ in_there (own_logs v2) l (taken_more (in_of (own_logs v2) l) (in_of (own_logs v3) l).released_at) m ne in
           subst (HeardWhere (is_due c.args.end.now.noted (in_of (own_logs v) l)) (in_of (own_logs v) m)) (sym same) (c.find_parcel.ensures.heard none m inside mine hop ne);
       looked = λ none.
-          let f = c.find_parcel.ensures in let v : Knowing = c.args.place.now.me.0 in let v2 : Knowing = c.find_parcel.new.place.me.0 in let v3 : Knowing = c.receive.new.place.me.0 in let l : ℕ = c.args.link in
+          let f = c.find_parcel.ensures in let v : TableView = c.args.place.now.me.0 in let v2 : TableView = c.find_parcel.new.place.me.0 in let v3 : TableView = c.receive.new.place.me.0 in let l : ℕ = c.args.link in
           looked_then_taken c.args.end.now.noted (in_of (own_logs v) l) (in_of (own_logs v2) l) (in_of (own_logs v3) l) (in_of (own_logs v3) l).released_at
           (at v2 v3 l c.receive.ensures.released f.left.stays.seat.speaks (let w = f.left.others.long in let u = c.requires.reads.long in let h = c.requires.reads.at.below in omega arith)) (f.looked none);
     }

@@ -9,9 +9,9 @@ use Rattle.link_slots.specs.Logs.{InLog, Lists, in_of, listens}
 use Rattle.link_slots.specs.View.{own_logs, with_logs, Speaks}
 use Rattle.link_slots.specs.StepEffects.{after_hear, heard_by}
 use Rattle.link_slots.specs.Shape.{Shape, IsShape, wiring}
-use Rattle.link_slots.specs.WordSteps.{Knowing}
+use Rattle.link_slots.specs.WordSteps.{TableView}
 use Rattle.list_laws.specs.Counts.{saturated_count}
-use Rattle.link_slots.specs.Counts.{IsHeard, ElseKept, noted_by}
+use Rattle.link_slots.specs.Counts.{IsHeard, KeepsOtherLinks, noted_by}
 use Rattle.link_slots.specs.Doorbell.{is_due}
 use Rattle.link_slots.proofs.Moves.{own_with}
 use Rattle.link_slots.proofs.Counting.{end_kept}
@@ -21,7 +21,7 @@ use Rattle.std.proofs.lemmas.Nat.Bits.{bit_at-lt}
 use Rattle.link_slots.proofs.seat.collect.hear_if_due.Goals.{else-ear-wire-eq0-via-then-ear-wire-eq0+else-ear-end, else-ear-wire-eq0-via-else-ear-wire-eq0}
 use Rattle.link_slots.proofs.seat.collect.hear_if_due.Goals as goal
 
-module _ (v v' : Knowing) (shape : Shape) (is : IsShape shape) (l n : ℕ) (e : v' ≡ with_logs v (after_hear (wiring shape) ((wiring shape).bell l) n (own_logs v))) (speaks : Speaks v)
+module _ (v v' : TableView) (shape : Shape) (is : IsShape shape) (l n : ℕ) (e : v' ≡ with_logs v (after_hear (wiring shape) ((wiring shape).bell l) n (own_logs v))) (speaks : Speaks v)
     (inside : l < links shape.dims) (mine : reader_at shape.dims l ≡ v.pick) (wide : length (own_logs v).ins ≡ links shape.dims) where
   -- what the seat's lists are after the hear, and the link's own part of them
   own : own_logs v' ≡ after_hear (wiring shape) ((wiring shape).bell l) n (own_logs v)
@@ -32,20 +32,20 @@ module _ (v v' : Knowing) (shape : Shape) (is : IsShape shape) (l n : ℕ) (e : 
 
 pub returns-then-ear-end-clause-left : goal.returns-then-ear-end-clause-left
 returns-then-ear-end-clause-left g c =
-    let key : Shape = c.args.top.now.key in let v : Knowing = c.args.place.now.me.0 in
+    let key : Shape = c.args.top.now.key in let v : TableView = c.args.place.now.me.0 in
     record {
       stays = c.hear.ensures.stays;
       end = (let a = at c.args.place.now.me.0 c.hear.new.place.me.0 c.args.top.now.key c.requires.reads.at.board.shape c.args.link c.hear.result c.hear.ensures.heard c.requires.reads.at.manned.speaks c.requires.reads.at.below c.requires.reads.at.own c.requires.reads.long in
           let h = ap (λ (i : InLog Contents). i.hears) a in
           end_kept c.args.top.now.key.slots _ _ _ _ _ c.requires.reads.end (ap (λ (i : InLog Contents). i.seen) a) (ap (λ (i : InLog Contents). i.taken) a) (omega arith));
-      ear = (let key : Shape = c.args.top.now.key in let v : Knowing = c.args.place.now.me.0 in
+      ear = (let key : Shape = c.args.top.now.key in let v : TableView = c.args.place.now.me.0 in
           let o = own v c.hear.new.place.me.0 key c.requires.reads.at.board.shape c.args.link c.hear.result c.hear.ensures.heard c.requires.reads.at.manned.speaks c.requires.reads.at.below c.requires.reads.at.own c.requires.reads.long in
           subst (λ (z : Lists Contents × ℕ). IsHeard key v.pick (hop_at key.dims c.args.link) z.0 (bit_or c.args.ear.now.marks c.hear.result) z.1) (λ k. (sym o k, sym c.saturating_add-ear.ensures k))
           (heard_marks key c.requires.reads.at.board.shape v.pick c.args.link c.requires.reads.at.below c.requires.reads.at.own (own_logs v) c.requires.reads.long c.hear.result c.args.ear.now.marks c.args.ear.now.hears c.requires.reads.ear));
       here = c.hear.ensures.heard ∙ ap (with_logs v) (sym (own v c.hear.new.place.me.0 key c.requires.reads.at.board.shape c.args.link c.hear.result c.hear.ensures.heard c.requires.reads.at.manned.speaks c.requires.reads.at.below c.requires.reads.at.own c.requires.reads.long));
-      others = (let key : Shape = c.args.top.now.key in let v : Knowing = c.args.place.now.me.0 in
+      others = (let key : Shape = c.args.top.now.key in let v : TableView = c.args.place.now.me.0 in
           let o = own v c.hear.new.place.me.0 key c.requires.reads.at.board.shape c.args.link c.hear.result c.hear.ensures.heard c.requires.reads.at.manned.speaks c.requires.reads.at.below c.requires.reads.at.own c.requires.reads.long in
-          subst (ElseKept key v.pick c.args.link (own_logs v)) (sym o) (heard_elsewhere key c.requires.reads.at.board.shape v.pick c.args.link c.requires.reads.at.below c.requires.reads.at.own (own_logs v) c.requires.reads.long c.hear.result));
+          subst (KeepsOtherLinks key v.pick c.args.link (own_logs v)) (sym o) (heard_elsewhere key c.requires.reads.at.board.shape v.pick c.args.link c.requires.reads.at.below c.requires.reads.at.own (own_logs v) c.requires.reads.long c.hear.result));
     }
 
 pub returns-then-ear-end-clause-seen : goal.returns-then-ear-end-clause-seen

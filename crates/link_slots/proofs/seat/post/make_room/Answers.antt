@@ -2,7 +2,7 @@ use Rattle.std.proofs.Common.{arith, refl, sym, ap, ◌∙◌}
 use Rattle.item_buffer.specs.Contents.{Contents}
 use Rattle.link_slots.specs.Logs.{OutLog, with_out}
 use Rattle.link_slots.specs.View.{own_logs, with_logs}
-use Rattle.link_slots.proofs.Manning.{out_after, same_logs, same_out}
+use Rattle.link_slots.proofs.HeldSeats.{out_after, same_logs, same_out}
 use Rattle.link_slots.proofs.Counting.{end_looked}
 use Rattle.link_slots.proofs.seat.post.make_room.Goals as goal
 

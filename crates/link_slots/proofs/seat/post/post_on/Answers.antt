@@ -3,15 +3,15 @@ use Rattle.item_buffer.specs.Contents.{Contents}
 use Rattle.link_slots.specs.Logs.{OutLog, out_of, sent_more, all_offered}
 use Rattle.link_slots.specs.View.{own_logs}
 use Rattle.link_slots.specs.Shape.{Shape, MayFollow}
-use Rattle.link_slots.specs.WordSteps.{Knowing}
+use Rattle.link_slots.specs.WordSteps.{TableView}
 use Rattle.link_slots.specs.Counts.{IsOutEnd}
-use Rattle.link_slots.proofs.Manning.{out_after, speaks_after, long_after, then_out, out_itself, law_after}
+use Rattle.link_slots.proofs.HeldSeats.{out_after, speaks_after, long_after, then_out, out_itself, law_after}
 use Rattle.link_slots.proofs.Counting.{end_posted}
 use Rattle.link_slots.proofs.seat.post.post_on.Goals as goal
 
 pub send-requires : goal.send-requires
 send-requires g c =
-    let key : Shape = c.args.top.now.key in let v : Knowing = c.args.place.now.me.0 in let v1 : Knowing = c.make_room.new.place.me.0 in let l : ℕ = c.args.link in
+    let key : Shape = c.args.top.now.key in let v : TableView = c.args.place.now.me.0 in let v1 : TableView = c.make_room.new.place.me.0 in let l : ℕ = c.args.link in
     let e = c.make_room.ensures.left.here in (
       omega arith,
       (
@@ -24,7 +24,7 @@ send-requires g c =
               board = c.requires.writes.at.board;
               manned = c.make_room.ensures.left.stays.seat;
               below = c.requires.writes.at.below;
-              own = c.requires.writes.at.own ∙ sym (ap (λ (z : Knowing). z.pick) e);
+              own = c.requires.writes.at.own ∙ sym (ap (λ (z : TableView). z.pick) e);
             },
             (
               (let s = c.make_room.ensures.left.end.spare_is in let n = c.if-end-eq0.false in omega arith),
@@ -46,7 +46,7 @@ returns-clause-left g c =
     record {
       stays = record { table = c.ring.ensures.stays.table ∙ (c.send.ensures.stays.table ∙ c.make_room.ensures.left.stays.table); seat = c.ring.ensures.stays.seat };
       end = (let key : Shape = c.args.top.now.key in
-          let v : Knowing = c.args.place.now.me.0 in let v1 : Knowing = c.make_room.new.place.me.0 in let v2 : Knowing = c.send.new.place.me.0 in let v3 : Knowing = c.ring.new.place.me.0 in let l : ℕ = c.args.link in
+          let v : TableView = c.args.place.now.me.0 in let v1 : TableView = c.make_room.new.place.me.0 in let v2 : TableView = c.send.new.place.me.0 in let v3 : TableView = c.ring.new.place.me.0 in let l : ℕ = c.args.link in
           let speaks = c.requires.writes.at.manned.speaks in let long = c.requires.writes.long in
           let e1 = c.make_room.ensures.left.here in
           let e2 = then_out v speaks l long v1 v2 _ _ e1 c.send.ensures.posted in
@@ -59,7 +59,7 @@ returns-clause-left g c =
           end_posted key.slots o1 (out_of (own_logs v3) l) c.args.parcel.now c.make_room.new.end.sent k _
           (subst (IsOutEnd key.slots o1 c.make_room.new.end.sent) more c.make_room.ensures.left.end)
           (ap (λ (z : OutLog Contents). z.sent) at) (ap (λ (z : OutLog Contents). z.room) at) refl);
-      here = (let v : Knowing = c.args.place.now.me.0 in let v1 : Knowing = c.make_room.new.place.me.0 in let v2 : Knowing = c.send.new.place.me.0 in let v3 : Knowing = c.ring.new.place.me.0 in let l : ℕ = c.args.link in
+      here = (let v : TableView = c.args.place.now.me.0 in let v1 : TableView = c.make_room.new.place.me.0 in let v2 : TableView = c.send.new.place.me.0 in let v3 : TableView = c.ring.new.place.me.0 in let l : ℕ = c.args.link in
           let speaks = c.requires.writes.at.manned.speaks in let long = c.requires.writes.long in
           let e2 = then_out v speaks l long v1 v2 _ _ c.make_room.ensures.left.here c.send.ensures.posted in
           out_itself v speaks l long v3 _ (then_out v speaks l long v2 v3 _ _ e2 c.ring.ensures.rung));
@@ -69,7 +69,7 @@ returns-clause-left g c =
 -- at hand
 pub returns-clause-link : goal.returns-clause-link
 returns-clause-link g c =
-    let v : Knowing = c.args.place.now.me.0 in let v1 : Knowing = c.make_room.new.place.me.0 in let v2 : Knowing = c.send.new.place.me.0 in let v3 : Knowing = c.ring.new.place.me.0 in let l : ℕ = c.args.link in
+    let v : TableView = c.args.place.now.me.0 in let v1 : TableView = c.make_room.new.place.me.0 in let v2 : TableView = c.send.new.place.me.0 in let v3 : TableView = c.ring.new.place.me.0 in let l : ℕ = c.args.link in
     let speaks = c.requires.writes.at.manned.speaks in let long = c.requires.writes.long in
     let e1 = c.make_room.ensures.left.here in
     let e2 = then_out v speaks l long v1 v2 _ _ e1 c.send.ensures.posted in

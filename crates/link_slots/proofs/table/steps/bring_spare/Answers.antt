@@ -1,7 +1,7 @@
 use Rattle.std.proofs.Common.{rules, arith, refl, subst}
 use Rattle.link_slots.specs.Shape.{Shape}
 use Rattle.link_slots.specs.WordSteps.{spare_brought}
-use Rattle.link_slots.proofs.Manning.{manned_brought}
+use Rattle.link_slots.proofs.HeldSeats.{manned_brought}
 use Rattle.link_slots.proofs.Tells as tells
 use Rattle.link_slots.proofs.table.steps.bring_spare.Goals as goal
 

@@ -2,7 +2,7 @@ use Rattle.std.proofs.Common.{◌≡◌, ◌∙◌, get_or, length, sym, ap, sub
 use Rattle.list_laws.specs.Lists.{EachAt}
 use Rattle.list_laws.proofs.Lists.{each_push}
 use Rattle.route_tensor.specs.Grid.{ranks}
-use Rattle.convey.specs.Conveyors.{StartsOut}
+use Rattle.convey.specs.Conveyors.{IsUnusedConveyor}
 use Rattle.convey.proofs.Together.{one_more, together_first, together_start}
 use Rattle.transport_tests.proofs.conveyors.Conveyors.new.Goals as goal
 
@@ -12,7 +12,7 @@ loop-rank-preserved g c =
     let one = c.in_ok-new.field-0 in
     record {
       all = one_more before _ one _ c.in_ok-push.ensures.items c.loop-rank.invariant.all;
-      each = subst (EachAt (λ r s. StartsOut c.args.grid.now r s.conveyor)) (sym c.in_ok-push.ensures.items) (each_push (λ r s. StartsOut c.args.grid.now r s.conveyor) before one c.loop-rank.invariant.each (record {
+      each = subst (EachAt (λ r s. IsUnusedConveyor c.args.grid.now r s.conveyor)) (sym c.in_ok-push.ensures.items) (each_push (λ r s. IsUnusedConveyor c.args.grid.now r s.conveyor) before one c.loop-rank.invariant.each (record {
         same_dims = c.in_ok-new.ensures.starts.same_dims;
         same_rank = c.in_ok-new.ensures.starts.same_rank ∙ sym c.loop-rank.invariant.all;
         agrees = c.in_ok-new.ensures.starts.agrees;

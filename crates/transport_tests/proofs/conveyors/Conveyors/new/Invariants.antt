@@ -1,10 +1,10 @@
 use Rattle.std.proofs.Common.{◌≡◌, length}
 use Rattle.list_laws.specs.Lists.{EachAt}
-use Rattle.convey.specs.Conveyors.{StartsOut}
+use Rattle.convey.specs.Conveyors.{IsUnusedConveyor}
 use Rattle.transport_tests.proofs.conveyors.Conveyors.new.Given as goal
 
 abbrev pub invariant-loop-rank : goal.invariant-loop-rank
 invariant-loop-rank g l = record {
   all : length l.sides.items ≡ l.rank;
-  each : EachAt (λ r s. StartsOut l.grid r s.conveyor) l.sides.items;
+  each : EachAt (λ r s. IsUnusedConveyor l.grid r s.conveyor) l.sides.items;
 }

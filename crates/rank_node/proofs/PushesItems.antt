@@ -8,13 +8,13 @@ use Rattle.route_tensor.specs.Grid.{ranks}
 use Rattle.hop_core.specs.declared.phase.Phase.TheVariants.{Working}
 use Rattle.hop_core.specs.State.{State}
 use Rattle.convey.specs.Buffers.{buffers_of}
-use Rattle.convey.specs.Conveyors.{standing_toward}
+use Rattle.convey.specs.Conveyors.{open_count_toward}
 use Rattle.convey.specs.Parts.{part_of}
 use Rattle.round_program.specs.Emissions.{HandsOver}
 use Rattle.round_program.proofs.Emissions.{past_end, first_left, rest_left, nothing_left}
 use Rattle.rank_node.specs.Pushes.{MayPush, AfterConveyorPush}
 use Rattle.rank_node.proofs.Chains.{none_more, one_more}
-use Rattle.rank_node.specs.Pulls.{Handed}
+use Rattle.rank_node.specs.Pulls.{PushesItems}
 use Rattle.rank_node.proofs.Offered.{Offers, push_on, idle_on, pushed_none, push_more, none_left}
 
 -- of what is left to push every item may be pushed
@@ -31,7 +31,7 @@ may_push es c from receivers working all_pushed =
 -- where all is handed over or one was refused
 pub record Ended (most : ℕ) (es : List (ℕ × Item)) (old c : State) (from next : ℕ) : Type 0 where
   pub offers : Offers es old c from next (length es)
-  pub refused : (to : ℕ) (x : Item) → slice_get es next ≡ Some (to, x) → standing_toward c to ≡ most
+  pub refused : (to : ℕ) (x : Item) → slice_get es next ≡ Some (to, x) → open_count_toward c to ≡ most
 
 receiver : Option (ℕ × Item) → ℕ
 receiver None = 0
@@ -49,7 +49,7 @@ ended most es (e ∷ rest) old c c' from next zero left is h =
     (record {
       offers = push_more es old c c' from next next (length es) is (within es next e at) (omega arith) is.next_low h.same h.kept
           (λ sent got a. idle_on es (ranks c.dims) next (part_of (buffers_of c) sent got) (part_of (buffers_of c') sent got) (h.idle refl sent got a));
-      refused = λ to x there. subst (λ t. standing_toward c' t ≡ most) (ap receiver (sym at ∙ there)) (h.full refl);
+      refused = λ to x there. subst (λ t. open_count_toward c' t ≡ most) (ap receiver (sym at ∙ there)) (h.full refl);
     })
 ended most es (e ∷ rest) old c c' from next (suc n) left is h =
     let at : slice_get es next ≡ Some e = first_left es next e rest left in
@@ -60,7 +60,7 @@ ended most es (e ∷ rest) old c c' from next (suc n) left is h =
     subst (λ k. Ended most es old c' from k) (sym (one_more next n)) (ended most es rest old h.0 c' from (next + 1) n (rest_left es next e rest left) more h.2)
 
 pub handed : (most : ℕ) (es : List (ℕ × Item)) (c c' : State) (from next : ℕ) → from ≤ next → from ≤ length es → All (λ (e : ℕ × Item). e.0 < ranks c.dims) es → (c.done ≡ false → c.phase ≡ Working) → (c.done ≡ true → from ≡ length es)
-    → HandsOver (AfterConveyorPush most) (drop from es) (next - from) c c' → Handed most es c c' from next
+    → HandsOver (AfterConveyorPush most) (drop from es) (next - from) c c' → PushesItems most es c c' from next
 handed most es c c' from next forward low receivers working all_pushed h =
     let start : Offers es c c from from (length es) = record {
       all = refl;

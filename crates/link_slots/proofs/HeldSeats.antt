@@ -11,7 +11,7 @@ use Rattle.link_slots.specs.Logs.{OutLog, InLog, Lists, out_of, in_of, with_out,
 use Rattle.link_slots.specs.View.{own_logs, with_logs, Speaks}
 use Rattle.link_slots.specs.HeldSlots.{Holds}
 use Rattle.link_slots.specs.Shape.{Shape, wiring, IsBlank, KeepsLaw, shipped_all}
-use Rattle.link_slots.specs.WordSteps.{Knowing, IsManned}
+use Rattle.link_slots.specs.WordSteps.{TableView, HoldsSeat}
 use mathlib.Core.Logic.{dite}
 use native.Mathlib.Decide.{ℕ_discrete}
 use Rattle.std.proofs.lemmas.List.{set-get_or}
@@ -23,16 +23,16 @@ set_twice [] i a b = refl
 set_twice (x ∷ xs) zero a b = refl
 set_twice (x ∷ xs) (suc i) a b = λ k. x ∷ set_twice xs i a b k
 
-module _ (shape : Shape) (m m' : Me Contents Knowing) (is : IsManned shape m) where
-  pub manned_with : (x : Lists Contents) → m'.0 ≡ with_logs m.0 x → Holds IsBlank (wiring shape) m.0.pick (own_logs m'.0) m'.1 → IsManned shape m'
+module _ (shape : Shape) (m m' : Me Contents TableView) (is : HoldsSeat shape m) where
+  pub manned_with : (x : Lists Contents) → m'.0 ≡ with_logs m.0 x → Holds IsBlank (wiring shape) m.0.pick (own_logs m'.0) m'.1 → HoldsSeat shape m'
   manned_with x e h = record {
-    of = ap (λ (v : Knowing). v.shape) e ∙ is.of;
+    of = ap (λ (v : TableView). v.shape) e ∙ is.of;
     speaks = subst Speaks (sym e) (speaks_with m.0 x is.speaks);
-    holds = subst (λ (q : ℕ). Holds IsBlank (wiring shape) q (own_logs m'.0) m'.1) (sym (ap (λ (v : Knowing). v.pick) e)) h;
+    holds = subst (λ (q : ℕ). Holds IsBlank (wiring shape) q (own_logs m'.0) m'.1) (sym (ap (λ (v : TableView). v.pick) e)) h;
   }
 
-  pub manned_brought : (c : List (ℕ × Contents)) → m' ≡ (m.0, c) → Holds IsBlank (wiring shape) m.0.pick (own_logs m.0) m'.1 → IsManned shape m'
-  manned_brought c e h = subst (IsManned shape) (sym e) (record { of = is.of; speaks = is.speaks; holds = subst (Holds IsBlank (wiring shape) m.0.pick (own_logs m.0)) (ap (λ (z : Me Contents Knowing). z.1) e) h })
+  pub manned_brought : (c : List (ℕ × Contents)) → m' ≡ (m.0, c) → Holds IsBlank (wiring shape) m.0.pick (own_logs m.0) m'.1 → HoldsSeat shape m'
+  manned_brought c e h = subst (HoldsSeat shape) (sym e) (record { of = is.of; speaks = is.speaks; holds = subst (Holds IsBlank (wiring shape) m.0.pick (own_logs m.0)) (ap (λ (z : Me Contents TableView). z.1) e) h })
 
 -- what was collected grows, and the relay law stays
 pub law_taken : (dims : List ℕ) (r l : ℕ) (x : Lists Contents) (looks : ℕ) → IsGrid dims → l < length x.ins → (in_of x l).taken < length (in_of x l).seen
@@ -53,15 +53,15 @@ law_taken dims r l x looks grid inside some_left law =
         (λ ne. subst (λ (z : InLog Contents). IsPrefix (map as_shipped (got_of x m)) (map as_shipped (got z))) (sym (in_there x l (taken_more (in_of x l) looks) m ne)) (one m))
 
 -- what the seat's own lists are after a change of one link
-module _ (v v' : Knowing) (speaks : Speaks v) (l : ℕ) where
+module _ (v v' : TableView) (speaks : Speaks v) (l : ℕ) where
   pub out_after : (x : Lists Contents) (o : OutLog Contents) → v' ≡ with_logs v (with_out x l o) → l < length x.outs → out_of (own_logs v') l ≡ o
-  out_after x o e h = ap (λ (z : Knowing). out_of (own_logs z) l) e ∙ ap (λ (z : Lists Contents). out_of z l) (own_with v (with_out x l o) speaks) ∙ out_here x l o h
+  out_after x o e h = ap (λ (z : TableView). out_of (own_logs z) l) e ∙ ap (λ (z : Lists Contents). out_of z l) (own_with v (with_out x l o) speaks) ∙ out_here x l o h
 
   pub in_after : (x : Lists Contents) (i : InLog Contents) → v' ≡ with_logs v (with_in x l i) → l < length x.ins → in_of (own_logs v') l ≡ i
-  in_after x i e h = ap (λ (z : Knowing). in_of (own_logs z) l) e ∙ ap (λ (z : Lists Contents). in_of z l) (own_with v (with_in x l i) speaks) ∙ in_here x l i h
+  in_after x i e h = ap (λ (z : TableView). in_of (own_logs z) l) e ∙ ap (λ (z : Lists Contents). in_of z l) (own_with v (with_in x l i) speaks) ∙ in_here x l i h
 
 -- a seat's view with what it has already
-pub same_logs : (v : Knowing) → Speaks v → with_logs v (own_logs v) ≡ v
+pub same_logs : (v : TableView) → Speaks v → with_logs v (own_logs v) ≡ v
 same_logs v speaks = ap (λ (z : List (Option (Lists Contents))). record { shape = v.shape; lists = z; pick = v.pick }) (ap (set v.lists v.pick) (sym speaks) ∙ set-get_or v.lists v.pick None)
 
 pub same_out : (x : Lists Contents) (l : ℕ) → with_out x l (out_of x l) ≡ x
@@ -71,7 +71,7 @@ pub same_in : (x : Lists Contents) (l : ℕ) → with_in x l (in_of x l) ≡ x
 same_in x l = ap (λ (z : List (InLog Contents)). record { outs = x.outs; ins = z }) (set-get_or x.ins l no_in)
 
 -- a change after a change of the same
-pub with_twice : (v : Knowing) (x y : Lists Contents) → with_logs (with_logs v x) y ≡ with_logs v y
+pub with_twice : (v : TableView) (x y : Lists Contents) → with_logs (with_logs v x) y ≡ with_logs v y
 with_twice v x y = ap (λ (z : List (Option (Lists Contents))). record { shape = v.shape; lists = z; pick = v.pick }) (set_twice v.lists v.pick (Some x) (Some y))
 
 pub out_twice : (x : Lists Contents) (l : ℕ) (o p : OutLog Contents) → with_out (with_out x l o) l p ≡ with_out x l p
@@ -81,25 +81,25 @@ pub in_twice : (x : Lists Contents) (l : ℕ) (i j : InLog Contents) → with_in
 in_twice x l i j = ap (λ (z : List (InLog Contents)). record { outs = x.outs; ins = z }) (set_twice x.ins l i j)
 
 -- one change of a link after another
-module _ (v : Knowing) (speaks : Speaks v) (l : ℕ) (long : l < length (own_logs v).outs) where
-  pub own_after : (v1 : Knowing) (o1 : OutLog Contents) → v1 ≡ with_logs v (with_out (own_logs v) l o1) → own_logs v1 ≡ with_out (own_logs v) l o1
+module _ (v : TableView) (speaks : Speaks v) (l : ℕ) (long : l < length (own_logs v).outs) where
+  pub own_after : (v1 : TableView) (o1 : OutLog Contents) → v1 ≡ with_logs v (with_out (own_logs v) l o1) → own_logs v1 ≡ with_out (own_logs v) l o1
   own_after v1 o1 e = ap own_logs e ∙ own_with v (with_out (own_logs v) l o1) speaks
 
-  pub speaks_after : (v1 : Knowing) (o1 : OutLog Contents) → v1 ≡ with_logs v (with_out (own_logs v) l o1) → Speaks v1
+  pub speaks_after : (v1 : TableView) (o1 : OutLog Contents) → v1 ≡ with_logs v (with_out (own_logs v) l o1) → Speaks v1
   speaks_after v1 o1 e = subst Speaks (sym e) (speaks_with v (with_out (own_logs v) l o1) speaks)
 
-  pub long_after : (v1 : Knowing) (o1 : OutLog Contents) → v1 ≡ with_logs v (with_out (own_logs v) l o1) → l < length (own_logs v1).outs
+  pub long_after : (v1 : TableView) (o1 : OutLog Contents) → v1 ≡ with_logs v (with_out (own_logs v) l o1) → l < length (own_logs v1).outs
   long_after v1 o1 e = subst (λ (z : ℕ). l < z) (sym (ap (λ (z : Lists Contents). length z.outs) (own_after v1 o1 e) ∙ length-set (own_logs v).outs l o1)) long
 
-  pub then_out : (v1 v2 : Knowing) (o1 o2 : OutLog Contents) → v1 ≡ with_logs v (with_out (own_logs v) l o1) → v2 ≡ with_logs v1 (with_out (own_logs v1) l o2) → v2 ≡ with_logs v (with_out (own_logs v) l o2)
-  then_out v1 v2 o1 o2 e f = f ∙ ap (λ (z : Knowing). with_logs z (with_out (own_logs v1) l o2)) e ∙ with_twice v (with_out (own_logs v) l o1) (with_out (own_logs v1) l o2)
+  pub then_out : (v1 v2 : TableView) (o1 o2 : OutLog Contents) → v1 ≡ with_logs v (with_out (own_logs v) l o1) → v2 ≡ with_logs v1 (with_out (own_logs v1) l o2) → v2 ≡ with_logs v (with_out (own_logs v) l o2)
+  then_out v1 v2 o1 o2 e f = f ∙ ap (λ (z : TableView). with_logs z (with_out (own_logs v1) l o2)) e ∙ with_twice v (with_out (own_logs v) l o1) (with_out (own_logs v1) l o2)
       ∙ ap (λ (z : Lists Contents). with_logs v (with_out z l o2)) (own_after v1 o1 e) ∙ ap (with_logs v) (out_twice (own_logs v) l o1 o2)
 
-  pub out_itself : (v1 : Knowing) (o1 : OutLog Contents) → v1 ≡ with_logs v (with_out (own_logs v) l o1) → v1 ≡ with_logs v (with_out (own_logs v) l (out_of (own_logs v1) l))
+  pub out_itself : (v1 : TableView) (o1 : OutLog Contents) → v1 ≡ with_logs v (with_out (own_logs v) l o1) → v1 ≡ with_logs v (with_out (own_logs v) l (out_of (own_logs v1) l))
   out_itself v1 o1 e = e ∙ ap (λ (z : OutLog Contents). with_logs v (with_out (own_logs v) l z)) (sym (out_after v v1 speaks l (own_logs v) o1 e long))
 
   -- the law for a parcel, where a look came between
-  pub law_after : (dims : List ℕ) (v1 : Knowing) (p : Contents) → v1 ≡ with_logs v (with_out (own_logs v) l (out_of (own_logs v1) l)) → (out_of (own_logs v1) l).sent ≡ (out_of (own_logs v) l).sent
+  pub law_after : (dims : List ℕ) (v1 : TableView) (p : Contents) → v1 ≡ with_logs v (with_out (own_logs v) l (out_of (own_logs v1) l)) → (out_of (own_logs v1) l).sent ≡ (out_of (own_logs v) l).sent
       → KeepsLaw dims v.pick (sent_of (with_out (own_logs v) l (sent_more (out_of (own_logs v) l) p))) (got_of (own_logs v))
       → KeepsLaw dims v1.pick (sent_of (with_out (own_logs v1) l (sent_more (out_of (own_logs v1) l) p))) (got_of (own_logs v1))
   law_after dims v1 p e same law =
@@ -108,7 +108,7 @@ module _ (v : Knowing) (speaks : Speaks v) (l : ℕ) (long : l < length (own_log
       let sent1 : sent_of (with_out x l (sent_more (out_of x l) p)) ≡ sent_of (with_out (own_logs v1) l (sent_more o1 p)) =
       (λ k m. same_sent m k) ∙ sym (ap sent_of (ap (λ (z : Lists Contents). with_out z l (sent_more o1 p)) own1 ∙ out_twice x l o1 (sent_more o1 p))) in
       let got1 : got_of x ≡ got_of (own_logs v1) = sym (ap got_of own1) in
-      subst (λ (z : ℕ × (ℕ → List Contents) × (ℕ → List Contents)). KeepsLaw dims z.0 z.1 z.2) (λ k. (sym (ap (λ (z : Knowing). z.pick) e) k, sent1 k, got1 k)) law
+      subst (λ (z : ℕ × (ℕ → List Contents) × (ℕ → List Contents)). KeepsLaw dims z.0 z.1 z.2) (λ k. (sym (ap (λ (z : TableView). z.pick) e) k, sent1 k, got1 k)) law
     where
       same_sent : (m : ℕ) → (out_of (with_out (own_logs v) l (sent_more (out_of (own_logs v) l) p)) m).sent ≡ (out_of (with_out (own_logs v) l (sent_more (out_of (own_logs v1) l) p)) m).sent
       same_sent m = dite (ℕ_discrete m l)

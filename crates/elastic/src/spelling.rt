@@ -79,8 +79,8 @@ fn word_of(bytes: &[u8]) -> u64
     }
 }
 
-/// Fewer than eight bytes as a word, from the lowest bits up. Four are read at once, if there are so
-/// many.
+/// Fewer than eight bytes as a word, from the lowest bits up. Four are read at once, if there are
+/// so many.
 fn short_word(bytes: &[u8]) -> u64
     requires { length bytes.now < 8 }
     ensures { result ≡ packed_word bytes.now }

@@ -99,14 +99,14 @@ returns-clause-exchanged g c =
     let left_p : IsGatheredRound g.row.CAP p.shape c.gather_all.new.of_replies.lists c.close-2.result = record { round = c.close-2.ensures.round; in_order = c.close-2.ensures.in_order; sent = c.close-2.ensures.sent; got = c.close-2.ensures.got } in
     record {
       heard = have_heard T g.row.CAP b p same c.args.steady c.args.askers all c.in_ok-all.all.items fresh c.in_ok-seated.seated.items c.in_ok-ended.ended.items c.in_ok-seated.ensures.nodes seated (g.G.Gate.notified c.args.gate.now) c.in_ok-ended.ensures.ran
-          (g.met.A.Asker g.on_bank.𝓛 g.on_bank.𝓜 g.on_bank.𝓡 ((λ s x. x), (λ x. x), (λ x. x), λ x. x)).laws c.closes_law.ensures c.in_ok-ended.ensures.over c.gather_all.new.of_queries.lists c.gather_all.new.of_replies.lists c.in_ok-over.ensures.queries_there c.in_ok-over.ensures.replies_there c.close.result c.close-2.result left_q left_p c.in_ok-progs.progs (c.in_ok-progs.ensures ∙ ap askers_of c.in_ok-over.ensures.nodes);
+          (g.met.A.Asker g.world.𝓛 g.world.𝓜 g.world.𝓡 ((λ s x. x), (λ x. x), (λ x. x), λ x. x)).laws c.closes_law.ensures c.in_ok-ended.ensures.over c.gather_all.new.of_queries.lists c.gather_all.new.of_replies.lists c.in_ok-over.ensures.queries_there c.in_ok-over.ensures.replies_there c.close.result c.close-2.result left_q left_p c.in_ok-progs.progs (c.in_ok-progs.ensures ∙ ap askers_of c.in_ok-over.ensures.nodes);
       rounds = (
         Slots c.close.result,
         Slots c.close-2.result,
         c.in_ok-add-2.ensures.added ∙ (ap (λ xs. xs ++ Slots c.close-2.result ∷ []) (c.in_ok-add.ensures.added ∙ ap (λ xs. xs ++ Slots c.close.result ∷ []) c.new-rounds.ensures)),
         subst (λ (h : Shape). RecordsExchange T c.args.askers (record { dims = h.dims; cap = g.row.CAP; slots = h.slots; by_slots = true }) c.args.steady c.close.result c.close-2.result) shape_q
             (notified T g.row.CAP b p same c.args.steady c.args.askers all c.in_ok-all.all.items fresh c.in_ok-seated.seated.items c.in_ok-ended.ended.items c.in_ok-seated.ensures.nodes seated (g.G.Gate.notified c.args.gate.now) c.in_ok-ended.ensures.ran
-            (g.met.A.Asker g.on_bank.𝓛 g.on_bank.𝓜 g.on_bank.𝓡 ((λ s x. x), (λ x. x), (λ x. x), λ x. x)).laws c.closes_law.ensures c.in_ok-ended.ensures.over c.gather_all.new.of_queries.lists c.gather_all.new.of_replies.lists c.in_ok-over.ensures.queries_there c.in_ok-over.ensures.replies_there c.close.result c.close-2.result left_q left_p),
+            (g.met.A.Asker g.world.𝓛 g.world.𝓜 g.world.𝓡 ((λ s x. x), (λ x. x), (λ x. x), λ x. x)).laws c.closes_law.ensures c.in_ok-ended.ensures.over c.gather_all.new.of_queries.lists c.gather_all.new.of_replies.lists c.in_ok-over.ensures.queries_there c.in_ok-over.ensures.replies_there c.close.result c.close-2.result left_q left_p),
       );
     }
 

@@ -80,13 +80,13 @@ returns-clause-finished g c =
     let made : BankShape = record { dims = c.args.grid.now; cap = g.row.CAP; slots = c.args.slots; by_slots = true } in
     let is = ap (λ (s : Shape). record { dims = s.dims; cap = g.row.CAP; slots = s.slots; by_slots = true }) c.in_ok-bank.ensures.bank in
     record {
-      ended = have_ended R (g.met.Q.Program g.on_bank.𝓛 g.on_bank.𝓜 g.on_bank.𝓡 ((λ s x. x), (λ x. x), (λ x. x), λ x. x)).laws c.closes_laws.ensures g.row.CAP b.shape.dims b.shape.slots (manner_of c.args.via c.args.steady) c.args.progs h (map (λ y. y.rank) ys) (logs_of round.sent) (logs_of round.got) w over
+      ended = have_ended R (g.met.Q.Program g.world.𝓛 g.world.𝓜 g.world.𝓡 ((λ s x. x), (λ x. x), (λ x. x), λ x. x)).laws c.closes_laws.ensures g.row.CAP b.shape.dims b.shape.slots (manner_of c.args.via c.args.steady) c.args.progs h (map (λ y. y.rank) ys) (logs_of round.sent) (logs_of round.got) w over
           c.requires.run.begins.0 c.requires.run.begins.1 c.requires.run.begins.3.rounds start c.requires.run.begins.3.has_rounds c.in_ok-progs.progs (c.in_ok-progs.ensures.progs ∙ ap progs_of c.in_ok-over.ensures.ranks);
       rounds = (
         Slots c.close.result,
         c.in_ok-add.ensures.added ∙ ap (λ xs. xs ++ Slots c.close.result ∷ []) c.new-rounds.ensures,
         λ n rounds. subst (λ z. RecordsRun R c.args.progs n made (manner_of c.args.via c.args.steady) z) (sym c.close.ensures.round)
-            (tells_run R (g.met.Q.Program g.on_bank.𝓛 g.on_bank.𝓜 g.on_bank.𝓡 ((λ s x. x), (λ x. x), (λ x. x), λ x. x)).laws c.closes_laws.ensures round g.row.CAP b.shape.slots (manner_of c.args.via c.args.steady) c.args.progs h (map (λ y. y.rank) ys) w order.in_order over
+            (tells_run R (g.met.Q.Program g.world.𝓛 g.world.𝓜 g.world.𝓡 ((λ s x. x), (λ x. x), (λ x. x), λ x. x)).laws c.closes_laws.ensures round g.row.CAP b.shape.slots (manner_of c.args.via c.args.steady) c.args.progs h (map (λ y. y.rank) ys) w order.in_order over
             c.requires.run.begins.0 c.requires.run.begins.1 n start rounds made is refl),
       );
     }
@@ -105,7 +105,7 @@ returns-clause-notified g c = λ n r m rounds low below.
     let sent = subst (λ (z : Round). (s : SeatView) → slice_index_or lists s.rank None ≡ Some s.lists → starting_at b.shape.dims s.rank (logs_of z.sent) ≡ posted_on s) c.close.ensures.round c.close.ensures.sent in
     let got = subst (λ (z : Round). (s : SeatView) → slice_index_or lists s.rank None ≡ Some s.lists → ending_at b.shape.dims s.rank (logs_of z.got) ≡ collected_from s) c.close.ensures.round c.close.ensures.got in
     all_told R g.row.CAP c.in_ok-bank.bank (manner_of c.args.via c.args.steady) c.args.progs c.requires.run.begins.0 c.requires.run.begins.1 start c.in_ok-all.all.items fresh c.in_ok-seated.seated.items c.in_ok-ended.ended.items c.in_ok-seated.ensures.ranks seated (g.G.Gate.notified c.args.gate.now) c.in_ok-ended.ensures.ran c.in_ok-ended.ensures.over c.in_ok-over.ensures.none_lost c.gather_all.new.gather c.in_ok-over.ensures.there order sent got
-    (g.met.Q.Program g.on_bank.𝓛 g.on_bank.𝓜 g.on_bank.𝓡 ((λ s x. x), (λ x. x), (λ x. x), λ x. x)).laws c.closes_laws.ensures n rounds r m (subst (λ (h : Shape). r < ranks h.dims) (sym c.in_ok-bank.ensures.bank) low) below
+    (g.met.Q.Program g.world.𝓛 g.world.𝓜 g.world.𝓡 ((λ s x. x), (λ x. x), (λ x. x), λ x. x)).laws c.closes_laws.ensures n rounds r m (subst (λ (h : Shape). r < ranks h.dims) (sym c.in_ok-bank.ensures.bank) low) below
 
 pub run_together-requires-send-A : goal.run_together-requires-send-A
 run_together-requires-send-A g c κs within =

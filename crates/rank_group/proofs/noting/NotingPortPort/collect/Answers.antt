@@ -1,6 +1,8 @@
 use Rattle.std.proofs.Common.{◌≡◌, true≢false, ap, ◌∙◌}
 use Rattle.item_buffer.specs.Contents.{as_shipped}
-use Rattle.rank_group.proofs.NotedMoves.{no_less_same, not_same, no_less_collected, has_collected}
+use Rattle.port_bank.specs.Port.{Others}
+use Rattle.link_slots.specs.SeatView.{posted_on, collected_from}
+use Rattle.rank_group.proofs.NotedMoves.{no_less_same, not_same, no_less_collected, has_collected, collects_among}
 use Rattle.rank_group.proofs.noting.NotingPortPort.collect.Goals as goal
 
 pub invariant_of-self : goal.invariant_of-self
@@ -27,3 +29,15 @@ invariant_of-self-in-Nothing g c =
       grew = no_less_same x y z c.args.self.now.grew sent got;
       went = λ some. not_same x y z (c.args.self.now.went some) sent got;
     }
+
+pub returns-in-Got-clause-collects : goal.returns-in-Got-clause-collects
+returns-in-Got-clause-collects g c =
+    let x = c.args.self.now.first.value.seat in
+    collects_among g.row.CAP _ c.args.link _ _ _ _ _ _ (ap (λ (o : Others). record { bank = o.bank; sent = posted_on x; got = collected_from x }) c.collect-collected.ensures.collects.same_port.others)
+    c.collect-collected.ensures.collects
+
+pub returns-in-Nothing-clause-collects : goal.returns-in-Nothing-clause-collects
+returns-in-Nothing-clause-collects g c =
+    let x = c.args.self.now.first.value.seat in
+    collects_among g.row.CAP _ c.args.link _ _ _ _ _ _ (ap (λ (o : Others). record { bank = o.bank; sent = posted_on x; got = collected_from x }) c.collect-collected.ensures.collects.same_port.others)
+    c.collect-collected.ensures.collects

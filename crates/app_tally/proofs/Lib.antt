@@ -2,6 +2,7 @@ pub mod Counted
 pub mod Fronts
 pub mod Kept
 pub mod Multisets
+pub mod Shared
 pub mod Tallied
 pub mod TallyRounds
 pub mod Walked

@@ -1,7 +1,6 @@
 -- Lines with numbers: how many times they count each line, and the tally of them.
 use Rattle.std.proofs.Common.{ℕ, zero, suc, ◌+◌, ◌<◌, ◌≡◌, cond, Result, Ok, Err, OnOk, OnErr, List, [], ◌∷◌, ◌++◌, Some, map, length, get_or, set, slice_get, replicate, fold, All, arith, refl, sym, ap, ◌∙◌, subst}
 use Rattle.std.proofs.Common.{Equal, Greater, is_eq}
-use Rattle.std.specs.List.{flat_map}
 use Rattle.std.specs.List.Sorted.{IsPermutation}
 use Rattle.std.proofs.lemmas.Grind.{flat_map-append}
 use Rattle.std.proofs.lemmas.List.{flat_map_more, length-set, length_push}
@@ -9,7 +8,7 @@ use Rattle.std.proofs.lemmas.List.Elements.{All-nil, All-cons, All-set, All-push
 use Rattle.std.proofs.lemmas.List.Sorted.{IsPermutation-map, sum_by-IsPermutation, All-permutation}
 use Rattle.std.proofs.lemmas.List.Sums.{fold-append, sum_by-append, sum_by-cons, sum_by_push}
 use Rattle.std.proofs.lemmas.Option.{same_Some}
-use Rattle.list_laws.proofs.Lists.{within, all_head, all_tail}
+use Rattle.list_laws.proofs.Lists.{all_head, all_tail}
 use Rattle.elastic.specs.Spelling.{IsLetter}
 use Rattle.app_tally.specs.Counts.{by_bytes, Entry, times, with_line, tally_of}
 use Rattle.app_tally.specs.laws.CountOrder.{itself, at_equal, at_greater}

@@ -52,7 +52,7 @@ letters_for ranks r (l ∷ ls) = one_for (counter_of ranks l == r) (counter_of r
 
 -- ---- The lines of a rank
 
-own_letters : (ranks r : ℕ) (lines : List (List ℕ)) → All IsLetter lines → All IsLetter (own_lines ranks r lines)
+pub own_letters : (ranks r : ℕ) (lines : List (List ℕ)) → All IsLetter lines → All IsLetter (own_lines ranks r lines)
 own_letters ranks r lines a =
     All-map IsLetter (λ (e : ℕ × List ℕ). e.1) (dealt (λ (e : ℕ × List ℕ). e.0 % ranks) r (enumerate_from 0 lines))
     (All-filter (λ (e : ℕ × List ℕ). e.0 % ranks == r) (λ (e : ℕ × List ℕ). IsLetter e.1) (enumerate_from 0 lines) (all_numbered IsLetter 0 lines a))
@@ -77,11 +77,6 @@ own_inside ranks r k lines low room =
     let part : List (ℕ × List ℕ) = dealt (λ (e : ℕ × List ℕ). e.0 % ranks) r (enumerate_from 0 lines) in
     let there = turn_read ranks r k lines low (subst (λ n. k < n) (length-map part (λ e. e.1)) room) in
     within lines (k * ranks + r) there.0 there.2
-
-pub own_more : (ranks r k : ℕ) (lines : List (List ℕ)) (l : List ℕ) (old new : List (List ℕ)) → r < ranks → k < length (own_lines ranks r lines) → slice_get lines (k * ranks + r) ≡ Some l
-    → old ≡ take k (own_lines ranks r lines) → new ≡ old ++ l ∷ [] → new ≡ take (k + 1) (own_lines ranks r lines)
-own_more ranks r k lines l old new low room at so_far e =
-    e ∙ ap (λ w. w ++ l ∷ []) so_far ∙ ap (λ w. take k (own_lines ranks r lines) ++ w ∷ []) (sym (own_at ranks r k lines l [] low room at)) ∙ sym (take_more (own_lines ranks r lines) k [] room)
 
 -- ---- The start
 

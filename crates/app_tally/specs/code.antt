@@ -1,3 +1,4 @@
 -- How the code keeps what the other files speak of.
 pub mod CountView
+pub mod ShareView
 pub mod TallyView

@@ -27,6 +27,7 @@ mod numbered;
 mod read;
 mod rounds;
 mod run;
+mod share;
 mod strings;
 mod tally;
 mod write;

@@ -1,6 +1,7 @@
 //! The lines of a text.
 
 ghost use Rattle.std.specs.Prelude.{◌≡◌, ◌≢◌, ◌<◌, ◌≤◌, ◌+◌, ℕ, Some, Err, length, drop, slice_get, slice_index, IfOk};
+ghost use Rattle.std.specs.Arc.{arc_value};
 ghost use Rattle.std.specs.List.{All};
 ghost use Rattle.mtx_text.specs.Grammar.{line_after};
 ghost use Rattle.app_tally.specs.declared.lines.LinesFault.TheVariants as LinesFault;
@@ -13,6 +14,7 @@ use crate::strings::{Span, Strings};
 use bale_items::NoMemory;
 use std::alloc::Global;
 use std::marker::Model;
+use std::sync::Arc;
 
 /// Bytes of a text at most.
 pub(crate) const MOST_BYTES: usize = 16_777_216;
@@ -33,33 +35,35 @@ pub enum LinesFault {
     NoMemory,
 }
 
-/// The lines of a text: at most 16,777,216, of at most 65,535 bytes each.
+/// The lines of a text: at most 16,777,216, of at most 65,535 bytes each. Ranks share them.
 #[derive(Drop)]
 pub struct Lines {
-    strings: Strings,
+    strings: Arc<Strings, Global>,
 }
 
 impl Model for Lines {
     ghost use Rattle.std.specs.Prelude.{ℕ, List};
+    ghost use Rattle.std.specs.Arc.{arc_value};
     ghost use Rattle.app_tally.specs.Lines.{IsLines};
 
     ghost Value = { List (List ℕ) };
 
-    ghost view = { λ s. s.strings };
+    ghost view = { λ s. arc_value s.strings };
 
-    ghost invariant = { λ s. IsLines s.strings };
+    ghost invariant = { λ s. IsLines (arc_value s.strings) };
 }
 
 impl Lines {
     /// The lines that lie in a text.
-    fn of_spans(text: Vec<u8>, spans: Vec<Span>) -> Lines
+    fn of_spans(alloc: Global, text: Vec<u8>, spans: Vec<Span>) -> Result<Lines, NoMemory>
         requires store { IsStore text.items spans.items }
         requires few { length spans.items ≤ 16_777_216 }
-        ensures { result ≡ strings_at text.items spans.items }
+        ensures { IfOk result (λ l. l ≡ strings_at text.items spans.items) }
     {
-        Lines {
-            strings: Strings::of_spans(text, spans),
-        }
+        let Ok(strings) = Arc::new(alloc, Strings::of_spans(text, spans)) else {
+            return Err(NoMemory);
+        };
+        Ok(Lines { strings })
     }
 
     /// Does nothing, and states what all lines keep.
@@ -85,6 +89,20 @@ impl Lines {
     {
         self.strings.at(i)
     }
+
+    /// The lines, for one rank more.
+    ///
+    /// # Errors
+    ///
+    /// `NoMemory` if they are shared too often.
+    pub(crate) fn share(&self) -> Result<Arc<Strings, Global>, NoMemory>
+        ensures { IfOk result (λ a. arc_value a ≡ self.now) }
+    {
+        match Arc::try_clone(&self.strings) {
+            Ok(strings) => Ok(strings),
+            Err(_) => Err(NoMemory),
+        }
+    }
 }
 
 /// What a text was cut into: its lines, or the number of the first one that is too long.
@@ -103,7 +121,10 @@ pub(crate) fn lines_of(alloc: Global, text: Vec<u8>) -> Result<Lines, LinesFault
         return Err(LinesFault::TooLong { line });
     }
     match cut_lines(alloc, &text) {
-        Ok(Cut::Lines(spans)) => Ok(Lines::of_spans(text, spans)),
+        Ok(Cut::Lines(spans)) => match Lines::of_spans(alloc, text, spans) {
+            Ok(lines) => Ok(lines),
+            Err(_) => Err(LinesFault::NoMemory),
+        },
         Ok(Cut::Long(line)) => Err(LinesFault::LineTooLong { line }),
         Err(_) => Err(LinesFault::NoMemory),
     }

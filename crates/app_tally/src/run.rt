@@ -1,7 +1,7 @@
 //! tally's start, and its answer.
 
 ghost use Rattle.round_program.specs.Ranks.{AreRanks, IsRankOf};
-ghost use Rattle.std.specs.Prelude.{◌≡◌, ◌<◌, ◌+◌, ◌-◌, ◌/◌, ◌^◌, ℕ, List, [], IfOk, map};
+ghost use Rattle.std.specs.Prelude.{◌≡◌, ℕ, List, [], IfOk, map};
 ghost use Rattle.std.specs.List.{All};
 ghost use Rattle.round_program.specs.Canonical.{InRound, EndsWithin};
 ghost use Rattle.elastic.specs.Mails.{mailing, mail_rules};
@@ -9,12 +9,12 @@ ghost use Rattle.app_tally.specs.code.CountView.{counted_lines, IsLineEntry};
 ghost use Rattle.app_tally.specs.Counts.{times, tally_of, IsTally};
 ghost use Rattle.app_tally.specs.Numbers.{front_number};
 ghost use Rattle.app_tally.specs.Tallies.{tally_rules};
-ghost use Rattle.app_tally.specs.TallyRuns.{own_lines, tally_begins, tally_starts, TallyEnded};
+ghost use Rattle.app_tally.specs.TallyRuns.{tally_begins, tally_starts, TallyEnded};
 
 use crate::counts::{Counts, tally_all};
 use crate::lines::Lines;
 use crate::numbered::Numbered;
-use crate::strings::Strings;
+use crate::share::Share;
 use crate::tally::Tally;
 use bale_items::NoMemory;
 use elastic::Mailer;
@@ -50,30 +50,8 @@ fn part_of(alloc: Global, lines: &Lines, ranks: u32, rank: u32) -> Result<Mailer
     ensures { IfOk result (λ m. m ≡ mailing tally_rules (tally_begins ranks lines.now rank)) }
 {
     lines.known();
-    let own = own_of(alloc, lines, ranks, rank)?;
+    let own = Share::new(lines.share()?, ranks, rank);
     Mailer::new(alloc, Tally::new(alloc, rank, ranks, own))
-}
-
-/// The lines of a rank.
-fn own_of(alloc: Global, lines: &Lines, ranks: u32, rank: u32) -> Result<Strings, NoMemory>
-    requires { IsRankOf ranks rank }
-    ensures { IfOk result (λ s. s ≡ own_lines ranks rank lines.now) }
-{
-    let (step, first) = (ranks as usize, rank as usize);
-    let mut own = Strings::new(alloc);
-    for k in 0..how_many(lines.len(), step, first) {
-        own.push(lines.at(k * step + first))?;
-    }
-    Ok(own)
-}
-
-/// How many of `len` lines a rank has.
-fn how_many(len: usize, step: usize, first: usize) -> usize
-    requires own { first < step }
-    requires small { len + step < 2 ^ 64 }
-    ensures { result ≡ (len + (step - 1 - first)) / step }
-{
-    (len + (step - 1 - first)) / step
 }
 
 /// Each distinct line that came to the ranks, with how many times it came. After the run of the

@@ -6,7 +6,7 @@ ghost use Rattle.app_tally.specs.Counts.{tally_of};
 ghost use Rattle.app_tally.specs.Tallies.{IsTallying, counter_of};
 
 use crate::multiset::Multiset;
-use crate::strings::Strings;
+use crate::share::Share;
 use bale_items::NoMemory;
 use elastic::LetterProgram;
 use std::alloc::Global;
@@ -17,12 +17,11 @@ use std::marker::Model;
 /// distinct lines are sorted when all ranks have ended.
 #[derive(Drop)]
 pub struct Tally {
-    alloc: Global,
     rank: u32,
     ranks: u32,
     round: u64,
     /// the lines that are sent in this round
-    own: Strings,
+    own: Share,
     /// the lines that came
     came: Multiset,
 }
@@ -40,12 +39,11 @@ impl Model for Tally {
 
 impl Tally {
     /// A rank before its round, with its lines.
-    pub(crate) fn new(alloc: Global, rank: u32, ranks: u32, own: Strings) -> Tally
+    pub(crate) fn new(alloc: Global, rank: u32, ranks: u32, own: Share) -> Tally
         requires { IsTallying (record { rank = rank; ranks = ranks; round = 0; own = own; came = [] }) }
         ensures { result ≡ record { rank = rank; ranks = ranks; round = 0; own = own; came = [] } }
     {
         Tally {
-            alloc,
             rank,
             ranks,
             round: 0,
@@ -108,7 +106,7 @@ impl LetterProgram for Tally {
 
     fn end_round(&mut self, votes: u64) -> Result<bool, NoMemory> {
         self.round = self.round.saturating_add(1);
-        self.own = Strings::new(self.alloc);
+        self.own.forget();
         Ok(false)
     }
 }

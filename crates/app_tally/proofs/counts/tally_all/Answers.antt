@@ -1,6 +1,6 @@
 use Rattle.std.proofs.Common.{◌≡◌, All, map, is_lt, sym, ap, subst, ◌∙◌}
 use Rattle.std.specs.List.Sorted.{IsSortedBy}
-use Rattle.std.proofs.lemmas.List.Sorted.{IsPermutation-map, All-permutation}
+use Rattle.std.proofs.lemmas.List.Sorted.{All-permutation}
 use Rattle.list_laws.proofs.Results.{if_ok_is, if_ok_from}
 use Rattle.app_tally.specs.Counts.{by_bytes, Entry, times, tally_of}
 use Rattle.app_tally.specs.Numbers.{front_number}

@@ -6,7 +6,8 @@ use Rattle.app_tally.specs.TallyRuns.{own_lines}
 abbrev pub shared_lines : ℕ → ℕ → ℕ → List (List ℕ) → List (List ℕ)
 shared_lines ranks rank len lines = take len (own_lines ranks rank lines)
 
--- The rank is one of the ranks and has no fewer lines, and all lines are as many as a text may have.
+-- The rank is one of the ranks and has at least `len` lines, and there are no more lines in all
+-- than a text may have.
 pub record IsShare (ranks rank len : ℕ) (lines : List (List ℕ)) : Type 0 where
   pub own : rank < ranks
   pub within : len ≤ length (own_lines ranks rank lines)

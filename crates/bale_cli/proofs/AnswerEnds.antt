@@ -8,7 +8,7 @@ use Rattle.bale_subjects.specs.declared.refusal.BadText.{BadText as Bad}
 use Rattle.bale_subjects.specs.declared.refusal.Refusal.{Refusal}
 use Rattle.bale_subjects.specs.declared.refusal.Refusal.TheVariants.{Usage, ReadFault, BadText, Unfit, WriteFault, NoMemory}
 use Rattle.bale_answers.specs.Answer.{Answer, IsBad, IsUnfit, refusal_answer, answer_by, answer_for, answer_to, said}
-use Rattle.bale_subjects.specs.Reading.{HasText, Told}
+use Rattle.bale_subjects.specs.Reading.{HasText, SourceHad}
 use Rattle.rank_group.specs.declared.closed_round.ClosedRound.{ClosedRound}
 use Rattle.bale_cli.specs.Run.{HasNotFit, HasRun}
 use Rattle.bale_subjects.specs.Refusals.{IsOfText, status_of, refusal_text}
@@ -155,12 +155,12 @@ is_unfit WriteFault e = absurd (omega (arith, e))
 is_unfit NoMemory e = absurd (omega (arith, e))
 
 -- what a source tells of a command's text, by the words
-told_for : (job : Option Command) (c : Command) (left : Option (List ℕ)) (text : List ℕ) → job ≡ Some c → Told job left text → HasText c.travel.generated left text
-told_for job c left text e t = subst (λ j. Told j left text) e t
+told_for : (job : Option Command) (c : Command) (left : Option (List ℕ)) (text : List ℕ) → job ≡ Some c → SourceHad job left text → HasText c.travel.generated left text
+told_for job c left text e t = subst (λ j. SourceHad j left text) e t
 
 -- a run's own status is the serial answer's, where the text is told
 pub run_status : {serial : Command → Bool} {turns : Command → Subject → List ClosedRound → Type 0} {job : Option Command} {left : Option (List ℕ)} {P : ℕ → List ℕ → Type 0} {rounds : List ClosedRound} (text : List ℕ)
-    (r : HasRun serial turns job left P rounds) → Told job left text → task_status r.command.task r.subject ≡ (answer_to serial job text).status
+    (r : HasRun serial turns job left P rounds) → SourceHad job left text → task_status r.command.task r.subject ≡ (answer_to serial job text).status
 run_status {serial = serial} {job = job} {left = left} text r t =
     sym (ap (λ (a : Answer). a.status)
     (ap (λ j. answer_to serial j text) r.asked
@@ -168,7 +168,7 @@ run_status {serial = serial} {job = job} {left = left} text r t =
 
 -- why a command doesn't fit, where the text is told
 pub unfit_for : {serial : Command → Bool} {job : Option Command} {left : Option (List ℕ)} (text : List ℕ) (u : Unfitness)
-    → HasNotFit serial job left (λ why. why ≡ u) → Told job left text → IsUnfit serial job text u
+    → HasNotFit serial job left (λ why. why ≡ u) → SourceHad job left text → IsUnfit serial job text u
 unfit_for {job = job} {left = left} text u n t =
     record { command = n.command; asked = n.asked; subject = n.subject; read = n.is.of_text text (told_for job n.command left text n.asked t); why = n.unfit ∙ ap (λ w. Some w) n.says }
 

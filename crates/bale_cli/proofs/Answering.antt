@@ -16,7 +16,7 @@ use Rattle.bale_subjects.specs.declared.refusal.Refusal.TheVariants as refusal
 use Rattle.bale_subjects.specs.declared.subject.Subject.{Subject}
 use Rattle.bale_subjects.specs.declared.unfit.Unfit.{Unfit}
 use Rattle.bale_answers.specs.Answer.{Asked}
-use Rattle.bale_subjects.specs.Reading.{reads, HasText, Told, IsSubjectOf}
+use Rattle.bale_subjects.specs.Reading.{reads, HasText, SourceHad, IsSubjectOf}
 use Rattle.bale_subjects.specs.Refusals.{IsOfText}
 use Rattle.bale_runs.specs.Reports.{ReportsCommand}
 use Rattle.bale_runs.specs.RunEnds.{IsRunEnd}
@@ -81,7 +81,7 @@ no_write (inr e) = cc
 
 -- what was asked is this command, of this subject
 pub same_asked : {serial : Command → Bool} {left : Option (List ℕ)} (c : Command) (s : Subject) (text : List ℕ) (c' : Command) (s' : Subject)
-    → ((text : List ℕ) → Told (Some c) left text → subject_asked c text ≡ Ok s) → Asked serial left (Some c) text c' s' → (c ≡ c') × (s ≡ s')
+    → ((text : List ℕ) → SourceHad (Some c) left text → subject_asked c text ≡ Ok s) → Asked serial left (Some c) text c' s' → (c ≡ c') × (s ≡ s')
 same_asked {left = left} c s text c' s' subject a =
     let e : c ≡ c' = same_Some c c' a.asked in
     let told : HasText c.travel.generated left text = subst (λ (x : Command). HasText x.travel.generated left text) (sym e) a.told in
@@ -126,7 +126,7 @@ module _ {S K : Type 0} {serial : Command → Bool} {turns : Command → Subject
   -- refused by the subject, or by the reading of it
   pub subject_refused : (c : Command) (r : Refusal) → (r ≡ refusal.ReadFault → RoseOrFull (read_faults source) (read_faults source'))
       → (r ≢ refusal.ReadFault → read_faults source' ≡ read_faults source)
-      → ((text : List ℕ) (b : BadText) → Told (Some c) (left source) text → r ≡ refusal.BadText b → subject_asked c text ≡ Err (refusal.BadText b))
+      → ((text : List ℕ) (b : BadText) → SourceHad (Some c) (left source) text → r ≡ refusal.BadText b → subject_asked c text ≡ Err (refusal.BadText b))
       → ((b : BadText) → r ≡ refusal.BadText b → reads (Some c) ≡ true)
       → ((u : Unfit) → r ≡ refusal.Unfit u → (s : Subject) × IsSubjectOf c (left source) s × (unfitness c s (serial c) ≡ Some u))
       → (r ≢ refusal.WriteFault) × (r ≢ refusal.Usage) → (reads (Some c) ≡ false → source' ≡ source)

@@ -9,7 +9,7 @@ use Rattle.bale_runs.specs.declared.exchange.RunEnd.{RunEnd}
 use Rattle.bale_subjects.specs.declared.refusal.Refusal.{Refusal}
 use Rattle.bale_subjects.specs.declared.refusal.Refusal.TheVariants as refusal
 use Rattle.bale_answers.specs.Answer.{Answer, answer_to, said}
-use Rattle.bale_subjects.specs.Reading.{Told, reads}
+use Rattle.bale_subjects.specs.Reading.{SourceHad, reads}
 use Rattle.bale_subjects.specs.Refusals.{refusal_text, status_of}
 use Rattle.bale_words.specs.Words.{command_of}
 use Rattle.bale_runs.specs.Reports.{ReportsCommand}
@@ -99,7 +99,7 @@ module _ {serial : Command → Bool} {turns : Command → Subject → List Close
         | inr e ↦ absurd (seven (o.refused.0 ∙ ap status_of e ∙ memory_is))
       ]
 
-  same_status : (answered : Result RunEnd Refusal) → Answered serial turns job left read_faults source source' taken write_faults out out' answered → IsOutcome answered said_to err_faults err err' status rounds → (text : List ℕ) → Told job (left source) text
+  same_status : (answered : Result RunEnd Refusal) → Answered serial turns job left read_faults source source' taken write_faults out out' answered → IsOutcome answered said_to err_faults err err' status rounds → (text : List ℕ) → SourceHad job (left source) text
       → status ≢ 3 → status ≢ 4 → status ≢ 7 → status ≡ (answer_to serial job text).status
   same_status (Ok f) a o text told three four seven =
       elim (ends f o) [ inl w ↦ w.fact.0 ∙ (a.ran.wrote.0 ∙ run_status text a.ran told) | inr u ↦ absurd (four u.fact.0) ]
@@ -192,7 +192,7 @@ module _ {serial : Command → Bool} {turns : Command → Subject → List Close
   no_answer (Ok f) a o nought one four = absurd (only_refused f o nought one four)
   no_answer (Err r) a o nought one four = a.no_answer
 
-  said_of : (r : Refusal) → Answered serial turns job left read_faults source source' taken write_faults out out' (Err r) → IsOutcome (Err r) said_to err_faults err err' status rounds → (text : List ℕ) → ((status ≡ 5) ⊎ (status ≡ 6) → Told job (left source) text)
+  said_of : (r : Refusal) → Answered serial turns job left read_faults source source' taken write_faults out out' (Err r) → IsOutcome (Err r) said_to err_faults err err' status rounds → (text : List ℕ) → ((status ≡ 5) ⊎ (status ≡ 6) → SourceHad job (left source) text)
       → said status (answer_to serial job text) ≡ refusal_text r
   said_of r a o text told =
       ap (λ n. said n (answer_to serial job text)) o.refused.0
@@ -200,7 +200,7 @@ module _ {serial : Command → Bool} {turns : Command → Subject → List Close
       (λ b e. a.bad text b (told (inl (o.refused.0 ∙ ap status_of e ∙ bad_is b))) (ap (λ (x : Refusal). Err x) e))
       (λ u e. unfit_for text u (a.unfit u (ap (λ (x : Refusal). Err x) e)) (told (inr (o.refused.0 ∙ ap status_of e ∙ unfit_is u))))
 
-  said_whole : (answered : Result RunEnd Refusal) → Answered serial turns job left read_faults source source' taken write_faults out out' answered → IsOutcome answered said_to err_faults err err' status rounds → (text : List ℕ) → ((status ≡ 5) ⊎ (status ≡ 6) → Told job (left source) text)
+  said_whole : (answered : Result RunEnd Refusal) → Answered serial turns job left read_faults source source' taken write_faults out out' answered → IsOutcome answered said_to err_faults err err' status rounds → (text : List ℕ) → ((status ≡ 5) ⊎ (status ≡ 6) → SourceHad job (left source) text)
       → ¬ RoseOrFull (err_faults err) (err_faults err') → said_to err' ≡ taken_with (said_to err) (said status (answer_to serial job text))
   said_whole (Ok f) a o text told calm =
       elim (ends f o) [
@@ -209,7 +209,7 @@ module _ {serial : Command → Bool} {turns : Command → Subject → List Close
       ]
   said_whole (Err r) a o text told calm = o.refused.1 calm ∙ ap (taken_with (said_to err)) (sym (said_of r a o text told))
 
-  said_front : (answered : Result RunEnd Refusal) → Answered serial turns job left read_faults source source' taken write_faults out out' answered → IsOutcome answered said_to err_faults err err' status rounds → (text : List ℕ) → ((status ≡ 5) ⊎ (status ≡ 6) → Told job (left source) text)
+  said_front : (answered : Result RunEnd Refusal) → Answered serial turns job left read_faults source source' taken write_faults out out' answered → IsOutcome answered said_to err_faults err err' status rounds → (text : List ℕ) → ((status ≡ 5) ⊎ (status ≡ 6) → SourceHad job (left source) text)
       → IsTakenPrefix (said_to err') (taken_with (said_to err) (said status (answer_to serial job text)))
   said_front (Ok f) a o text told =
       elim (ends f o) [

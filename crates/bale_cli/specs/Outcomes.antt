@@ -15,7 +15,7 @@ use Rattle.bale_subjects.specs.declared.subject.Subject.{Subject}
 use Rattle.bale_subjects.specs.declared.unfit.Unfit.{Unfit}
 use Rattle.bale_answers.specs.Answer.{IsBad}
 use Rattle.bale_subjects.specs.Refusals.{refusal_text, status_of, IsOfText}
-use Rattle.bale_subjects.specs.Reading.{reads, Told}
+use Rattle.bale_subjects.specs.Reading.{reads, SourceHad}
 use Rattle.bale_cli.specs.Run.{HasNotFit, HasRun}
 
 -- An answer, or why there is none: what the words ask for (`job`), of a source before and after, on
@@ -31,7 +31,7 @@ pub record Answered {S K : Type 0} (serial : Command → Bool)
   pub no_command : job ≡ None → IsErrAnd answered (λ r. (r ≡ refusal.Usage) ⊎ (r ≡ refusal.NoMemory))
   pub read_fault : answered ≡ Err refusal.ReadFault → RoseOrFull (read_faults source) (read_faults source')
   pub no_read_fault : answered ≢ Err refusal.ReadFault → read_faults source' ≡ read_faults source
-  pub bad : (text : List ℕ) (b : BadText) → Told job (left source) text → answered ≡ Err (refusal.BadText b)
+  pub bad : (text : List ℕ) (b : BadText) → SourceHad job (left source) text → answered ≡ Err (refusal.BadText b)
       → IsBad job text b
   pub bad_read : (b : BadText) → answered ≡ Err (refusal.BadText b) → reads job ≡ true
   pub unfit : (u : Unfit) → answered ≡ Err (refusal.Unfit u) → HasNotFit serial job (left source) (λ why. why ≡ u)

@@ -11,7 +11,7 @@ use Rattle.bale_subjects.specs.declared.refusal.Refusal.TheVariants as refusal
 use Rattle.bale_subjects.specs.declared.subject.Subject.{Subject}
 use Rattle.bale_subjects.specs.declared.unfit.Unfit.{Unfit}
 use Rattle.bale_subjects.specs.Fitness.{unfitness}
-use Rattle.bale_subjects.specs.Reading.{reads, Told, IsSubjectOf}
+use Rattle.bale_subjects.specs.Reading.{reads, SourceHad, IsSubjectOf}
 use Rattle.bale_subjects.specs.Refusals.{refusal_text}
 use Rattle.bale_answers.specs.Answer.{serial_answer, said, shown_text, Asked}
 use Rattle.bale_answers.specs.Tasks.{IsAnswer, task_status}
@@ -77,7 +77,7 @@ pub record IsRun {S K E : Type 0} (serial : Command → Bool)
   pub low : status ≤ 7
   pub usage : status ≡ 2 → command_of words ≡ None
   pub no_command : command_of words ≡ None → status ≢ 7 → status ≡ 2
-  pub status_is : (text : List ℕ) → Told (command_of words) (left source) text → status ≢ 3 → status ≢ 4 → status ≢ 7
+  pub status_is : (text : List ℕ) → SourceHad (command_of words) (left source) text → status ≢ 3 → status ≢ 4 → status ≢ 7
       → status ≡ (serial_answer serial words text).status
   pub read_fault : status ≡ 3 → RoseOrFull (read_faults source) (read_faults source')
   pub no_read_fault : status ≢ 3 → read_faults source' ≡ read_faults source
@@ -110,10 +110,10 @@ pub record IsRun {S K E : Type 0} (serial : Command → Bool)
       (λ u. Says told err_faults err err' (refusal.Unfit u))
   -- What is said on err is whole unless its own faults rose; the text matters at 5 and 6 alone. At
   -- 0 and 1 err is as it was.
-  pub said_whole : (text : List ℕ) → ((status ≡ 5) ⊎ (status ≡ 6) → Told (command_of words) (left source) text)
+  pub said_whole : (text : List ℕ) → ((status ≡ 5) ⊎ (status ≡ 6) → SourceHad (command_of words) (left source) text)
       → ¬ RoseOrFull (err_faults err) (err_faults err')
       → told err' ≡ taken_with (told err) (said status (serial_answer serial words text))
-  pub said_front : (text : List ℕ) → ((status ≡ 5) ⊎ (status ≡ 6) → Told (command_of words) (left source) text)
+  pub said_front : (text : List ℕ) → ((status ≡ 5) ⊎ (status ≡ 6) → SourceHad (command_of words) (left source) text)
       → IsTakenPrefix (told err') (taken_with (told err) (said status (serial_answer serial words text)))
   pub said_held : IsTakenPrefix (told err) (told err')
   pub silent : (status ≡ 0) ⊎ (status ≡ 1) → err' ≡ err
@@ -125,7 +125,7 @@ pub record AreTurns (left : Option (List ℕ)) (job : Option Command) (before af
   pub bounded : (text : List ℕ) (c : Command) (s : Subject) → Asked on_one_thread left job text c s
       → TurnsOfCommand c s before after
   -- If the words and the text ask for no run, there are none.
-  pub idle : (text : List ℕ) → Told job left text
+  pub idle : (text : List ℕ) → SourceHad job left text
       → ((c : Command) (s : Subject) → ¬ Asked on_one_thread left job text c s) → after ≡ before
 
 -- On one thread: all turns were made in sweeps of the ranks in the order 0, 1, .., P-1, and each

@@ -3,7 +3,7 @@ use Rattle.std.specs.Prelude.{◌≡◌, ℕ, ◌<◌, Bool, true, false, length
 use Rattle.std.specs.Prelude.{is_some, List, [], Result, OnOk, OnErr}
 use Rattle.item_buffer.specs.Capacity.{IsCap}
 use Rattle.route_tensor.specs.Grid.{ranks}
-use Rattle.link_slots.specs.Shape.{nowhere}
+use Rattle.link_slots.specs.Shape.{no_shape}
 use Rattle.link_slots.specs.SeatView.{BankIdentity, SeatView, posted_on, collected_from}
 use Rattle.link_slots.specs.Gathering.{Gathering}
 use Rattle.hop_core.specs.declared.phase.Phase.TheVariants.{Dormant, Working}
@@ -21,7 +21,7 @@ use Rattle.rank_handles.specs.Many.{MayAll, after_all}
 abbrev pub no_seat : SeatView
 no_seat = record {
   id = record { words = 0; slots = 0; views_name = 0; atom = 0; block = 0; offset = 0; slot_names = [] };
-  shape = nowhere;
+  shape = no_shape;
   rank = 0;
   lists = record { outs = []; ins = [] };
   noted = [];

@@ -46,13 +46,16 @@ impl LineIndex {
         }
     }
 
-    /// The hash of a line: FNV-1a.
+    /// The hash of a line, by its length and eight bytes at a time. The last eight may be in part
+    /// those before them again.
     pub(crate) fn hash_of(line: &[u8]) -> u32 {
-        let mut hash = 2_166_136_261u32;
-        for b in line {
-            hash = (hash ^ *b as u32).wrapping_mul(16_777_619);
+        let mut hash = line.len() as u64;
+        let mut rest = line;
+        while rest.len() > 8 {
+            hash = mixed(hash, last_word(&rest[..8]));
+            rest = &rest[8..];
         }
-        hash
+        (mixed(hash, last_word(line)) % 4_294_967_296) as u32
     }
 
     /// Whether the next line is not to be looked for, because few of those before it were found.
@@ -103,6 +106,41 @@ impl LineIndex {
         self.looked = 0;
         self.skip = lines.saturating_mul(SKIPPED);
     }
+}
+
+/// A hash with one more word: both halves of a product, so that each bit depends on many.
+#[inline(always)]
+fn mixed(hash: u64, word: u64) -> u64 {
+    let product = ((hash ^ word) as u128).wrapping_mul(0x9E37_79B9_7F4A_7C15);
+    (product % 18_446_744_073_709_551_616) as u64 ^ (product >> 64) as u64
+}
+
+/// The last eight bytes of a line as a word, or of a shorter one all bytes, some of them twice.
+#[inline(always)]
+fn last_word(line: &[u8]) -> u64 {
+    match line.last_chunk::<8>() {
+        Some(word) => u64::from_le_bytes(*word),
+        None => two_halves(line),
+    }
+}
+
+/// The first and the last four bytes of a line as a word, or all of a line of fewer bytes.
+fn two_halves(line: &[u8]) -> u64 {
+    match (line.first_chunk::<4>(), line.last_chunk::<4>()) {
+        (Some(first), Some(last)) => {
+            u32::from_le_bytes(*first) as u64 ^ ((u32::from_le_bytes(*last) as u64) << 32)
+        }
+        _ => few_bytes(line),
+    }
+}
+
+/// Up to eight bytes as a word.
+fn few_bytes(line: &[u8]) -> u64 {
+    let mut word = 0u64;
+    for b in line {
+        word = (word << 8) ^ *b as u64;
+    }
+    word
 }
 
 /// A table of four times as many places, with the numbers of the last of these lines.

@@ -26,14 +26,18 @@ pub(crate) fn collect_all<const CAP: usize, const HOPS: usize, P: Port<CAP>>(
     port: &mut P,
 )
     requires empty { spare.old ≡ blank state.old.epoch }
-    requires ready { IsReady (P.view port.old).dims (P.view port.old).rank state.old (P.view port.old).sent (P.view port.old).got }
+    requires ready { IsReady (P.view port.old).dims (P.view port.old).rank state.old (P.view port.old).sent
+        (P.view port.old).got }
     ensures empty { spare.new ≡ blank state.new.epoch }
-    ensures asked { (l : ℕ) → l < links (P.view port.old).dims → reader_at (P.view port.old).dims l ≡ (P.view port.old).rank
-        → WasAsked state.old l ((P.view port.old).got l) ((P.view port.new).got l) ((P.view port.old).noted l) ((P.view port.new).noted l)
+    ensures asked { (l : ℕ) → l < links (P.view port.old).dims → reader_at (P.view port.old).dims l
+        ≡ (P.view port.old).rank
+        → WasAsked state.old l ((P.view port.old).got l) ((P.view port.new).got l) ((P.view port.old).noted l)
+        ((P.view port.new).noted l)
         (is_idle (P.view port.new) l) }
     ensures calls { (P.view port.new).calls ≡ (P.view port.old).calls ++ collects_of state.old }
     ensures lies { (l : ℕ) (more : List Shipped) → l < links (P.view port.old).dims
-        → reader_at (P.view port.old).dims l ≡ (P.view port.old).rank → (P.view port.new).got l ≡ (P.view port.old).got l ++ more
+        → reader_at (P.view port.old).dims l ≡ (P.view port.old).rank → (P.view port.new).got l
+        ≡ (P.view port.old).got l ++ more
         → (in_of state.new l).parcel.untaken ≡ (in_of state.old l).parcel.untaken ++ flat_map (λ p. p.entries) more }
     ensures leaves { LeftByCollects state.old state.new (P.view port.old) (P.view port.new) }
 {
@@ -57,16 +61,19 @@ pub(crate) fn collect_one<const CAP: usize, const HOPS: usize, P: Port<CAP>>(
     requires ends_here { reader_at (P.view port.old).dims link ≡ (P.view port.old).rank }
     requires number { number ≡ in_index (P.view port.old).dims link }
     requires empty { spare.old ≡ blank state.old.epoch }
-    requires ready { IsReady (P.view port.old).dims (P.view port.old).rank state.old (P.view port.old).sent (P.view port.old).got }
+    requires ready { IsReady (P.view port.old).dims (P.view port.old).rank state.old (P.view port.old).sent
+        (P.view port.old).got }
     ensures empty { spare.new ≡ blank state.new.epoch }
-    ensures asked { WasAsked state.old link ((P.view port.old).got link) ((P.view port.new).got link) ((P.view port.old).noted link)
+    ensures asked { WasAsked state.old link ((P.view port.old).got link) ((P.view port.new).got link)
+        ((P.view port.old).noted link)
         ((P.view port.new).noted link) (is_idle (P.view port.new) link) }
     ensures calls { (P.view port.new).calls
         ≡ (P.view port.old).calls ++ once_if (is_wanted (in_of state.old link)) (Collect link) }
     ensures lies { (more : List Shipped) → (P.view port.new).got link ≡ (P.view port.old).got link ++ more
         → (in_of state.new link).parcel.untaken ≡ (in_of state.old link).parcel.untaken ++ flat_map
         (λ p. p.entries) more }
-    ensures inbox { (m : ℕ) → m < links (P.view port.old).dims → reader_at (P.view port.old).dims m ≡ (P.view port.old).rank → m ≢ link
+    ensures inbox { (m : ℕ) → m < links (P.view port.old).dims → reader_at (P.view port.old).dims m
+        ≡ (P.view port.old).rank → m ≢ link
         → in_of state.new m ≡ in_of state.old m }
     ensures elsewhere { InsElsewhere link (P.view port.old) (P.view port.new) }
     ensures leaves { LeftByCollects state.old state.new (P.view port.old) (P.view port.new) }

@@ -28,21 +28,27 @@ pub(crate) fn post_all<const CAP: usize, const HOPS: usize, P: Port<CAP>>(
     port: &mut P,
 ) -> Result<(), NoMemory>
     requires empty { spare.old ≡ blank state.old.epoch }
-    requires ready { IsReady (P.view port.old).dims (P.view port.old).rank state.old (P.view port.old).sent (P.view port.old).got }
+    requires ready { IsReady (P.view port.old).dims (P.view port.old).rank state.old (P.view port.old).sent
+        (P.view port.old).got }
     ensures empty { spare.new ≡ blank state.new.epoch }
     ensures served { OnOk result ((l : ℕ) → l < links (P.view port.old).dims
         → sender_at (P.view port.old).dims l ≡ (P.view port.old).rank
-        → WasServed state.new l ((P.view port.old).looks_out l) ((P.view port.new).looks_out l) (is_crowded (P.view port.new) l)) }
+        → WasServed state.new l ((P.view port.old).looks_out l) ((P.view port.new).looks_out l)
+        (is_crowded (P.view port.new) l)) }
     ensures calls { OnOk result ((P.view port.new).calls
-        ≡ (P.view port.old).calls ++ posts_below state.new (P.view port.old).sent (P.view port.new).sent (links state.new.dims)) }
+        ≡ (P.view port.old).calls ++ posts_below state.new (P.view port.old).sent (P.view port.new).sent
+        (links state.new.dims)) }
     ensures stops { IsErr result
-        → StopsAt state.new (P.view port.old).sent (P.view port.new).sent (P.view port.old).calls (P.view port.new).calls }
+        → StopsAt state.new (P.view port.old).sent (P.view port.new).sent (P.view port.old).calls
+        (P.view port.new).calls }
     ensures memory { P.Memory.GROWS ≡ false → IsOk result }
     ensures forgotten { IsErr result → state.new.pulled ≡ None }
-    ensures waits { (l : ℕ) → l < links (P.view port.old).dims → sender_at (P.view port.old).dims l ≡ (P.view port.old).rank
+    ensures waits { (l : ℕ) → l < links (P.view port.old).dims → sender_at (P.view port.old).dims l
+        ≡ (P.view port.old).rank
         → (P.view port.new).sent l ≡ (P.view port.old).sent l
         → (out_of state.new l).parcel.untaken ≡ (out_of state.old l).parcel.untaken }
-    ensures posted { (l : ℕ) → l < links (P.view port.old).dims → sender_at (P.view port.old).dims l ≡ (P.view port.old).rank
+    ensures posted { (l : ℕ) → l < links (P.view port.old).dims → sender_at (P.view port.old).dims l
+        ≡ (P.view port.old).rank
         → WasPosted (out_of state.old l).parcel.untaken ((P.view port.old).sent l) ((P.view port.new).sent l) }
     ensures leaves { LeftByPosts state.old state.new (P.view port.old) (P.view port.new) }
 {
@@ -66,9 +72,11 @@ pub(crate) fn post_one<const CAP: usize, const HOPS: usize, P: Port<CAP>>(
     requires starts_here { sender_at (P.view port.old).dims link ≡ (P.view port.old).rank }
     requires number { number ≡ out_index (P.view port.old).dims link }
     requires empty { spare.old ≡ blank state.old.epoch }
-    requires ready { IsReady (P.view port.old).dims (P.view port.old).rank state.old (P.view port.old).sent (P.view port.old).got }
+    requires ready { IsReady (P.view port.old).dims (P.view port.old).rank state.old (P.view port.old).sent
+        (P.view port.old).got }
     ensures empty { spare.new ≡ blank state.new.epoch }
-    ensures served { OnOk result (WasServed state.new link ((P.view port.old).looks_out link) ((P.view port.new).looks_out link)
+    ensures served { OnOk result (WasServed state.new link ((P.view port.old).looks_out link)
+        ((P.view port.new).looks_out link)
         (is_crowded (P.view port.new) link)) }
     ensures calls { OnOk result ((P.view port.new).calls ≡ (P.view port.old).calls
         ++ once_if (was_served state.new link ((P.view port.old).sent link) ((P.view port.new).sent link)) (Post link)) }
@@ -76,9 +84,11 @@ pub(crate) fn post_one<const CAP: usize, const HOPS: usize, P: Port<CAP>>(
     ensures still_due { IsErr result → IsDue state.new link }
     ensures memory { P.Memory.GROWS ≡ false → IsOk result }
     ensures forgotten { IsErr result → state.new.pulled ≡ None }
-    ensures out { (m : ℕ) → m < links (P.view port.old).dims → sender_at (P.view port.old).dims m ≡ (P.view port.old).rank → m ≢ link
+    ensures out { (m : ℕ) → m < links (P.view port.old).dims → sender_at (P.view port.old).dims m
+        ≡ (P.view port.old).rank → m ≢ link
         → out_of state.new m ≡ out_of state.old m }
-    ensures posted { WasPosted (out_of state.old link).parcel.untaken ((P.view port.old).sent link) ((P.view port.new).sent link) }
+    ensures posted { WasPosted (out_of state.old link).parcel.untaken ((P.view port.old).sent link)
+        ((P.view port.new).sent link) }
     ensures waits { (P.view port.new).sent link ≡ (P.view port.old).sent link → (out_of state.new link).parcel.untaken
         ≡ (out_of state.old link).parcel.untaken }
     ensures elsewhere { OutsElsewhere link (P.view port.old) (P.view port.new) }

@@ -144,8 +144,10 @@ impl<const CAP: usize> InLink<CAP> {
         requires link { link < links (P.view port.old).dims }
         requires ends_here { reader_at (P.view port.old).dims link ≡ (P.view port.old).rank }
         requires epoch { self.old.due ≡ true → lasts ((P.view port.old).got link) ≡ epoch }
-        ensures moved { WasCollected exchange self.old self.new ((P.view port.old).got link) ((P.view port.new).got link) }
-        ensures still_stuck { self.new.due ≡ true → AskedWithoutSuccess ((P.view port.old).noted link) ((P.view port.new).noted link)
+        ensures moved { WasCollected exchange self.old self.new ((P.view port.old).got link)
+            ((P.view port.new).got link) }
+        ensures still_stuck { self.new.due ≡ true → AskedWithoutSuccess ((P.view port.old).noted link)
+            ((P.view port.new).noted link)
             (is_idle (P.view port.new) link) }
         ensures calls { (P.view port.new).calls ≡ (P.view port.old).calls ++ once_if self.old.due (Collect link) }
         ensures elsewhere { InsElsewhere link (P.view port.old) (P.view port.new) }

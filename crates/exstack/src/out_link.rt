@@ -115,15 +115,20 @@ impl<const CAP: usize> OutLink<CAP> {
         requires link { link < links (P.view port.old).dims }
         requires starts_here { sender_at (P.view port.old).dims link ≡ (P.view port.old).rank }
         requires epoch { self.old.due ≡ true → lasts ((P.view port.old).sent link) ≡ epoch }
-        requires law { RelayLaw (P.view port.old).dims (P.view port.old).rank (P.view port.old).sent (P.view port.old).got }
-        ensures moved { WasPostedInRound last epoch self.old self.new ((P.view port.old).sent link) ((P.view port.new).sent link) }
+        requires law { RelayLaw (P.view port.old).dims (P.view port.old).rank (P.view port.old).sent
+            (P.view port.old).got }
+        ensures moved { WasPostedInRound last epoch self.old self.new ((P.view port.old).sent link)
+            ((P.view port.new).sent link) }
         ensures still_stuck { IsOk result → self.new.due ≡ true
-            → AskedWithoutSuccess ((P.view port.old).looks_out link) ((P.view port.new).looks_out link) (is_crowded (P.view port.new) link) }
-        ensures calls { OnOk result ((P.view port.new).calls ≡ (P.view port.old).calls ++ once_if self.old.due (Post link)) }
+            → AskedWithoutSuccess ((P.view port.old).looks_out link) ((P.view port.new).looks_out link)
+            (is_crowded (P.view port.new) link) }
+        ensures calls { OnOk result ((P.view port.new).calls
+            ≡ (P.view port.old).calls ++ once_if self.old.due (Post link)) }
         ensures elsewhere { OutsElsewhere link (P.view port.old) (P.view port.new) }
         ensures no_post { IsErr result → (P.view port.new).calls ≡ (P.view port.old).calls }
         ensures still_due { IsErr result → self.new.due ≡ true }
-        ensures law { RelayLaw (P.view port.old).dims (P.view port.old).rank (P.view port.new).sent (P.view port.old).got }
+        ensures law { RelayLaw (P.view port.old).dims (P.view port.old).rank (P.view port.new).sent
+            (P.view port.old).got }
         ensures memory { P.Memory.GROWS ≡ false → IsOk result }
         ensures left { LeftByStackPosts (P.view port.old) (P.view port.new) }
     {

@@ -121,7 +121,8 @@ impl<const CAP: usize> Exstack<CAP> {
         ensures same { self.new ≡ record self.old { outs = self.new.outs; ins = self.new.ins } }
         ensures cycle { (n : ℕ) → AgreesIn n self.old (P.view port.old).sent (P.view port.old).got
             → AgreesIn n self.new (P.view port.new).sent (P.view port.new).got }
-        ensures round { MadeRound last exchange self.old self.new (P.view port.old).sent (P.view port.new).sent (P.view port.old).got
+        ensures round { MadeRound last exchange self.old self.new (P.view port.old).sent (P.view port.new).sent
+            (P.view port.old).got
             (P.view port.new).got }
         ensures missing { IfOk result (λ o. o ≡ missing_link self.new) }
         ensures asks { OnOk result (AsksOnce self.old self.new (P.view port.old) (P.view port.new)) }

@@ -101,7 +101,8 @@ fn make_room<const CAP: usize>(
     requires ring { IsRing CAP first waiting places.old.items }
     ensures ring { IfOk result (λ f. IsRing CAP f waiting places.new.items) }
     ensures room { OnOk result (waiting < length places.new.items) }
-    ensures same { IfOk result (λ f. in_transit f waiting places.new.items ≡ in_transit first waiting places.old.items) }
+    ensures same { IfOk result (λ f. in_transit f waiting places.new.items
+        ≡ in_transit first waiting places.old.items) }
     ensures unchanged { OnErr result (places.new.items ≡ places.old.items) }
 {
     if waiting < places.len() {
@@ -126,7 +127,8 @@ fn add_place<const CAP: usize>(
     requires full { length places.old.items ≤ waiting }
     ensures ring { IfOk result (λ f. IsRing CAP f waiting places.new.items) }
     ensures room { OnOk result (waiting < length places.new.items) }
-    ensures same { IfOk result (λ f. in_transit f waiting places.new.items ≡ in_transit first waiting places.old.items) }
+    ensures same { IfOk result (λ f. in_transit f waiting places.new.items
+        ≡ in_transit first waiting places.old.items) }
     ensures unchanged { OnErr result (places.new.items ≡ places.old.items) }
 {
     places.reserve(1)?;

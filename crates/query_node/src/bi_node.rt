@@ -100,7 +100,8 @@ impl<A: Asker, const CAP: usize, const HOPS: usize> BiNode<A, CAP, HOPS> {
             (R.view replies.old).sent (R.view replies.old).got }
         ensures kept { (start : A) → IsBiNode A.talk start self.old (P.view queries.old).sent (P.view queries.old).got
             (R.view replies.old).sent (R.view replies.old).got
-            → IsBiNode A.talk start self.new (P.view queries.new).sent (P.view queries.new).got (R.view replies.new).sent
+            → IsBiNode A.talk start self.new (P.view queries.new).sent (P.view queries.new).got
+            (R.view replies.new).sent
             (R.view replies.new).got }
         ensures steps { steps.new ≡ steps.old + 1 }
 

@@ -34,7 +34,8 @@ pub(crate) fn turn_over<const CAP: usize, const HOPS: usize, Q: Program, P: Port
     ensures none { result ≡ Ok false → (rank.new.node.run.next ≡ rank.old.node.run.next)
         × (progress rank.new ≡ progress rank.old) }
     ensures kept { OnOk result ((manner : Manner) (h : ℕ → Q)
-        → IsRank Q.rules (P.view port.old).dims CAP manner (P.view port.old).rank h rank.old (P.view port.old).sent (P.view port.old).got
+        → IsRank Q.rules (P.view port.old).dims CAP manner (P.view port.old).rank h rank.old (P.view port.old).sent
+        (P.view port.old).got
         → (g : ℕ → Q) × (g 0 ≡ h 0) × IsRank Q.rules (P.view port.old).dims CAP manner (P.view port.old).rank g rank.new
         (P.view port.new).sent (P.view port.new).got) }
 {

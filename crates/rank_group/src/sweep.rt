@@ -152,7 +152,8 @@ pub(crate) fn sweep<const CAP: usize, const HOPS: usize, Q: Program, L: Ledger>(
         (record { ranks = all.new.items; sent = sent_of b; got = got_of b; turns = steps.new })) }
     ensures swept { (manner : Manner) (starts : List Q) (n : ℕ) (h : ℕ → ℕ → Q)
         → DrivePlan Q.rules bank.entry.dims bank.entry.slots starts n
-        → (w : RanksOnBank Q.rules bank.entry.dims CAP bank.entry.slots manner starts h all.old.items (sent_of bank.entry)
+        → (w : RanksOnBank Q.rules bank.entry.dims CAP bank.entry.slots manner starts h all.old.items
+        (sent_of bank.entry)
         (got_of bank.entry))
         → IfOk result (λ b. AfterSomeTurns Q.rules bank.entry.dims CAP bank.entry.slots manner starts order.now
         (length order.now) w.cycle all.old.items (sent_of bank.entry) (got_of bank.entry) all.new.items (sent_of b)

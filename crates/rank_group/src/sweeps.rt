@@ -43,7 +43,8 @@ pub(crate) fn run_all<const CAP: usize, const HOPS: usize, Q: Program, L: Ledger
         → RanksOnBank Q.rules bank.entry.dims CAP bank.entry.slots manner starts h all.old.items (sent_of bank.entry)
         (got_of bank.entry)
         → IfOk result (λ b. (g : ℕ → ℕ → Q)
-        × RanksOnBank Q.rules bank.entry.dims CAP bank.entry.slots manner starts g all.new.items (sent_of b) (got_of b)) }
+        × RanksOnBank Q.rules bank.entry.dims CAP bank.entry.slots manner starts g all.new.items (sent_of b)
+        (got_of b)) }
     // No epoch was completed but by a turn.
     ensures fewest { IfOk result (λ b. all_progress bank.entry.dims all.new.items + steps.old
         ≤ all_progress bank.entry.dims all.old.items + steps.new) }

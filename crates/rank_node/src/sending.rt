@@ -32,7 +32,8 @@ fn push_each<Q: Program, const CAP: usize, const HOPS: usize>(
     from: u64,
 ) -> u64
     requires { MayPushOn (to_send Q.rules prog.now.value sends) out.old.conveyor.now from }
-    ensures handed { PushesItems CAP (to_send Q.rules prog.now.value sends) out.old.conveyor.now out.new.conveyor.now from
+    ensures handed { PushesItems CAP (to_send Q.rules prog.now.value sends) out.old.conveyor.now out.new.conveyor.now
+        from
         result }
     ensures same_conveyor { out.new.conveyor.ghost_name ≡ out.old.conveyor.ghost_name }
 {

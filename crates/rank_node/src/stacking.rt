@@ -69,8 +69,10 @@ fn proceed<const CAP: usize, Q: Program, P: Port<CAP>>(
     requires may { may_proceed exstack.old.stage ≡ true }
     requires turns { MayTurn Q.rules (record { run = running run.old; mover = Stacking CAP exstack.old })
         (P.view port.old) }
-    ensures polls { Polls CAP Q.rules (running run.old) (running run.new) exstack.old exstack.new (P.view port.old) (P.view port.new) }
-    ensures cycle { (quota : ℕ → ℕ) (n : ℕ) → InCycle Q.rules quota n (running run.old) exstack.old (P.view port.old).sent
+    ensures polls { Polls CAP Q.rules (running run.old) (running run.new) exstack.old exstack.new (P.view port.old)
+        (P.view port.new) }
+    ensures cycle { (quota : ℕ → ℕ) (n : ℕ) → InCycle Q.rules quota n (running run.old) exstack.old
+        (P.view port.old).sent
         (P.view port.old).got
         → InCycle Q.rules quota (cycle_after n exstack.old.stage) (running run.new) exstack.new (P.view port.new).sent
         (P.view port.new).got }
@@ -101,8 +103,10 @@ fn exchange<const CAP: usize, Q: Program, P: Port<CAP>>(
     requires may { may_exchange exstack.old.stage ≡ true }
     requires turns { MayTurn Q.rules (record { run = running run.old; mover = Stacking CAP exstack.old })
         (P.view port.old) }
-    ensures polls { Polls CAP Q.rules (running run.old) (running run.new) exstack.old exstack.new (P.view port.old) (P.view port.new) }
-    ensures cycle { (quota : ℕ → ℕ) (n : ℕ) → InExchange Q.rules quota n (running run.old) exstack.old (P.view port.old).sent
+    ensures polls { Polls CAP Q.rules (running run.old) (running run.new) exstack.old exstack.new (P.view port.old)
+        (P.view port.new) }
+    ensures cycle { (quota : ℕ → ℕ) (n : ℕ) → InExchange Q.rules quota n (running run.old) exstack.old
+        (P.view port.old).sent
         (P.view port.old).got
         → InCycle Q.rules quota n (running run.new) exstack.new (P.view port.new).sent (P.view port.new).got }
     ensures in_full { OnOk result (TurnsInFull Q.rules

@@ -38,7 +38,8 @@ pub(crate) fn take_all<Q: Program, const CAP: usize, const HOPS: usize>(
     taken: Taken,
 ) -> Taken
     requires begun { conveyor.old.phase ≢ Phase.Dormant }
-    ensures takes { PullsItems Q.rules voting conveyor.old conveyor.new prog.old.value prog.new.value taken.sum result.sum
+    ensures takes { PullsItems Q.rules voting conveyor.old conveyor.new prog.old.value prog.new.value taken.sum
+        result.sum
         taken.spoiled result.spoiled }
     ensures read { AllRead conveyor.new }
 {
@@ -59,7 +60,8 @@ fn take_batch<Q: Program, const CAP: usize, const HOPS: usize>(
 ) -> Taken
     requires begun { conveyor.old.phase ≢ Phase.Dormant }
     requires lowest { lowest_unread conveyor.old ≡ Some number }
-    ensures takes { PullsItems Q.rules voting conveyor.old conveyor.new prog.old.value prog.new.value taken.sum result.sum
+    ensures takes { PullsItems Q.rules voting conveyor.old conveyor.new prog.old.value prog.new.value taken.sum
+        result.sum
         taken.spoiled result.spoiled }
     ensures less { waiting conveyor.new.ins < waiting conveyor.old.ins }
 {

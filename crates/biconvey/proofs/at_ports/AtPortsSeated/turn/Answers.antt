@@ -1,4 +1,4 @@
-use Rattle.std.proofs.Common.{◌≡◌, ◌==◌, ◌+◌, Bool, true, false, true≢false, not, ◌||◌, refl, ap, sym, subst, ◌∙◌, arith, eqb-true}
+use Rattle.std.proofs.Common.{rules, ◌≡◌, ◌==◌, ◌+◌, Bool, true, false, true≢false, not, ◌||◌, refl, ap, sym, subst, ◌∙◌, arith, eqb-true}
 use Rattle.std.proofs.lemmas.Bool.{eq-eqb}
 use Rattle.port_bank.specs.Port.{Others}
 use Rattle.rank_crews.proofs.Crewed.{neither}
@@ -6,6 +6,17 @@ use Rattle.biconvey.specs.Seats.{BiSeatedState, HasSomeBiRun, TookBiTurns, Asker
 use Rattle.biconvey.specs.RanksOverBanks.{is_over}
 use Rattle.biconvey.proofs.OnPorts.{one_seat, has_way, turned, none_moved, some_moved, any_of}
 use Rattle.biconvey.proofs.at_ports.AtPortsSeated.turn.Goals as goal
+
+pub turn-requires : goal.turn-requires
+turn-requires g c =
+    let i = c.self.inside in
+    let q = c.watch.new.self.port.seat in
+    let p = c.watch-2.new.self.port.seat in
+    let x : BiSeatedState g.row.A.Denot = record { node = i.node; queries = q; replies = p; turns = i.turns } in
+    let was : BiSeatedState g.row.A.Denot = record { node = i.node; queries = i.queries.port.seat; replies = i.replies.port.seat; turns = i.turns } in
+    let at : x ≡ was = ap (λ k. record { node = i.node; queries = k.seat; replies = p; turns = i.turns }) c.watch.ensures.port ∙ ap (λ k. record { node = i.node; queries = i.queries.port.seat; replies = k.seat; turns = i.turns }) c.watch-2.ensures.port in
+    let w = subst (HasSomeBiRun g.A.Asker.talk g.row.CAP) (sym at) c.self.invariant in
+    (search rules, (record { same_dims = sym w.way.queries.same_dims; same_rank = sym w.way.queries.same_rank }, (record { same_dims = sym w.way.replies.same_dims; same_rank = sym w.way.replies.same_rank }, (w.start, w.way.node))))
 
 pub invariant_of-self : goal.invariant_of-self
 invariant_of-self g c =

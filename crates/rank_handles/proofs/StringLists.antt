@@ -30,6 +30,11 @@ pub nothing_either : {X : Type 0} (b : Bool) → ◌≡◌ {A = List X} (cond b 
 nothing_either true = refl
 nothing_either false = refl
 
+pub replicate_or : {X : Type 0} (n i : ℕ) (x : X) → get_or (replicate n x) i x ≡ x
+replicate_or zero i x = refl
+replicate_or (suc n) zero x = refl
+replicate_or (suc n) (suc i) x = replicate_or n i x
+
 -- ---- Pushing what is pending
 
 first_case : (b : Bool) (e : ℕ × Item) (es : List (ℕ × Item)) → map (λ x. x.1) (cond b (e ∷ es) es) ≡ cond b (e.1 ∷ map (λ x. x.1) es) (map (λ x. x.1) es)

@@ -4,7 +4,7 @@ use Rattle.bale_items.specs.declared.item.Item.{Item}
 use Rattle.rank_handles.specs.Seated.{Seated}
 use Rattle.rank_handles.specs.Answers.{push_answer}
 use Rattle.rank_handles.specs.declared.answer.Answer.TheVariants.{Good}
-use Rattle.rank_handles.proofs.StringSteps.{pending_none, pending_more, pending_stuck, pending_all}
+use Rattle.rank_handles.proofs.StringPushes.{pending_none, pending_more, pending_stuck, pending_all}
 use Rattle.rank_handles.proofs.strings.push_pending.Goals as goal
 
 pub loop-pushed-init : goal.loop-pushed-init

@@ -1,5 +1,5 @@
 -- Pulling items, and the strings that they make whole.
-use Rattle.std.proofs.Common.{◌≡◌, ℕ, ◌+◌, ◌-◌, ◌<◌, ◌≤◌, ◌==◌, ◌&&◌, Bool, true, false, not, cond, nat_lt, List, [], ◌∷◌, ◌++◌, length, take, Option, Some, None, Result, Ok, Err, arith, refl, sym, ap, ◌∙◌, subst, inl, inr}
+use Rattle.std.proofs.Common.{◌≡◌, ◌≢◌, ℕ, ◌+◌, ◌-◌, ◌<◌, ◌≤◌, ◌==◌, ◌&&◌, Bool, true, false, not, cond, nat_lt, List, [], ◌∷◌, ◌++◌, length, take, Option, Some, None, Result, Ok, Err, arith, refl, sym, ap, ◌∙◌, subst, inl, inr}
 use Rattle.std.specs.Prelude.{is_some, if◌then◌else◌}
 use Rattle.std.specs.Option.{option_map}
 use Rattle.std.proofs.lemmas.Bool.{cases_eq, eq-eqb, ne_eqb}
@@ -14,12 +14,12 @@ use Rattle.port_bank.specs.Flow.{flow}
 use Rattle.port_bank.specs.Machine.{Part, Step, after}
 use Rattle.port_bank.specs.Machine.Step.{Pull, Unpull, Idle}
 use Rattle.link_slots.specs.SeatView.{collected_from}
+use Rattle.hop_core.specs.declared.phase.Phase.TheVariants.{Dormant}
 use Rattle.hop_core.specs.State.{State}
 use Rattle.convey.specs.Buffers.{back_of}
 use Rattle.elastic.specs.Mails.{is_whole, letter_of, with_next_item, begun_after}
 use Rattle.rank_handles.specs.declared.answer.Answer.{Answer}
-use Rattle.rank_handles.specs.declared.answer.Answer.TheVariants.{Good, Full, Nothing, More, Near, NoMemory, NotBegun, BegunAlready, DoneAlready, NoSuchRank, NotComplete, Gone, BadNumbers, InUse, RankTaken, NoMoreEpochs, NotLent, TooLong}
-use Rattle.rank_handles.specs.declared.answer.Answer.TheVariants as answer
+use Rattle.rank_handles.specs.declared.answer.Answer.TheVariants.{Good, Nothing, NoMemory}
 use Rattle.rank_handles.specs.Seated.{Seated, Moved, part}
 use Rattle.rank_handles.specs.Answers.{pull_result, unpull_answer}
 use Rattle.rank_handles.specs.Calls.{Pulls, Unpulls}
@@ -27,7 +27,7 @@ use Rattle.rank_handles.specs.Strings.{strings_of, with_string}
 use Rattle.rank_handles.specs.ElasticKept.{AreStrings, KeepsBegun, IsElastic, came_from, unpulled, OnlyPulled, NoString, OneString, StringPulled}
 use Rattle.rank_handles.proofs.StringLists.{pushed_same, read_whole, read_part, begun_as_pulled, BegunAs, put_back}
 use Rattle.rank_handles.proofs.StringWalks.{walked_none, walked_one, walked_both, ahead_walked, step_is, phase_after, read_same, undone_same}
-use Rattle.rank_handles.proofs.StringAdvances.{before}
+use Rattle.rank_handles.proofs.StringAnswers.{pull_err}
 
 only_none : (a : Seated) → OnlyPulled a a
 only_none a = record { walked = walked_none a; links = refl; phase = refl; done = refl; epoch = refl; pushed = refl }
@@ -56,26 +56,14 @@ one_string_after f l a b c x y = record {
 
 -- with what was pulled before it
 pub pulled_after : (r : Result ℕ Answer) (l : List ℕ) (a b c : Seated) → NoString a b → StringPulled r l b c → StringPulled r l a c
-pulled_after (Ok f) l a b c x y = one_string_after f l a b c x y
-pulled_after (Err Nothing) l a b c x y = (no_string_both a b c x y.0, y.1)
-pulled_after (Err NoMemory) l a b c x y = no_string_both a b c x y
-pulled_after (Err NotBegun) l a b c x y = y
-pulled_after (Err Good) l a b c x y = y
-pulled_after (Err Full) l a b c x y = y
-pulled_after (Err More) l a b c x y = y
-pulled_after (Err Near) l a b c x y = y
-pulled_after (Err answer.Complete) l a b c x y = y
-pulled_after (Err BegunAlready) l a b c x y = y
-pulled_after (Err DoneAlready) l a b c x y = y
-pulled_after (Err NoSuchRank) l a b c x y = y
-pulled_after (Err NotComplete) l a b c x y = y
-pulled_after (Err Gone) l a b c x y = y
-pulled_after (Err BadNumbers) l a b c x y = y
-pulled_after (Err InUse) l a b c x y = y
-pulled_after (Err RankTaken) l a b c x y = y
-pulled_after (Err NoMoreEpochs) l a b c x y = y
-pulled_after (Err NotLent) l a b c x y = y
-pulled_after (Err TooLong) l a b c x y = y
+pulled_after (Ok f) l a b c x y = record { given = one_string_after f l a b c x y.given; none = y.none; nothing = y.nothing; errors = y.errors }
+pulled_after (Err e) l a b c x y = record { given = y.given; none = no_string_both a b c x y.none; nothing = y.nothing; errors = y.errors }
+
+pub string_given : (f : ℕ) (l : List ℕ) (a b : Seated) → OneString f l a b → StringPulled (Ok f) l a b
+string_given f l a b one = record { given = one; none = tt; nothing = λ e. absurd cc; errors = tt }
+
+pub string_refused : (l : List ℕ) (a b : Seated) → NoString a b → StringPulled (Err NoMemory) l a b
+string_refused l a b none = record { given = tt; none = none; nothing = λ e. absurd cc; errors = inr refl }
 
 only_pulled : (s : Step) (a b : Seated) → b.seat ≡ a.seat → Moved s a.state.phase a b → (after s (part a)).epoch ≡ (part a).epoch → (after s (part a)).done ≡ (part a).done → (after s (part a)).pushed ≡ (part a).pushed → OnlyPulled a b
 only_pulled s a b links m epoch done pushed =
@@ -218,14 +206,21 @@ module _ (begun : List (List Item)) (f : ℕ) (x : Item) (a b : Seated) (read : 
       )
 
 -- where there is none
-pub item_none : (begun : List (List Item)) (a b : Seated) → KeepsBegun a begun → pull_result a ≡ Err Nothing → Pulls a b → NoString a b × (pull_result b ≡ Err Nothing) × KeepsBegun b begun
+pub item_none : (l : List ℕ) (begun : List (List Item)) (a b : Seated) (e : Answer) → a.state.phase ≢ Dormant → KeepsBegun a begun → pull_result a ≡ Err e → Pulls a b
+    → StringPulled (Err e) l a b × KeepsBegun b begun
 unfolding Pulls
-item_none begun a b read none pulls =
+item_none l begun a b e started read is_err pulls =
+    let is_none : e ≡ Nothing = pull_err a.state.phase _ e started is_err in
+    let none : pull_result a ≡ Err Nothing = is_err ∙ ap Err is_none in
     let m = pulls.nothing none in let is = step_is Idle a.state.phase a b m in
     let only : OnlyPulled a b = only_pulled Idle a b pulls.links m refl refl refl in
     let same : (part b).pulled ≡ (part a).pulled = ap (λ (p : Part). p.pulled) is in (
-      record { only = only; strings = ap strings_of same },
-      pulls.still_none none,
+      record {
+        given = tt;
+        none = record { only = only; strings = ap strings_of same };
+        nothing = λ _. pulls.still_none none;
+        errors = inl is_none;
+      },
       read_same a b begun only.walked.dims only.epoch same read,
     )
 

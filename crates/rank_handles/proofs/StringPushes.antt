@@ -70,7 +70,7 @@ none_pushed pending d x b c bad pushes =
           )
     ]
 
-first_rank : List (ℕ × Item) → ℕ
+abbrev first_rank : List (ℕ × Item) → ℕ
 first_rank [] = 0
 first_rank (e ∷ es) = e.0
 

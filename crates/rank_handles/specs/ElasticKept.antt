@@ -1,6 +1,6 @@
 -- What is kept of an elastic rank, and what one of its pulls of an item leaves.
 use Rattle.std.specs.Prelude.{◌≡◌, ◌≢◌, ℕ, ◌+◌, ◌-◌, ◌<◌, List, [], ◌∷◌, length, slice_index_or, Option, Some, None}
-use Rattle.std.specs.Prelude.{Result, Ok, Err, false}
+use Rattle.std.specs.Prelude.{◌⊎◌, Result, Ok, Err, IfOk, OnErr, IfErr, false}
 use Rattle.std.specs.List.{All, flat_map}
 use Rattle.bale_items.specs.declared.item.Item.{Item}
 use Rattle.list_laws.specs.Sums.{total}
@@ -94,29 +94,13 @@ pub record OneString (from : ℕ) (string : List ℕ) (old new : Seated) : Type 
   pub only : OnlyPulled old new
   pub strings : strings_of (part new).pulled ≡ with_string (strings_of (part old).pulled) (part old).epoch from string
 
--- By what a call answered that pulled as many items as there were, up to one that completed a
--- string.
-abbrev pub StringPulled : Result ℕ Answer → List ℕ → Seated → Seated → Type 0
-StringPulled (Ok from) string old new = OneString from string old new
-StringPulled (Err answer.Nothing) string old new = NoString old new × (pull_result new ≡ Err answer.Nothing)
-StringPulled (Err answer.NoMemory) string old new = NoString old new
-StringPulled (Err answer.NotBegun) string old new = ⊥
-StringPulled (Err answer.Good) string old new = ⊥
-StringPulled (Err answer.Full) string old new = ⊥
-StringPulled (Err answer.More) string old new = ⊥
-StringPulled (Err answer.Near) string old new = ⊥
-StringPulled (Err answer.Complete) string old new = ⊥
-StringPulled (Err answer.BegunAlready) string old new = ⊥
-StringPulled (Err answer.DoneAlready) string old new = ⊥
-StringPulled (Err answer.NoSuchRank) string old new = ⊥
-StringPulled (Err answer.NotComplete) string old new = ⊥
-StringPulled (Err answer.Gone) string old new = ⊥
-StringPulled (Err answer.BadNumbers) string old new = ⊥
-StringPulled (Err answer.InUse) string old new = ⊥
-StringPulled (Err answer.RankTaken) string old new = ⊥
-StringPulled (Err answer.NoMoreEpochs) string old new = ⊥
-StringPulled (Err answer.NotLent) string old new = ⊥
-StringPulled (Err answer.TooLong) string old new = ⊥
+-- What pulls of items leave, up to one that completes a string: this string of this sender, or no
+-- string. Then no item is left, or there was no memory.
+pub record StringPulled (result : Result ℕ Answer) (string : List ℕ) (old new : Seated) : Type 0 where
+  pub given : IfOk result (λ from. OneString from string old new)
+  pub none : OnErr result (NoString old new)
+  pub nothing : result ≡ Err answer.Nothing → pull_result new ≡ Err answer.Nothing
+  pub errors : IfErr result (λ a. (a ≡ answer.Nothing) ⊎ (a ≡ answer.NoMemory))
 
 -- By what a call answered that pulled one item: one less is left to be pulled, unless there was
 -- none or no memory.

@@ -1,6 +1,6 @@
 -- What each call on an elastic rank answers, and what it leaves.
 use Rattle.std.specs.Prelude.{◌≡◌, ◌≢◌, ◌==◌, ◌&&◌, not, ⊤, ℕ, nat_lt, if◌then◌else◌, Bool, List, [], ◌∷◌, length}
-use Rattle.std.specs.Prelude.{Option, Some, None, Result, Ok, Err, is_some, ℤ}
+use Rattle.std.specs.Prelude.{◌⊎◌, Option, Some, None, Result, Ok, Err, IfOk, IfErr, OnErr, is_some, ℤ}
 use Rattle.bale_items.specs.declared.item.Item.{Item}
 use Rattle.route_tensor.specs.Grid.{ranks}
 use Rattle.port_bank.specs.Machine.{Step}
@@ -76,29 +76,15 @@ pub record PullingNoString (old new : ElasticState) : Type 0 where
   pub phase : new.rank.state.phase ≡ old.rank.state.phase
   pub pending : new.pending ≡ old.pending
 
--- By what a pull answered: nothing only if nothing is left to be pulled. No other answers come.
-abbrev pub PullOf : Result ℕ Answer → ElasticState → ElasticState → Type 0
-PullOf (Ok from) old new = (old.rank.state.phase ≢ Dormant) × PullingString from old new
-PullOf (Err answer.Nothing) old new =
-    (old.rank.state.phase ≢ Dormant) × PullingNoString old new × (pull_result new.rank ≡ Err answer.Nothing)
-PullOf (Err answer.NoMemory) old new = (old.rank.state.phase ≢ Dormant) × PullingNoString old new
-PullOf (Err answer.NotBegun) old new = (old.rank.state.phase ≡ Dormant) × (new ≡ old)
-PullOf (Err answer.Good) old new = ⊥
-PullOf (Err answer.Full) old new = ⊥
-PullOf (Err answer.More) old new = ⊥
-PullOf (Err answer.Near) old new = ⊥
-PullOf (Err answer.Complete) old new = ⊥
-PullOf (Err answer.BegunAlready) old new = ⊥
-PullOf (Err answer.DoneAlready) old new = ⊥
-PullOf (Err answer.NoSuchRank) old new = ⊥
-PullOf (Err answer.NotComplete) old new = ⊥
-PullOf (Err answer.Gone) old new = ⊥
-PullOf (Err answer.BadNumbers) old new = ⊥
-PullOf (Err answer.InUse) old new = ⊥
-PullOf (Err answer.RankTaken) old new = ⊥
-PullOf (Err answer.NoMoreEpochs) old new = ⊥
-PullOf (Err answer.NotLent) old new = ⊥
-PullOf (Err answer.TooLong) old new = ⊥
+-- A pull of a string. Before the first epoch, and between two, it is misuse. Otherwise it gives a
+-- string, or gives none and loses none: because nothing is left to be pulled, or for want of memory.
+pub record PullOf (result : Result ℕ Answer) (old new : ElasticState) : Type 0 where
+  pub not_begun : old.rank.state.phase ≡ Dormant → (result ≡ Err answer.NotBegun) × (new ≡ old)
+  pub given : old.rank.state.phase ≢ Dormant → IfOk result (λ from. PullingString from old new)
+  pub none : old.rank.state.phase ≢ Dormant → OnErr result (PullingNoString old new)
+  pub errors : old.rank.state.phase ≢ Dormant
+      → IfErr result (λ a. (a ≡ answer.Nothing) ⊎ (a ≡ answer.NoMemory))
+  pub nothing : result ≡ Err answer.Nothing → pull_result new.rank ≡ Err answer.Nothing
 
 -- Pending items were pushed, in order, until the next one found no room.
 pub record PushingPending (pending : List (ℕ × Item)) (old : Seated) (left : List (ℕ × Item)) (new : Seated) : Type 0 where

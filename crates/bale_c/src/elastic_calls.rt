@@ -145,7 +145,7 @@ pub extern "C" fn bale_elastic_reset(rank: &mut BaleElastic) -> i32
     there.reset().code()
 }
 
-/// How many ranks there are; 0 where the handle has no rank.
+/// How many ranks there are; 0 if the handle has no rank.
 #[unsafe(no_mangle)]
 pub extern "C" fn bale_elastic_ranks(rank: &mut BaleElastic) -> u32
     ensures value { result ≡ ranks_in (option_map (λ s. s.rank) (elastic_of rank.old)) }

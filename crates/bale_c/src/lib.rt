@@ -10,7 +10,7 @@
 //! | `bale_begin`, `bale_push`, `bale_pull`, `bale_unpull`, `bale_advance`, `bale_reset` | `rank_calls` | as the conveyor's own calls; each is a step of the exchange machine |
 //! | `bale_ranks`, `bale_phase`, `bale_rank_free` | `rank_calls` | how many ranks there are; how far the rank is |
 //! | `bale_statistics` | `rank_calls` | what the rank sent and received so far |
-//! | `bale_lend`, `bale_pulled` | `view_calls` | the entries that the next pulls give, where they are; pulls the first ones |
+//! | `bale_lend`, `bale_pulled` | `view_calls` | the entries that the next pulls give, if they are; pulls the first ones |
 //! | `bale_elastic_new`, `bale_epush`, `bale_elastic_pull`, `bale_elastic_string`, and the other `bale_elastic_` calls | `elastic_calls` | strings of up to 65,535 bytes: pushed whole or not at all, and lent whole |
 //! | `bale_push_many`, `bale_pull_many` | `many_calls` | how many items were moved, as by so many single calls |
 //!

@@ -30,7 +30,7 @@ fn further(len: u64) -> u64
 ///
 /// # Errors
 ///
-/// `NoMemory` where there was none for the lists.
+/// `NoMemory` if there was none for the lists.
 pub fn none_begun(alloc: Global, ranks: u32) -> Result<Vec<Vec<Item>>, NoMemory>
     ensures { IfOk result (λ v. map (λ l. l.items) v.items ≡ replicate ranks []) }
 {

@@ -34,7 +34,7 @@ elastic_in (Some (Rank r)) = None
 elastic_in (Some Empty) = None
 elastic_in None = None
 
--- What a call answers: Gone where there is none, and else by what is there.
+-- What a call answers: Gone if there is none, and else by what is there.
 abbrev pub if_there : {T : Type 0} → Option T → (T → Answer) → Answer
 if_there None f = Gone
 if_there (Some x) f = f x

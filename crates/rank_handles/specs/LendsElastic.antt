@@ -11,7 +11,7 @@ use Rattle.rank_handles.specs.Lends.{with_elastic}
 abbrev pub having_elastic : BaleElastic → ElasticState → BaleElastic
 having_elastic h rank = record { held = with_elastic h.held rank; live = true; told = refl }
 
--- once the borrow r ends, the handle has the rank that was left behind r; where nothing was lent,
+-- once the borrow r ends, the handle has the rank that was left behind r; if nothing was lent,
 -- it is as it was
 abbrev pub lends_elastic_of : MutBor BaleElastic → Option (MutBor ElasticState) → Fml
 lends_elastic_of h r = LendsIf handle_row elastic_row h r (having_elastic h.now) h.now

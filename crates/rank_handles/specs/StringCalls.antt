@@ -26,7 +26,7 @@ pub record Walked (old new : Seated) : Type 0 where
   pub rank : new.state.rank ≡ old.state.rank
   pub dims : new.state.dims ≡ old.state.dims
 
--- What a call leaves of an elastic rank that is there. Where there is none, there is none after it.
+-- What a call leaves of an elastic rank that is there. If there is none, there is none after it.
 abbrev pub OnElastic : (ElasticState → ElasticState → Type 0) → Option ElasticState → Option ElasticState → Type 0
 OnElastic R (Some old) (Some new) = R old new
 OnElastic R None None = ⊤
@@ -38,7 +38,7 @@ pub record SameStrings (old new : ElasticState) : Type 0 where
   pub toward : strings_toward new ≡ strings_toward old
   pub from : strings_from new ≡ strings_from old
 
--- What a push of a string answers, where there is memory. Full comes only while a part of the
+-- What a push of a string answers, if there is memory. Full comes only while a part of the
 -- string before it is pending.
 abbrev pub is_none_pending : List (ℕ × Item) → Bool
 is_none_pending pending = length pending == 0
@@ -77,7 +77,8 @@ pub record PullingNoString (old new : ElasticState) : Type 0 where
   pub pending : new.pending ≡ old.pending
 
 -- A pull of a string. Before the first epoch, and between two, it is misuse. Otherwise it gives a
--- string, or gives none and loses none: because nothing is left to be pulled, or for want of memory.
+-- string, or gives none and loses none: because nothing is left to be pulled, or because memory ran
+-- out.
 pub record PullOf (result : Result ℕ Answer) (old new : ElasticState) : Type 0 where
   pub not_begun : old.rank.state.phase ≡ Dormant → (result ≡ Err answer.NotBegun) × (new ≡ old)
   pub given : old.rank.state.phase ≢ Dormant → IfOk result (λ from. PullingString from old new)
@@ -155,7 +156,7 @@ unfoldable pub StringLentBy : List ℕ → Option ElasticState → Type 0
 StringLentBy bytes None = ⊥
 StringLentBy bytes (Some s) = s.string ≡ Some bytes
 
--- A pull by C: what it answered is this code, and the sender is put where it is asked for.
+-- A pull by C: what it answered is this code, and the sender is put if it is asked for.
 abbrev pub from_given : Result ℕ Answer → ℕ → ℕ
 from_given (Ok from) there = from
 from_given (Err a) there = there

@@ -56,7 +56,7 @@ impl Model for ElasticRank {
 }
 
 impl ElasticRank {
-    /// An elastic rank of a rank that was just made, where none of its senders has begun a string.
+    /// An elastic rank of a rank that was just made, if none of its senders has begun a string.
     pub(crate) fn new(alloc: Global, rank: AnyRank, begun: Vec<Vec<Item>>) -> ElasticRank
         requires undone { IsUndone rank }
         requires fresh { IsUntouched (part rank) }
@@ -132,7 +132,7 @@ impl ElasticRank {
         Answer::Good
     }
 
-    /// What becomes of the wish to push a string, where there is memory.
+    /// What becomes of the wish to push a string, if there is memory.
     fn answer(&self, bytes: &[u8], to: u32) -> Answer
         ensures { result ≡ string_answer self.now bytes.now to }
     {

@@ -7,7 +7,7 @@
 //!
 //! | | |
 //! |---|---|
-//! | `BaleGroup`, `BaleRank`, `BaleElastic` | the handles: nothing, or a `Part`, which `take` takes out and `put` puts in; `get_mut` lends a rank where it stands |
+//! | `BaleGroup`, `BaleRank`, `BaleElastic` | the handles: nothing, or a `Part`, which `take` takes out and `put` puts in; `get_mut` lends a rank if it stands |
 //! | `make_group`, `make_rank`, `make_elastic` | a group of these numbers; a rank of a group, for items or for strings |
 //! | `Exchange` | the conveyor's own calls, each a step of the exchange machine, one or many at a time |
 //! | `ElasticRank` | strings of up to 65,535 bytes over such an exchange: `push` and `pull` of whole strings |

@@ -89,7 +89,7 @@ pub fn make_elastic(alloc: Global, part: &mut Part, rank: u32) -> Result<Box<Par
         Answer::Good => (),
         wrong => return Err(wrong),
     }
-    // As in make_rank, nothing that can fail for memory stands after the seat was given out.
+    // As in make_rank, nothing that can fail for memory comes after the seat was given out.
     let Ok(mut room) = Box::new(alloc, Part::Empty) else {
         return Err(Answer::NoMemory);
     };

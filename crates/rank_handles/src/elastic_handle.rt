@@ -35,7 +35,7 @@ impl BaleElastic {
         }
     }
 
-    /// The rank, if there is one, if it stands.
+    /// The rank in place, if there is one.
     #[inline]
     pub fn get_mut(&mut self) -> Option<&mut ElasticRank>
         ensures* writes_back { sem 𝓛 (lends_elastic_of self.entry result) }

@@ -56,7 +56,7 @@ impl Model for ElasticRank {
 }
 
 impl ElasticRank {
-    /// An elastic rank of a rank that was just made, if none of its senders has begun a string.
+    /// An elastic rank of a rank that was just made, none of whose senders has begun a string.
     pub(crate) fn new(alloc: Global, rank: AnyRank, begun: Vec<Vec<Item>>) -> ElasticRank
         requires undone { IsUndone rank }
         requires fresh { IsUntouched (part rank) }

@@ -68,7 +68,7 @@ impl Held {
         rank
     }
 
-    /// The elastic rank, if it stands.
+    /// The elastic rank, in place.
     #[inline]
     pub(crate) fn elastic_mut(&mut self) -> &mut ElasticRank
         requires there { is_some (elastic_in self.old.value) ≡ true }

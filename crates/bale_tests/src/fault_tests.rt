@@ -17,8 +17,8 @@ const TALLY: &str = "0 1 \n1 a\n1 a b\n2 b\n";
 /// Two entries are promised, and one is there.
 const FEW: &[u8] = b"%%MatrixMarket matrix coordinate pattern general\n3 3 2\n1 1\n";
 
-/// An answer of a thousand lines, longer than the program's buffer.
-const COLUMNS: &[u8] = b"%%MatrixMarket matrix coordinate pattern general\n1000 1000 0\n";
+/// An answer of three thousand lines, longer than the program's buffer.
+const COLUMNS: &[u8] = b"%%MatrixMarket matrix coordinate pattern general\n3000 3000 0\n";
 
 const BY_BICONVEY: &str = "ig --via biconvey --grid 2x2 --buffer 1";
 

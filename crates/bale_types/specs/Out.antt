@@ -11,10 +11,11 @@ abbrev pub appended_bytes : {K : Type 0} → (K → Option (List ℕ)) → Out K
 appended_bytes taken out = taken_with (taken out.sink.now) (take out.len out.buffer)
 
 -- how many bytes wait in the buffer, if so many waited and more came: those that are over whole
--- buffers of 4,096 left_over waited more = (waited + more) % 4096; if none came, as many wait as
--- before 4,095 and 1 more leave none, and 4,000 and 100 more leave 4
+-- buffers of 16,384; if none came, as many as before
+-- left_over waited more = (waited + more) % 16_384
+-- 16,383 and 1 more leave none, and 16,300 and 100 more leave 16
 abbrev pub left_over : ℕ → ℕ → ℕ
-left_over waited more = if more == 0 then waited else (waited + more) % 4096
+left_over waited more = if more == 0 then waited else (waited + more) % 16_384
 
 -- what a call on an output buffer does to its sink, by its answer
 -- counts: how the sink's count of faults goes with the answer
@@ -48,6 +49,6 @@ pub record Appends {K T E : Type 0} (taken : K → Option (List ℕ)) (faults : 
   pub written : Writes taken faults bytes old new result
   pub kept : OnErr result (IsTakenPrefix (appended_bytes taken old) (appended_bytes taken new))
   pub part : OnErr result (IsTakenPrefix (appended_bytes taken new) (taken_with (appended_bytes taken old) bytes))
-  pub gathers : old.len + length bytes < 4096 → new.sink.now ≡ old.sink.now
-  pub no_failure : old.len + length bytes < 4096 → IsOk result
+  pub gathers : old.len + length bytes < 16_384 → new.sink.now ≡ old.sink.now
+  pub no_failure : old.len + length bytes < 16_384 → IsOk result
   pub waits : OnOk result (new.len ≡ left_over old.len (length bytes))

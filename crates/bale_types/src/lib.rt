@@ -8,7 +8,7 @@
 //! | `MemSource`, `MemSink` | a source and a sink in memory, which fail at the calls named |
 //! | `StdinSource`, `StdoutSink`, `StderrSink` | the standard streams |
 //! | `Line` | a line of an answer before it is written |
-//! | `Out` | a buffer of 4,096 bytes in front of a sink |
+//! | `Out` | a buffer of 16,384 bytes in front of a sink |
 //! | `LineText` | what has a line's text, and lays it into a buffer: a `Line`, or a writer of many lines |
 //! | `lay_byte`, `lay_natural_by`, `lay_integer` | lay a byte or a number into a buffer, for a writer of a line an entry |
 //! | `Fours` | the four digits of each number below 10,000, for such a writer |

@@ -16,9 +16,9 @@ use super::stream::Sink;
 use itoa::Buffer;
 
 /// How many bytes are gathered before they are handed to the sink.
-const BUFFER: usize = 4096;
+const BUFFER: usize = 16_384;
 
-/// A buffer of 4,096 bytes in front of a sink. It is not flushed when it is dropped.
+/// A buffer of 16,384 bytes in front of a sink. It is not flushed when it is dropped.
 #[derive(Drop)]
 pub struct Out<'a, K> {
     /// Where the bytes go.

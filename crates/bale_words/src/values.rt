@@ -58,11 +58,7 @@ fn slots_from(text: &[u8]) -> Option<u32>
     ensures { result ≡ slots_of text.now }
 {
     let n = number_between(1, MOST_SLOTS as u64, text)? as u32;
-    if is_slot_count(n) {
-        Some(n)
-    } else {
-        None
-    }
+    if is_slot_count(n) { Some(n) } else { None }
 }
 
 /// The number of `--buffer`; 64 if it isn't given.

@@ -8,7 +8,8 @@ use Rattle.route_tensor.specs.Ends.{sender_at, reader_at}
 use Rattle.port_bank.specs.Logs.{starting_at, ending_at}
 use Rattle.port_bank.specs.Port.{Others}
 use Rattle.port_bank.specs.Shapes.{IsConveyorShape}
-use Rattle.port_bank.specs.Plain.{Bank, sent_of, got_of, others_of, crowded_of, idle_of}
+use Rattle.port_bank.specs.Plain.{Bank, sent_of, got_of, others_of}
+use Rattle.port_bank.proofs.Ports.{crowded_of, idle_of}
 use Rattle.convey.specs.Buffers.{in_of}
 use Rattle.round_program.specs.Talks.{Talk}
 use Rattle.query_node.specs.States.{BiState, Sides, IsBiNode}

@@ -16,8 +16,8 @@ ghost use Rattle.biconvey.specs.DrivePromises.{HasExchanged, HasSweptBoth};
 ghost use Rattle.rank_node.specs.Fits.{FitsGrid};
 
 use crate::nodes::{nodes_of, take_askers};
-use crate::sweeps::run_all;
 use crate::sweep::Banks;
+use crate::sweeps::run_all;
 use bale_items::{NoMemory, Steps};
 use convey::closes_law;
 use port_bank::PlainBank;

@@ -16,10 +16,10 @@ mod at_ports;
 mod drive;
 mod nodes;
 mod on_threads;
-mod sweeps;
 mod seating;
 mod serial;
 mod sweep;
+mod sweeps;
 mod threads;
 
 pub use bale_items::Steps;

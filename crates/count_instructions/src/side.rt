@@ -64,9 +64,9 @@ impl<const CAP: usize, const HOPS: usize> Side<CAP, HOPS> {
         begins: bool,
         items: u64,
     ) -> Result<bool, NoMemory>
-        requires at_port { IsAtPort P.Port self.old.conveyor port.old }
+        requires at_port { IsAtPort self.old.conveyor (P.view port.old) }
         ensures sound { IsSound (buffers_of self.new.conveyor) }
-        ensures keeps { KeepsPort P.Port self.old.conveyor self.new.conveyor port.old port.new }
+        ensures keeps { KeepsPort self.old.conveyor self.new.conveyor (P.view port.old) (P.view port.new) }
     {
         self.begin(begins);
         self.push(items);
@@ -109,8 +109,8 @@ impl<const CAP: usize, const HOPS: usize> Side<CAP, HOPS> {
     }
 
     fn advance<P: Port<CAP>>(&mut self, port: &mut P, items: u64) -> Result<bool, NoMemory>
-        requires at_port { IsAtPort P.Port self.old.conveyor port.old }
-        ensures keeps { KeepsPort P.Port self.old.conveyor self.new.conveyor port.old port.new }
+        requires at_port { IsAtPort self.old.conveyor (P.view port.old) }
+        ensures keeps { KeepsPort self.old.conveyor self.new.conveyor (P.view port.old) (P.view port.new) }
     {
         if self.conveyor.phase() == Phase::Dormant {
             return Ok(true);

@@ -1,12 +1,20 @@
 //! A program that carries the letters of a letter program.
 
+<<<<<<< HEAD
 ghost use Rattle.std.specs.Prelude.{◌≡◌, ◌<◌, ◌^◌, OnOk, OnErr, IfOk, length};
+=======
+ghost use Rattle.std.specs.Prelude.{◌≡◌, ◌<◌, ◌^◌, [], ◌∷◌, true, OnOk, OnErr, IfOk, map, length, replicate};
+>>>>>>> origin/main
 ghost use Rattle.elastic.specs.Spelling.{IsLetter};
 ghost use Rattle.elastic.specs.LetterLaws.{StillSends};
-ghost use Rattle.elastic.specs.Mails.{mailing};
+ghost use Rattle.elastic.specs.Mails.{mailing, is_whole, letter_of};
 
 use crate::letter_program::LetterProgram;
+<<<<<<< HEAD
 use crate::reading::{forget_all, none_begun, take_from};
+=======
+use crate::reading::{first_bytes, forget_all, is_alone, only_letter, take_from};
+>>>>>>> origin/main
 use crate::spelling::spelled;
 use bale_items::{Item, NoMemory};
 use round_program::Program;
@@ -104,6 +112,9 @@ impl<Q: LetterProgram> Program for Mailer<Q> {
     }
 
     fn absorb(&mut self, from: u32, item: Item) -> Result<(), NoMemory> {
+        if is_alone(&self.begun, from as usize, item) {
+            return hand_over_item(&mut self.inner, from, item);
+        }
         if take_from(&mut self.begun, &mut self.letter, from as usize, item)? {
             return hand_over(&mut self.inner, from, &self.letter);
         }
@@ -137,6 +148,18 @@ fn hand_over<Q: LetterProgram>(inner: &mut Q, from: u32, letter: &[u8]) -> Resul
     let absorbed = inner.absorb_letter(from, letter);
     inner.known();
     absorbed
+}
+
+/// Has a letter program absorb the letter that an item is alone, whose bytes are on the stack.
+fn hand_over_item<Q: LetterProgram>(inner: &mut Q, from: u32, item: Item) -> Result<(), NoMemory>
+    requires rank { from < Q.rules.ranks inner.old }
+    requires whole { is_whole (item ∷ []) ≡ true }
+    ensures absorbed { OnOk result (inner.new ≡ Q.rules.absorbed inner.old from (letter_of (item ∷ []))) }
+    ensures refused { OnErr result (StillSends Q.rules inner.old inner.new) }
+    ensures valid { Q.rules.valid inner.new }
+{
+    let bytes = first_bytes(item);
+    hand_over(inner, from, only_letter(&bytes, item))
 }
 
 /// Has a letter program end its round.

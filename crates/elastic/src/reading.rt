@@ -2,6 +2,7 @@
 
 ghost use Rattle.std.specs.Prelude.{◌≡◌, ◌<◌, ◌++◌, ◌∷◌, [], true, IfOk, OnOk, OnErr, cond, length, map, replicate, slice_set};
 ghost use Rattle.std.specs.List.{flat_map};
+ghost use Rattle.std.specs.Int.{w64, to_le_bytes};
 ghost use Rattle.elastic.specs.Spelling.{further, bytes_in, letter_from};
 ghost use Rattle.elastic.specs.Mails.{is_whole, letter_of, with_next_item, begun_after};
 
@@ -39,6 +40,40 @@ pub fn none_begun(alloc: Global, ranks: u32) -> Result<Vec<Vec<Item>>, NoMemory>
         begun.push(Vec::new(alloc))?;
     }
     Ok(begun)
+}
+
+/// Whether an item that comes from the rank `from` is a letter alone: nothing is begun before it,
+/// and nothing follows.
+#[inline(always)]
+pub(crate) fn is_alone(begun: &Vec<Vec<Item>>, from: usize, item: Item) -> bool
+    requires { from < length begun.now.items }
+    ensures letter { result ≡ true → with_next_item (map (λ l. l.items) begun.now.items) from item ≡ item ∷ [] }
+    ensures whole { result ≡ true → is_whole (item ∷ []) ≡ true }
+    ensures begun { result ≡ true → begun_after (map (λ l. l.items) begun.now.items) from item
+        ≡ map (λ l. l.items) begun.now.items }
+{
+    begun[from].is_empty() && is_whole(&[item])
+}
+
+/// The bytes of the letter that an item begins, as many as it holds.
+#[inline(always)]
+pub(crate) fn first_bytes(item: Item) -> [u8; 16]
+    ensures { result ≡ to_le_bytes w64 item.b ++ to_le_bytes w64 item.c }
+{
+    let mut bytes = [0u8; 16];
+    bytes[..8].copy_from_slice(&item.b.to_le_bytes());
+    bytes[8..].copy_from_slice(&item.c.to_le_bytes());
+    bytes
+}
+
+/// The letter that an item is alone, of the bytes that it holds.
+#[inline(always)]
+pub(crate) fn only_letter(bytes: &[u8; 16], item: Item) -> &[u8]
+    requires whole { is_whole (item ∷ []) ≡ true }
+    requires bytes { bytes.now ≡ to_le_bytes w64 item.b ++ to_le_bytes w64 item.c }
+    ensures { result.now ≡ letter_of (item ∷ []) }
+{
+    &bytes[..(item.a % 65_536) as usize]
 }
 
 /// Takes an item in from the rank `from`, by what all senders have begun, and answers whether its

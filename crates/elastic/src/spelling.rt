@@ -1,6 +1,7 @@
 //! Letters as items.
 
 ghost use Rattle.std.specs.Prelude.{◌≡◌, ◌<◌, ◌++◌, OnOk, IfOk, length, map, drop};
+ghost use Rattle.std.specs.Int.{w32, from_le_bytes};
 ghost use Rattle.elastic.specs.Spelling.{packed_word, letter_head, next_item, spelling};
 ghost use Rattle.elastic.specs.Mails.{spelling_of};
 
@@ -82,15 +83,28 @@ fn word_of(bytes: &[u8]) -> u64
     }
 }
 
-/// Fewer than eight bytes as a word, from the lowest bits up.
+/// Fewer than eight bytes as a word, from the lowest bits up. Four are read at once, if there are so
+/// many.
 fn short_word(bytes: &[u8]) -> u64
     requires { length bytes.now < 8 }
     ensures { result ≡ packed_word bytes.now }
 {
-    if bytes.is_empty() {
-        return 0;
+    match bytes.first_chunk::<4>() {
+        Some(four) => { u32::from_le_bytes(*four) as u64 + ((few_bytes(&bytes[4..]) as u64) << 32) }
+        None => few_bytes(bytes) as u64,
     }
-    let mut word = [0u8; 8];
-    word[..bytes.len()].copy_from_slice(bytes);
-    u64::from_le_bytes(word)
+}
+
+/// Fewer than four bytes as a number, from the lowest bits up.
+#[inline(always)]
+fn few_bytes(bytes: &[u8]) -> u32
+    requires { length bytes.now < 4 }
+    ensures { result ≡ from_le_bytes w32 bytes.now }
+{
+    match bytes {
+        [] => 0,
+        [a] => *a as u32,
+        [a, b] => *a as u32 + *b as u32 * 256,
+        [a, b, c, ..] => *a as u32 + *b as u32 * 256 + *c as u32 * 65_536,
+    }
 }

@@ -9,7 +9,8 @@ use Rattle.route_tensor.specs.Ends.{sender_at, reader_at}
 use Rattle.port_bank.specs.Logs.{Logs, starting_at, ending_at}
 use Rattle.port_bank.specs.Flow.{IsPrefix}
 use Rattle.port_bank.specs.Port.{Others}
-use Rattle.port_bank.specs.Plain.{Bank, sent_of, got_of, others_of, crowded_of, idle_of}
+use Rattle.port_bank.specs.Plain.{Bank, sent_of, got_of, others_of}
+use Rattle.port_bank.proofs.Ports.{crowded_of, idle_of}
 use Rattle.round_program.specs.Rules.{Rules}
 use Rattle.rank_node.specs.declared.turn.Turn.{Turn}
 use Rattle.rank_node.specs.declared.turn.Turn.TheVariants.{Going, Ended}

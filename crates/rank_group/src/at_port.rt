@@ -2,8 +2,8 @@
 ghost use Rattle.std.specs.Prelude.{◌<◌, ◌^◌};
 
 use crate::noting::NotingPort;
-use crate::sweep::Rank;
 use crate::rank_turn::turn_over;
+use crate::sweep::Rank;
 use bale_items::{NoMemory, Steps};
 use port_bank::Port;
 use rank_crews::{GateLog, Seated};

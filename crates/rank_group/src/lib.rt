@@ -31,14 +31,14 @@ mod defaults;
 mod drive;
 mod list_parts;
 mod noting;
+mod rank_turn;
 mod ranks;
 mod rest;
-mod sweeps;
 mod seating;
 mod sweep;
+mod sweeps;
 mod thread_count;
 mod threads;
-mod rank_turn;
 
 pub use at_port::await_turn;
 pub use bale_items::Steps;

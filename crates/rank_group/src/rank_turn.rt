@@ -24,9 +24,9 @@ pub(crate) fn turn_over<const CAP: usize, const HOPS: usize, Q: Program, P: Port
     requires fixed { P.Memory.GROWS ≡ false }
     requires going { rank.old.over ≡ false }
     requires few { epoch_in rank.old.node.mover < 2 ^ 63 }
-    requires rank { (manner : Manner) × (h : ℕ → Q) × IsRank Q.rules (P.dims port.old) CAP manner
-        (P.rank port.old) h rank.old (P.sent port.old) (P.got port.old) }
-    ensures same_port { SamePort P.Port port.old port.new }
+    requires rank { (manner : Manner) × (h : ℕ → Q) × IsRank Q.rules (P.view port.old).dims CAP manner
+        (P.view port.old).rank h rank.old (P.view port.old).sent (P.view port.old).got }
+    ensures same_port { SamePort (P.view port.old) (P.view port.new) }
     ensures steps { steps.new ≡ steps.old + 1 }
     ensures epoch { OnOk result (progress rank.new ≤ progress rank.old + 1) }
     ensures pushed { result ≡ Ok true → (rank.new.node.run.next ≢ rank.old.node.run.next)
@@ -34,9 +34,9 @@ pub(crate) fn turn_over<const CAP: usize, const HOPS: usize, Q: Program, P: Port
     ensures none { result ≡ Ok false → (rank.new.node.run.next ≡ rank.old.node.run.next)
         × (progress rank.new ≡ progress rank.old) }
     ensures kept { OnOk result ((manner : Manner) (h : ℕ → Q)
-        → IsRank Q.rules (P.dims port.old) CAP manner (P.rank port.old) h rank.old (P.sent port.old) (P.got port.old)
-        → (g : ℕ → Q) × (g 0 ≡ h 0) × IsRank Q.rules (P.dims port.old) CAP manner (P.rank port.old) g rank.new
-        (P.sent port.new) (P.got port.new)) }
+        → IsRank Q.rules (P.view port.old).dims CAP manner (P.view port.old).rank h rank.old (P.view port.old).sent (P.view port.old).got
+        → (g : ℕ → Q) × (g 0 ≡ h 0) × IsRank Q.rules (P.view port.old).dims CAP manner (P.view port.old).rank g rank.new
+        (P.view port.new).sent (P.view port.new).got) }
 {
     let pushed = rank.node.pushed();
     let Ok(turn) = rank.node.turn(port, steps) else {

@@ -1,7 +1,6 @@
-//! What a rank sent and received, counted if its buffers go out and come in.
-ghost use Rattle.std.specs.Prelude.{◌≡◌, ◌+◌, ◌==◌, length, refl};
+//! What a rank sent and received, counted as its buffers go out and come in.
+ghost use Rattle.std.specs.Prelude.{◌≡◌};
 ghost use Rattle.list_laws.specs.Counts.{saturated_count};
-ghost use Rattle.link_slots.specs.SeatView.{posted_on, collected_from};
 ghost use Rattle.rank_handles.specs.Statistics.{no_statistics, sent_one, received_one, statistics_on};
 
 use bale_items::NoMemory;
@@ -79,51 +78,17 @@ impl<'a, const CAP: usize> CountingPort<'a, CAP> {
 }
 
 impl<'a, const CAP: usize> Port<CAP> for CountingPort<'a, CAP> {
-    ghost use Rattle.std.specs.Prelude.{◌+◌, ◌==◌, [], length, refl};
-    ghost use Rattle.link_slots.specs.Logs.{out_of};
     ghost use Rattle.link_slots.specs.PortCalls.{DidPost, DidCollect};
-    ghost use Rattle.link_slots.specs.SeatView.{posted_on, collected_from, freed_on, known_on, listens_on, noted_at, table_name};
+    ghost use Rattle.link_slots.specs.SeatView.{port_view};
     ghost use Rattle.port_bank.specs.Calls.{calls_of};
 
     type Memory = Fixed;
 
-    ghost rank = { λ p. p.port.seat.rank };
-
-    ghost dims = { λ p. p.port.seat.shape.dims };
-
-    ghost slots = { λ p. p.port.seat.shape.slots };
-
-    ghost sent = { λ p. posted_on p.port.seat };
-
-    ghost got = { λ p. collected_from p.port.seat };
-
-    ghost freed = { λ p l. freed_on p.port.seat l };
-
-    ghost crowded = { λ p l. length (posted_on p.port.seat l) == freed_on p.port.seat l + p.port.seat.shape.slots };
-
-    ghost known = { λ p l. known_on p.port.seat l };
-
-    ghost idle = { λ p l. length (collected_from p.port.seat l) == known_on p.port.seat l };
-
-    ghost calls = { λ p. calls_of p.port.calls.value };
-
-    ghost looks_out = { λ p l. (out_of p.port.seat.lists l).looks };
-
-    ghost looks_in = { λ p l. listens_on p.port.seat l };
-
-    ghost listens = { λ p l. listens_on p.port.seat l };
-
-    ghost noted = { λ p l. noted_at p.port.seat l };
-
-    ghost others = { λ p. record { bank = table_name p.port.seat.id; sent = λ l. []; got = λ l. [] } };
+    ghost view = { λ p. port_view p.port.seat (calls_of p.port.calls.value) };
 
     ghost post_does = { λ old l p result new. DidPost old.port.seat new.port.seat l p result };
 
     ghost collect_does = { λ old l p result new. DidCollect old.port.seat new.port.seat l result };
-
-    ghost crowded_is = { λ p l. refl };
-
-    ghost idle_is = { λ p l. refl };
 
     fn rank(&self) -> u32 {
         self.port.rank()

@@ -85,13 +85,13 @@ fn write_much(out: &mut Out<'_, MemSink>, letters: &[u8]) -> Result<(), Failed> 
 
 #[test]
 fn a_full_buffer_is_handed_over(rt: HostRuntime) -> Result<(), Fail> {
-    let letters = vec![in rt.alloc(); b'a'; 4095]?;
-    let mut sink = MemSink::new(rt.alloc(), 10_000, 5, &[])?;
+    let letters = vec![in rt.alloc(); b'a'; 16_383]?;
+    let mut sink = MemSink::new(rt.alloc(), 40_000, 5, &[])?;
     write_much(&mut Out::new(&mut sink), &letters)?;
     let taken = sink.taken();
-    assert_eq!(rt; taken.len(), 8194);
-    assert_eq!(rt; &taken[4094..4097], b"aba".as_slice());
-    assert_eq!(rt; &taken[8190..], b"accc".as_slice());
+    assert_eq!(rt; taken.len(), 32_770);
+    assert_eq!(rt; &taken[16_382..16_385], b"aba".as_slice());
+    assert_eq!(rt; &taken[32_766..], b"accc".as_slice());
     Ok(())
 }
 
@@ -104,9 +104,9 @@ fn write_all(out: &mut Out<'_, MemSink>, text: &[u8]) -> Result<(), Failed> {
 /// Two full buffers and a byte are three writes: a fourth that would fail is never made.
 #[test]
 fn a_full_buffer_is_one_write(rt: HostRuntime) -> Result<(), Fail> {
-    let letters = vec![in rt.alloc(); b'a'; 8193]?;
+    let letters = vec![in rt.alloc(); b'a'; 32_769]?;
     for (fails, answer) in [(3, Err(Failed)), (4, Ok(()))] {
-        let mut sink = MemSink::new(rt.alloc(), 10_000, 10_000, &[fails])?;
+        let mut sink = MemSink::new(rt.alloc(), 40_000, 40_000, &[fails])?;
         assert_eq!(rt; write_all(&mut Out::new(&mut sink), &letters), answer);
     }
     Ok(())
@@ -143,12 +143,12 @@ fn write_past(out: &mut Out<'_, MemSink>, letters: &[u8]) -> [Result<(), Failed>
 
 #[test]
 fn what_a_failed_call_left_still_waits(rt: HostRuntime) -> Result<(), Fail> {
-    let letters = vec![in rt.alloc(); b'a'; 4096]?;
-    let mut sink = MemSink::new(rt.alloc(), 10_000, 4096, &[1, 2])?;
+    let letters = vec![in rt.alloc(); b'a'; 16_384]?;
+    let mut sink = MemSink::new(rt.alloc(), 20_000, 16_384, &[1, 2])?;
     let answers = write_past(&mut Out::new(&mut sink), &letters);
     assert_eq!(rt; answers, [Err(Failed), Err(Failed), Ok(()), Ok(())]);
     let taken = sink.taken();
-    assert_eq!(rt; taken.len(), 4097);
-    assert_eq!(rt; &taken[4095..], b"ab".as_slice());
+    assert_eq!(rt; taken.len(), 16_385);
+    assert_eq!(rt; &taken[16_383..], b"ab".as_slice());
     Ok(())
 }

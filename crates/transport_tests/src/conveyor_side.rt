@@ -77,9 +77,9 @@ impl<const CAP: usize, const HOPS: usize> Side<CAP, HOPS> {
         port: &mut P,
         call: Call,
     ) -> Result<Answer, NoMemory>
-        requires at_port { IsAtPort P.Port self.old.conveyor port.old }
+        requires at_port { IsAtPort self.old.conveyor (P.view port.old) }
         ensures sound { IsSound (buffers_of self.new.conveyor) }
-        ensures keeps { KeepsPort P.Port self.old.conveyor self.new.conveyor port.old port.new }
+        ensures keeps { KeepsPort self.old.conveyor self.new.conveyor (P.view port.old) (P.view port.new) }
     {
         let Call::Advance(done) = call else {
             let answer = self.make_alone(call);

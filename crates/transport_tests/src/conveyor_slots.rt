@@ -23,9 +23,9 @@ impl<P: Port<2>> Model for AtPort<P> {
 
     ghost Value = { ℕ };
 
-    ghost view = { λ a. P.rank a.port };
+    ghost view = { λ a. (P.view a.port).rank };
 
-    ghost invariant = { λ a. IsAtPort P.Port a.side.conveyor a.port };
+    ghost invariant = { λ a. IsAtPort a.side.conveyor (P.view a.port) };
 }
 
 impl<P: Port<2>> AtPort<P> {
@@ -36,7 +36,7 @@ impl<P: Port<2>> AtPort<P> {
 
 /// A rank's conveyor at a port on which nothing was done.
 fn at_port<P: Port<2>>(alloc: Global, grid: &Grid, port: P) -> Result<AtPort<P>, NoMemory>
-    requires begins { BeginsAt P.Port port grid.now }
+    requires begins { BeginsAt (P.view port) grid.now }
 {
     let side = Side::<2, 1>::new(alloc, grid, port.rank(), false)?;
     Ok(AtPort { side, port })

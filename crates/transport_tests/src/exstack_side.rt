@@ -86,9 +86,9 @@ impl<const CAP: usize> Side<CAP> {
         port: &mut P,
         call: Call,
     ) -> Result<Answer, NoMemory>
-        requires at_port { IsStackAtPort P.Port self.old.stack port.old }
+        requires at_port { IsStackAtPort self.old.stack (P.view port.old) }
         ensures standing { IsStack CAP self.new.stack }
-        ensures keeps { StackKeepsPort P.Port self.old.stack self.new.stack port.old port.new }
+        ensures keeps { StackKeepsPort self.old.stack self.new.stack (P.view port.old) (P.view port.new) }
     {
         let stage = self.stack.stage();
         match call {

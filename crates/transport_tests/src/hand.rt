@@ -43,14 +43,14 @@ impl<P: Port<1>> Model for Hand<P> {
 
     ghost Value = { ℕ };
 
-    ghost view = { λ h. P.rank h.port };
+    ghost view = { λ h. (P.view h.port).rank };
 
-    ghost invariant = { λ h. InFirstEpoch P.Port h.port h.grid h.out h.into };
+    ghost invariant = { λ h. InFirstEpoch (P.view h.port) h.grid h.out h.into };
 }
 
 impl<P: Port<1>> Hand<P> {
     pub(crate) fn new(alloc: Global, grid: &Grid, port: P) -> Result<Self, NoMemory>
-        requires new { InFirstEpoch P.Port port grid.now (blank 0) (blank 0) }
+        requires new { InFirstEpoch (P.view port) grid.now (blank 0) (blank 0) }
     {
         Ok(Hand {
             port,

@@ -22,6 +22,7 @@ use Rattle.port_bank.proofs.Frames.{port_at_first, port_then}
 use Rattle.std.proofs.lemmas.Bool.{false≢true}
 use Rattle.std.specs.Prelude.{OnOk, Result, Ok, Err}
 use Rattle.convey.proofs.moving.move_on.Goals as goal
+
 -- what holds of an answer holds together
 both : {T E P Q R : Type 0} (r : Result T E) → (P → Q → R) → OnOk r P → OnOk r Q → OnOk r R
 both (Ok x) f p q = f p q
@@ -62,12 +63,14 @@ returns-then-is_over-clause-in_full g c =
           let unserved = none_served st log log (λ l h from. served_not st l (log l) (log l) refl (over_not_due st c.phase.ensures.standing (c.requires.may.conveyor.complete over) l h)) in
           sym (append-nil before) ∙ ap (λ cs. before ++ cs) (sym none) ∙ sym (append-nil (before ++ collects_of st)) ∙ ap (λ cs. (before ++ collects_of st) ++ cs) (sym unserved);
     }
+
 pub collect_all-requires : goal.collect_all-requires
 collect_all-requires g c =
     let dims : List ℕ = (g.P.Port.view c.args.port.now).dims in
     let rank : ℕ = (g.P.Port.view c.args.port.now).rank in
     let r = c.requires.may.ready in
     (search rules, (search rules, (search rules, noted_ready dims rank c.args.state.now c.note_done.new.state c.args.done _ _ c.note_done.ensures.state c.note_done.ensures.pulled r)))
+
 pub post_all-requires : goal.post_all-requires
 post_all-requires g c =
     let k = c.collect_all.ensures in
@@ -217,32 +220,34 @@ returns-then-eq-clause-in_full g c =
           served_not mid l (sent l) (sent' l) (ap (λ s. s l) k.leaves.same_outs.sent) (sent_not_due st mid l c.phase.ensures.standing c.relay_all.ensures.standing same_dims same all h)) in
           k.calls ∙ ap (λ s. before ++ collects_of s) c.note_done.ensures.state ∙ sym (append-nil (before ++ collects_of st)) ∙ ap (λ cs. (before ++ collects_of st) ++ cs) (sym unserved);
     }
+
 pub returns-clause-in_full : goal.returns-clause-in_full
 returns-clause-in_full g c =
     let served =
-        let dims : List ℕ = (g.P.Port.view c.args.port.now).dims in
-        let rank : ℕ = (g.P.Port.view c.args.port.now).rank in
-        let k = c.collect_all.ensures in
-        let e = c.post_all.ensures in
-        let passed = c.relay_all.ensures.passed dims rank _ _ k.leaves.ready in
-        on_ok_weaker c.post_all.result
-        (λ served. has_served dims rank c.args.state.now c.note_done.new.state c.collect_all.new.state c.relay_all.new.state c.post_all.new.state c.args.done _ _ _ _ _ _
-        c.phase.ensures.standing (sym c.requires.may.ready.same_dims) (sym c.requires.may.ready.same_rank) c.note_done.ensures.state k.leaves.goes_on k.leaves.outs k.leaves.ready passed
-        e.leaves.goes_on e.leaves.ins (ready_at dims _ rank _ _ _ _ k.leaves.same_port.dims k.leaves.same_port.rank e.leaves.ready)
-        (λ l h from. e.waits l (link_at dims _ l k.leaves.same_port.dims h) (end_at sender_at dims _ rank _ l k.leaves.same_port.dims k.leaves.same_port.rank from)) k.leaves.same_outs.sent
-        (λ l h from. e.posted l (link_at dims _ l k.leaves.same_port.dims h) (end_at sender_at dims _ rank _ l k.leaves.same_port.dims k.leaves.same_port.rank from))
-        _ _ _ c.relay_all.ensures.standing c.relay_all.ensures.stopped
-        (λ l h from. subst (λ looks. WasServed c.post_all.new.state l (looks l) ((g.P.Port.view c.post_all.new.port).looks_out l) (is_crowded (g.P.Port.view c.post_all.new.port) l)) k.leaves.same_outs.looks_out
-        (served l (link_at dims _ l k.leaves.same_port.dims h) (end_at sender_at dims _ rank _ l k.leaves.same_port.dims k.leaves.same_port.rank from)))) e.served in
+    let dims : List ℕ = (g.P.Port.view c.args.port.now).dims in
+    let rank : ℕ = (g.P.Port.view c.args.port.now).rank in
+    let k = c.collect_all.ensures in
+    let e = c.post_all.ensures in
+    let passed = c.relay_all.ensures.passed dims rank _ _ k.leaves.ready in
+    on_ok_weaker c.post_all.result
+    (λ served. has_served dims rank c.args.state.now c.note_done.new.state c.collect_all.new.state c.relay_all.new.state c.post_all.new.state c.args.done _ _ _ _ _ _
+    c.phase.ensures.standing (sym c.requires.may.ready.same_dims) (sym c.requires.may.ready.same_rank) c.note_done.ensures.state k.leaves.goes_on k.leaves.outs k.leaves.ready passed
+    e.leaves.goes_on e.leaves.ins (ready_at dims _ rank _ _ _ _ k.leaves.same_port.dims k.leaves.same_port.rank e.leaves.ready)
+    (λ l h from. e.waits l (link_at dims _ l k.leaves.same_port.dims h) (end_at sender_at dims _ rank _ l k.leaves.same_port.dims k.leaves.same_port.rank from)) k.leaves.same_outs.sent
+    (λ l h from. e.posted l (link_at dims _ l k.leaves.same_port.dims h) (end_at sender_at dims _ rank _ l k.leaves.same_port.dims k.leaves.same_port.rank from))
+    _ _ _ c.relay_all.ensures.standing c.relay_all.ensures.stopped
+    (λ l h from. subst (λ looks. WasServed c.post_all.new.state l (looks l) ((g.P.Port.view c.post_all.new.port).looks_out l) (is_crowded (g.P.Port.view c.post_all.new.port) l)) k.leaves.same_outs.looks_out
+    (served l (link_at dims _ l k.leaves.same_port.dims h) (end_at sender_at dims _ rank _ l k.leaves.same_port.dims k.leaves.same_port.rank from)))) e.served in
     let calls =
-        let k = c.collect_all.ensures in
-        let new : State = c.post_all.new.state in
-        let sent' : Logs = (g.P.Port.view c.post_all.new.port).sent in
-        let before : List Call = (g.P.Port.view c.args.port.now).calls in
-        on_ok_weaker c.post_all.result
-        (λ is. is ∙ ap (λ sent. (g.P.Port.view c.collect_all.new.port).calls ++ posts_below new sent sent' (links new.dims)) k.leaves.same_outs.sent
-        ∙ ap (λ cs. cs ++ posts_below new (g.P.Port.view c.args.port.now).sent sent' (links new.dims)) (k.calls ∙ ap (λ st. before ++ collects_of st) c.note_done.ensures.state)) c.post_all.ensures.calls in
+    let k = c.collect_all.ensures in
+    let new : State = c.post_all.new.state in
+    let sent' : Logs = (g.P.Port.view c.post_all.new.port).sent in
+    let before : List Call = (g.P.Port.view c.args.port.now).calls in
+    on_ok_weaker c.post_all.result
+    (λ is. is ∙ ap (λ sent. (g.P.Port.view c.collect_all.new.port).calls ++ posts_below new sent sent' (links new.dims)) k.leaves.same_outs.sent
+    ∙ ap (λ cs. cs ++ posts_below new (g.P.Port.view c.args.port.now).sent sent' (links new.dims)) (k.calls ∙ ap (λ st. before ++ collects_of st) c.note_done.ensures.state)) c.post_all.ensures.calls in
     both c.post_all.result (λ s i. record { served = s; calls = i }) served calls
+
 pub returns-clause-stops : goal.returns-clause-stops
 returns-clause-stops g c =
     let k = c.collect_all.ensures in
@@ -252,11 +257,15 @@ returns-clause-stops g c =
     let open' : is_complete c.args.state.now.phase ≡ false = ap is_complete (sym c.phase.ensures.value) ∙ (sym c.is_over.ensures ∙ c.if-is_over.false) in
     λ err.
     let s = c.post_all.ensures.stops err in
-    record { incomplete = open'; forgotten = c.post_all.ensures.forgotten err; at = record {
-      link = s.link;
-      below = s.below;
-      starts_here = s.starts_here;
-      due = s.due;
-      calls_are = s.calls_are ∙ ap (λ sent. (g.P.Port.view c.collect_all.new.port).calls ++ posts_below new sent sent' s.link) k.leaves.same_outs.sent
-          ∙ ap (λ cs. cs ++ posts_below new (g.P.Port.view c.args.port.now).sent sent' s.link) (k.calls ∙ ap (λ st. before ++ collects_of st) c.note_done.ensures.state);
-    } }
+    record {
+      incomplete = open';
+      forgotten = c.post_all.ensures.forgotten err;
+      at = record {
+        link = s.link;
+        below = s.below;
+        starts_here = s.starts_here;
+        due = s.due;
+        calls_are = s.calls_are ∙ ap (λ sent. (g.P.Port.view c.collect_all.new.port).calls ++ posts_below new sent sent' s.link) k.leaves.same_outs.sent
+            ∙ ap (λ cs. cs ++ posts_below new (g.P.Port.view c.args.port.now).sent sent' s.link) (k.calls ∙ ap (λ st. before ++ collects_of st) c.note_done.ensures.state);
+      };
+    }

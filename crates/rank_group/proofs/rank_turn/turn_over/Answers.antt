@@ -11,8 +11,8 @@ turn-requires g c =
     let p = c.args.port.now in
     let is = c.requires.rank.2 in
     let inside : RankState g.row.Q.Denot = record { node = c.rank.inside.node; over = c.rank.inside.over } in
-    let mine : IsRank g.Q.Program.rules (P.dims p) g.row.CAP c.requires.rank.0 (P.rank p) c.requires.rank.1 inside (P.sent p) (P.got p) =
-    subst (λ (m : RankState g.row.Q.Denot). IsRank g.Q.Program.rules (P.dims p) g.row.CAP c.requires.rank.0 (P.rank p) c.requires.rank.1 m (P.sent p) (P.got p)) (sym c.rank.view_is) is in
+    let mine : IsRank g.Q.Program.rules (P.view p).dims g.row.CAP c.requires.rank.0 (P.view p).rank c.requires.rank.1 inside (P.view p).sent (P.view p).got =
+    subst (λ (m : RankState g.row.Q.Denot). IsRank g.Q.Program.rules (P.view p).dims g.row.CAP c.requires.rank.0 (P.view p).rank c.requires.rank.1 m (P.view p).sent (P.view p).got) (sym c.rank.view_is) is in
     (search rules, record { same_dims = sym mine.same_dims; same_rank = sym mine.same_rank; first = c.requires.rank.1; node = mine.runs (ap (λ (m : RankState g.row.Q.Denot). m.over) c.rank.view_is ∙ c.requires.going) })
 
 pub next-requires : goal.next-requires
@@ -20,15 +20,15 @@ next-requires g c =
     let P = g.P.Port in
     let p = c.args.port.now in
     let inside : RankState g.row.Q.Denot = record { node = c.rank.inside.node; over = c.rank.inside.over } in
-    let mine : IsRank g.Q.Program.rules (P.dims p) g.row.CAP c.requires.rank.0 (P.rank p) c.requires.rank.1 inside (P.sent p) (P.got p) =
-    subst (λ (m : RankState g.row.Q.Denot). IsRank g.Q.Program.rules (P.dims p) g.row.CAP c.requires.rank.0 (P.rank p) c.requires.rank.1 m (P.sent p) (P.got p)) (sym c.rank.view_is) c.requires.rank.2 in
+    let mine : IsRank g.Q.Program.rules (P.view p).dims g.row.CAP c.requires.rank.0 (P.view p).rank c.requires.rank.1 inside (P.view p).sent (P.view p).got =
+    subst (λ (m : RankState g.row.Q.Denot). IsRank g.Q.Program.rules (P.view p).dims g.row.CAP c.requires.rank.0 (P.view p).rank c.requires.rank.1 m (P.view p).sent (P.view p).got) (sym c.rank.view_is) c.requires.rank.2 in
     let few = subst (λ (m : RankState g.row.Q.Denot). epoch_in m.node.mover < 2 ^ 63) (sym c.rank.view_is) c.requires.few in (
       search rules,
       (
         c.in-Ok.ensures.ended (ap Ok c.in-Ended.is),
         (
           subst (λ e. e < 2 ^ 63) (sym c.turn.ensures.turns.moves.epoch) few,
-          (c.requires.rank.1, P.sent c.turn.new.port, P.got c.turn.new.port, c.turn.ensures.turns.moves.kept c.requires.rank.1 (mine.runs (ap (λ (m : RankState g.row.Q.Denot). m.over) c.rank.view_is ∙ c.requires.going))),
+          (c.requires.rank.1, (P.view c.turn.new.port).sent, (P.view c.turn.new.port).got, c.turn.ensures.turns.moves.kept c.requires.rank.1 (mine.runs (ap (λ (m : RankState g.row.Q.Denot). m.over) c.rank.view_is ∙ c.requires.going))),
         ),
       ),
     )
@@ -41,11 +41,11 @@ returns-in-Going-clause-kept g c = λ manner h is.
     let R = g.Q.Program.rules in
     let inside : RankState g.row.Q.Denot = record { node = c.rank.inside.node; over = c.rank.inside.over } in
     let on = ap (λ (m : RankState g.row.Q.Denot). m.over) c.rank.view_is ∙ c.requires.going in
-    let mine : IsRank R (P.dims p) g.row.CAP manner (P.rank p) h inside (P.sent p) (P.got p) =
-    subst (λ (m : RankState g.row.Q.Denot). IsRank R (P.dims p) g.row.CAP manner (P.rank p) h m (P.sent p) (P.got p)) (sym c.rank.view_is) is in
-    let t : OneTurn R g.row.CAP c.rank.inside.node c.turn.new.self (P.sent p) (P.got p) (P.sent q) (P.got q) =
+    let mine : IsRank R (P.view p).dims g.row.CAP manner (P.view p).rank h inside (P.view p).sent (P.view p).got =
+    subst (λ (m : RankState g.row.Q.Denot). IsRank R (P.view p).dims g.row.CAP manner (P.view p).rank h m (P.view p).sent (P.view p).got) (sym c.rank.view_is) is in
+    let t : OneTurn R g.row.CAP c.rank.inside.node c.turn.new.self (P.view p).sent (P.view p).got (P.view q).sent (P.view q).got =
     record { dims = c.turn.ensures.turns.moves.dims; rank = c.turn.ensures.turns.moves.rank; manner = c.turn.ensures.turns.moves.manner; cap_is = c.turn.ensures.cap; shape = c.turn.ensures.turns.moves.shape; kept = c.turn.ensures.turns.moves.kept } in
-    (h, refl, stays_in R (P.dims p) g.row.CAP (P.rank p) manner h inside c.turn.new.self (P.sent p) (P.got p) (P.sent q) (P.got q) mine on t c.rank.inside.over on)
+    (h, refl, stays_in R (P.view p).dims g.row.CAP (P.view p).rank manner h inside c.turn.new.self (P.view p).sent (P.view p).got (P.view q).sent (P.view q).got mine on t c.rank.inside.over on)
 
 pub returns-in_ok-rank-inside-in-Ended-clause-kept : goal.returns-in_ok-rank-inside-in-Ended-clause-kept
 returns-in_ok-rank-inside-in-Ended-clause-kept g c = λ manner h is.
@@ -56,9 +56,9 @@ returns-in_ok-rank-inside-in-Ended-clause-kept g c = λ manner h is.
     let more = c.in_ok-rank-inside-in-Ended.field-0 in
     let inside : RankState g.row.Q.Denot = record { node = c.rank.inside.node; over = c.rank.inside.over } in
     let on = ap (λ (m : RankState g.row.Q.Denot). m.over) c.rank.view_is ∙ c.requires.going in
-    let mine : IsRank R (P.dims p) g.row.CAP manner (P.rank p) h inside (P.sent p) (P.got p) =
-    subst (λ (m : RankState g.row.Q.Denot). IsRank R (P.dims p) g.row.CAP manner (P.rank p) h m (P.sent p) (P.got p)) (sym c.rank.view_is) is in
-    let t : OneTurn R g.row.CAP c.rank.inside.node c.turn.new.self (P.sent p) (P.got p) (P.sent q) (P.got q) =
+    let mine : IsRank R (P.view p).dims g.row.CAP manner (P.view p).rank h inside (P.view p).sent (P.view p).got =
+    subst (λ (m : RankState g.row.Q.Denot). IsRank R (P.view p).dims g.row.CAP manner (P.view p).rank h m (P.view p).sent (P.view p).got) (sym c.rank.view_is) is in
+    let t : OneTurn R g.row.CAP c.rank.inside.node c.turn.new.self (P.view p).sent (P.view p).got (P.view q).sent (P.view q).got =
     record { dims = c.turn.ensures.turns.moves.dims; rank = c.turn.ensures.turns.moves.rank; manner = c.turn.ensures.turns.moves.manner; cap_is = c.turn.ensures.cap; shape = c.turn.ensures.turns.moves.shape; kept = c.turn.ensures.turns.moves.kept } in
     let x : NextTold R g.row.CAP c.turn.new.self c.next.new.self more = record {
       self_dims = c.next.ensures.self_dims;
@@ -72,7 +72,7 @@ returns-in_ok-rank-inside-in-Ended-clause-kept g c = λ manner h is.
       stays = λ e. c.in_ok-rank-inside-in-Ended.ensures.stays (ap Ok e);
       stopped = λ e. c.in_ok-rank-inside-in-Ended.ensures.stopped (ap Ok e);
     } in
-    goes_on R (P.dims p) g.row.CAP (P.rank p) manner h inside c.turn.new.self (P.sent p) (P.got p) (P.sent q) (P.got q) mine on t c.next.new.self more x
+    goes_on R (P.view p).dims g.row.CAP (P.view p).rank manner h inside c.turn.new.self (P.view p).sent (P.view p).got (P.view q).sent (P.view q).got mine on t c.next.new.self more x
 
 pub returns-in-Going-clause-epoch : goal.returns-in-Going-clause-epoch
 returns-in-Going-clause-epoch g c =

@@ -32,10 +32,10 @@ poll_proceed-polled-requires g c =
       record {
         may = ap (λ (t : Stack). may_proceed t.stage) pops.same ∙ c.requires.may;
         at_port = record {
-            same_dims = c.requires.turns.same_dims ∙ sym (ap (λ (t : Stack). stack_dims t) pops.same);
-            same_rank = c.requires.turns.same_rank ∙ sym (ap (λ (t : Stack). t.rank) pops.same);
-            agrees = record { cycle = a.cycle; agrees = pops.kept a.cycle sent got a.agrees };
-          };
+          same_dims = c.requires.turns.same_dims ∙ sym (ap (λ (t : Stack). stack_dims t) pops.same);
+          same_rank = c.requires.turns.same_rank ∙ sym (ap (λ (t : Stack). t.rank) pops.same);
+          agrees = record { cycle = a.cycle; agrees = pops.kept a.cycle sent got a.agrees };
+        };
         read = c.pop_all-run.ensures.read;
         done_stays = λ d. done_keeps R (c.requires.turns.first) run g.row.CAP x0 x1 prog' sum' spoiled' voting done sent got pops all i d;
         same_done = λ q. same_done R (c.requires.turns.first) run g.row.CAP x0 x1 prog' sum' spoiled' voting done sent got pops all i q;

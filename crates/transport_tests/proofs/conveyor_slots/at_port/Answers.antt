@@ -8,6 +8,6 @@ invariant_of-result g c =
     record {
       same_dims = search rules;
       same_rank = search rules;
-      agrees = subst (λ (a : Logs). AgreesWith c.in_ok-side.side.conveyor a (g.P.Port.got c.args.port)) (sym c.requires.begins.none_sent)
+      agrees = subst (λ (a : Logs). AgreesWith c.in_ok-side.side.conveyor a (g.P.Port.view c.args.port).got) (sym c.requires.begins.none_sent)
           (subst (λ (b : Logs). AgreesWith c.in_ok-side.side.conveyor (λ l. []) b) (sym c.requires.begins.none_got) c.in_ok-side.ensures.starts.agrees);
     }

@@ -16,9 +16,9 @@ loop-at-preserved g c =
       bytes = moved_on (all c.fill.new.self) (all c.loop-at.self) (all c.args.self.now) c.args.t.now c.loop-at.at (length c.args.t.now) c.in_ok-at.field-0
           c.in_ok-at.ensures.ok c.loop-at.invariant.bytes bound;
       no_fault = search rules;
-      gathers = λ (short : c.args.self.now.len + length c.args.t.now < 4096).
+      gathers = λ (short : c.args.self.now.len + length c.args.t.now < 16384).
           let here = short_of c.args.self.now.len c.loop-at.self.len c.loop-at.at (length c.args.t.now) c.loop-at.invariant.waits c.loop-at.invariant.within short in
-          let below : c.loop-at.self.len + c.in_ok-at.field-0 < 4096 = omega arith in
+          let below : c.loop-at.self.len + c.in_ok-at.field-0 < 16384 = omega arith in
           c.in_ok-at.ensures.gathers below ∙ c.loop-at.invariant.gathers short;
       waits = waits_on c.args.self.now.len c.loop-at.self.len c.loop-at.at c.in_ok-at.field-0 c.fill.new.self.len c.loop-at.invariant.waits c.in_ok-at.ensures.some.some c.in_ok-at.ensures.waits;
       grows = front_of_front (taken c.args.self.now.sink.now) (taken c.loop-at.self.sink.now) (taken c.fill.new.self.sink.now) c.loop-at.invariant.grows c.fill.ensures.sink.grows;
@@ -51,7 +51,7 @@ returns-in_err-at g c =
       kept = on_err_any c.from_residual.result (front_of_front (all old) (all mid) (all new) before more);
       part = on_err_any c.from_residual.result part;
       gathers = search rules;
-      no_failure = λ (short : old.len + length c.args.t.now < 4096).
+      no_failure = λ (short : old.len + length c.args.t.now < 16384).
           let here = short_of old.len mid.len c.loop-at.at (length c.args.t.now) c.loop-at.invariant.waits c.loop-at.invariant.within short in
           let full = c.in_err-at.ensures.full in
           absurd (grind (arith, common_steps, here, full));

@@ -9,7 +9,7 @@ invariant-loop-at g l = record {
   within : l.at ≤ length l.t;
   bytes : appended_bytes g.K.Sink.taken l.self ≡ taken_with (appended_bytes g.K.Sink.taken l.fn.self) (take l.at l.t);
   no_fault : g.K.Sink.faults l.self.sink.now ≡ g.K.Sink.faults l.fn.self.sink.now;
-  gathers : l.fn.self.len + length l.t < 4096 → l.self.sink.now ≡ l.fn.self.sink.now;
+  gathers : l.fn.self.len + length l.t < 16384 → l.self.sink.now ≡ l.fn.self.sink.now;
   waits : l.self.len ≡ left_over l.fn.self.len l.at;
   grows : IsTakenPrefix (g.K.Sink.taken l.fn.self.sink.now) (g.K.Sink.taken l.self.sink.now);
   same_sink : l.self.sink.ghost_name ≡ l.fn.self.sink.ghost_name;

@@ -22,6 +22,7 @@ use Rattle.convey.proofs.Advances.{lists_grow, were_asked, advance_is, settled_a
 use Rattle.convey.proofs.States.{holds_at_most}
 use Rattle.convey.proofs.Sent.{cleanup_sent}
 use Rattle.convey.proofs.conveyor.Conveyor.advance.Goals as goal
+
 -- a settled state's phase is that of its buffers
 settled_phase : (mid new : State) → new ≡ record mid { phase = phase_of mid; pulled = None } → new.phase ≡ phase_of new
 settled_phase mid new e = ap (λ s. s.phase) e ∙ sym (ap phase_of e ∙ phase_of-settled mid (phase_of mid) None)
@@ -150,6 +151,7 @@ returns-clause-advances g c =
           subst (λ s. slice_get (in_of s l).parcel.untaken 0 ≡ Some x → NextIs now.dims now.rank l x.tag (WasFull g.row.CAP s sent sent')) (sym c.settle.ensures.state)
           (λ at. subst (λ n. NextIs now.dims now.rank l x.tag (WasFull n (record mid { phase = phase_of mid; pulled = None }) sent sent')) cap (k at));
     }
+
 pub returns-clause-settled : goal.returns-clause-settled
 returns-clause-settled g c =
     let new : State = c.settle.new.state in
@@ -202,6 +204,7 @@ returns-clause-in_full g c =
                 (λ m b from hop held. same_held now.cap g.row.CAP mid (phase_of mid) sent sent' crowded m cap held) (k.stopped l x below to less at));
           };
     }
+
 pub returns-in_err-move_on-clause-stops : goal.returns-in_err-move_on-clause-stops
 returns-in_err-move_on-clause-stops g c =
     let k = subst (λ (t : State). MovesOn t c.move_on.new.state c.args.done (g.P.Port.view c.args.port.now).sent (g.P.Port.view c.move_on.new.port).sent (g.P.Port.view c.args.port.now).got (g.P.Port.view c.move_on.new.port).got
@@ -210,6 +213,7 @@ returns-in_err-move_on-clause-stops g c =
     let p = c.args.port.now in
     let q = c.move_on.new.port in
     λ err. record { phase = k.goes_on.phase; at = subst (λ (t : State). StopsAt mid (g.P.Port.view p).sent (g.P.Port.view q).sent ((g.P.Port.view p).calls ++ collects_of t) (g.P.Port.view q).calls) c.self.view_is (c.in_err-move_on.ensures.stops (search rules)).at }
+
 pub invariant_of-self-2 : goal.invariant_of-self-2
 invariant_of-self-2 g c =
     let mid : State = c.move_on.new.state in

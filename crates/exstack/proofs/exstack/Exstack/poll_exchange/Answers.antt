@@ -18,6 +18,7 @@ use Rattle.exstack.specs.Links.{no_stack_in}
 use Rattle.exstack.specs.Cycles.{exchange_parcel, entries_if_any}
 use Rattle.exstack.proofs.OneLink.{whole_after}
 use Rattle.exstack.proofs.exstack.Exstack.poll_exchange.Goals as goal
+
 pub go_round-requires : goal.go_round-requires
 go_round-requires g c =
     let now : Stack = c.args.self.now in
@@ -221,6 +222,7 @@ returns-clause-polls g c =
           ∙ (λ i. entries_if_any (exchange_parcel (epoch i) n (got' (number (k.ranks i) a (k.rank i))))));
       same_port = search rules;
     }
+
 pub returns-clause-asks : goal.returns-clause-asks
 returns-clause-asks g c =
     let now : Stack = c.args.self.now in

@@ -13,6 +13,7 @@ use Rattle.exstack.proofs.Polling.{SameLists, Polled, proceed_lists, made_lists,
 use Rattle.exstack.proofs.Beginning.{Begun, proceed_begun, proceed_agrees}
 use Rattle.exstack.proofs.Settling.{round_staged, agrees_staged, asks_staged, proceed_rounds}
 use Rattle.exstack.proofs.exstack.Exstack.poll_proceed.Goals as goal
+
 pub go_round-requires : goal.go_round-requires
 go_round-requires g c =
     let now : Stack = c.args.self.now in
@@ -176,6 +177,7 @@ returns-clause-polls g c =
           (round_staged c.args.done false c.begin_proceed.new.self c.go_round.new.self (stage_of_proceed c.settle_proceed.result) (g.P.Port.view c.args.port.now).sent (g.P.Port.view c.go_round.new.port).sent (g.P.Port.view c.args.port.now).got (g.P.Port.view c.go_round.new.port).got c.go_round.ensures.round));
       same_port = search rules;
     }
+
 pub returns-clause-asks : goal.returns-clause-asks
 returns-clause-asks g c =
     let now : Stack = c.args.self.now in

@@ -8,10 +8,10 @@ invariant_of-self g c =
     let x = c.args.self.now.first.value.seat in
     let y = c.args.self.now.port.seat in
     let z = c.collect-collected.new.self.seat in
-    let got = c.collect-collected.ensures.got c.in-Got.is in
+    let got = c.collect-collected.ensures.collects.got c.in-Got.is in
     record {
       noted = λ none. absurd (true≢false none);
-      grew = no_less_collected x y z c.args.link (as_shipped c.collect-collected.new.p) c.args.self.now.grew c.collect-collected.ensures.same_outs.sent got;
+      grew = no_less_collected x y z c.args.link (as_shipped c.collect-collected.new.p) c.args.self.now.grew c.collect-collected.ensures.collects.same_outs.sent got;
       went = λ some. has_collected x y z c.args.link (as_shipped c.collect-collected.new.p) c.args.self.now.grew got;
     }
 
@@ -20,8 +20,8 @@ invariant_of-self-in-Nothing g c =
     let x = c.args.self.now.first.value.seat in
     let y = c.args.self.now.port.seat in
     let z = c.collect-collected.new.self.seat in
-    let got = c.collect-collected.ensures.not_got c.in-Nothing.is in
-    let sent = c.collect-collected.ensures.same_outs.sent in
+    let got = c.collect-collected.ensures.collects.not_got c.in-Nothing.is in
+    let sent = c.collect-collected.ensures.collects.same_outs.sent in
     record {
       noted = λ none. let same = c.args.self.now.noted none in record { sent = sent ∙ same.sent; got = got ∙ same.got };
       grew = no_less_same x y z c.args.self.now.grew sent got;

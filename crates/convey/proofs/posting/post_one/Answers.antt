@@ -66,7 +66,7 @@ returns-in-Ok-Sent-clause-leaves g c =
     let was : c.post.result ≡ Ok Sent = c.in-Ok-Sent.is ∙ ap Ok c.in-Ok-Sent.field-0-is in
     let over = sym c.take_out-outgoing.ensures.borrowed in
     let new = sent_from st c.take_out-outgoing.result.state.now c.state-1.given.0 c.args.number c.take_out-outgoing.result.number c.args.link _ _ n c.take_out-outgoing.ensures.outgoing.0 c.take_out-outgoing.ensures.state (c.state-1.given.1 over ∙ c.sent.ensures) in
-    let closes = ap (λ p. p.last) c.take_out-outgoing.ensures.outgoing.1.0 in
+    let closes = ap (λ p. p.last) c.take_out-outgoing.ensures.outgoing.1 in
     let more = ap (λ logs. logs c.args.link) (e.sent was) ∙ added-here (g.P.Port.view c.args.port.now).sent c.args.link q in
     let one = (served_one _ _ st _ c.args.link _ q _ _ _ _ s c.requires.ready c.requires.link c.requires.starts_here t.due t.entries t.last e.same_ins.got new refl closes (e.sent was)) in
     record {
@@ -142,7 +142,7 @@ returns-in-Ok-Sent-clause-out g c =
     let was : c.post.result ≡ Ok Sent = c.in-Ok-Sent.is ∙ ap Ok c.in-Ok-Sent.field-0-is in
     let over = sym c.take_out-outgoing.ensures.borrowed in
     let new = sent_from st c.take_out-outgoing.result.state.now c.state-1.given.0 c.args.number c.take_out-outgoing.result.number c.args.link _ _ n c.take_out-outgoing.ensures.outgoing.0 c.take_out-outgoing.ensures.state (c.state-1.given.1 over ∙ c.sent.ensures) in
-    let closes = ap (λ p. p.last) c.take_out-outgoing.ensures.outgoing.1.0 in
+    let closes = ap (λ p. p.last) c.take_out-outgoing.ensures.outgoing.1 in
     (served_one _ _ st _ c.args.link _ q _ _ _ _ s c.requires.ready c.requires.link c.requires.starts_here t.due t.entries t.last e.same_ins.got new refl closes (e.sent was)).out
 
 pub returns-in-Ok-Sent-clause-served : goal.returns-in-Ok-Sent-clause-served
@@ -157,7 +157,7 @@ returns-in-Ok-Sent-clause-served g c =
     let was : c.post.result ≡ Ok Sent = c.in-Ok-Sent.is ∙ ap Ok c.in-Ok-Sent.field-0-is in
     let over = sym c.take_out-outgoing.ensures.borrowed in
     let new = sent_from st c.take_out-outgoing.result.state.now c.state-1.given.0 c.args.number c.take_out-outgoing.result.number c.args.link _ _ n c.take_out-outgoing.ensures.outgoing.0 c.take_out-outgoing.ensures.state (c.state-1.given.1 over ∙ c.sent.ensures) in
-    let closes = ap (λ p. p.last) c.take_out-outgoing.ensures.outgoing.1.0 in
+    let closes = ap (λ p. p.last) c.take_out-outgoing.ensures.outgoing.1 in
     let no = no_longer_due _ _ st _ c.args.link _ q _ (g.P.Port.view c.args.port.now).sent _ _ s c.requires.ready c.requires.link c.requires.starts_here t.due t.entries t.last e.same_ins.got new refl closes in
     record { looked = λ d. absurd (no d); crowded = λ d. absurd (no d) }
 
@@ -173,7 +173,7 @@ returns-in-Ok-Sent-clause-waits g c =
     let was : c.post.result ≡ Ok Sent = c.in-Ok-Sent.is ∙ ap Ok c.in-Ok-Sent.field-0-is in
     let over = sym c.take_out-outgoing.ensures.borrowed in
     let new = sent_from st c.take_out-outgoing.result.state.now c.state-1.given.0 c.args.number c.take_out-outgoing.result.number c.args.link _ _ n c.take_out-outgoing.ensures.outgoing.0 c.take_out-outgoing.ensures.state (c.state-1.given.1 over ∙ c.sent.ensures) in
-    let closes = ap (λ p. p.last) c.take_out-outgoing.ensures.outgoing.1.0 in
+    let closes = ap (λ p. p.last) c.take_out-outgoing.ensures.outgoing.1 in
     let more = ap (λ logs. logs c.args.link) (e.sent was) ∙ added-here (g.P.Port.view c.args.port.now).sent c.args.link q in
     λ same. absurd (grew _ _ (sym more ∙ same))
 

@@ -3,8 +3,6 @@ use Rattle.route_tensor.specs.Link.{links}
 use Rattle.route_tensor.specs.Ends.{hop_at}
 use Rattle.hop_core.specs.State.{State}
 use Rattle.hop_core.specs.Standing.{IsState}
-use Rattle.hop_core.specs.Relay.{held}
-use Rattle.route_tensor.specs.Pair.{PassesThrough}
 use Rattle.convey.specs.Buffers.{out_of, in_of}
 use Rattle.convey.specs.Due.{IsBlocked}
 use Rattle.convey.specs.AdvanceSteps.{PassedOn}
@@ -18,9 +16,8 @@ returns-clause-passed g c =
     let e = c.relay.ensures in
     let new : State = c.relay.new.self in
     let t = subst IsState e.rest c.known-2.ensures.standing in
-    let keeps = subst (λ (n : State). (x y : ℕ) → PassesThrough st.dims st.rank x y c.args.h → held n x y c.args.h ≡ held st x y c.args.h) e.rest e.relays.held in
     λ dims rank sent got r. subst (λ n. PassedOn dims rank st n sent got) (sym e.rest)
-    (relayed_one st new.outs new.ins c.args.h c.known.ensures.standing c.requires.first c.requires.last e.relays.adds e.relays.takes t keeps dims rank sent got r)
+    (relayed_one st new.outs new.ins c.args.h c.known.ensures.standing c.requires.first c.requires.last e.relays.adds e.relays.takes t e.relays.held dims rank sent got r)
 
 pub returns-clause-stopped : goal.returns-clause-stopped
 returns-clause-stopped g c =

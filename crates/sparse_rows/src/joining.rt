@@ -24,8 +24,7 @@ pub fn join(
     kind: Kind,
     rows_of: &[Cells],
 ) -> Result<Matrix, NoMemory>
-    requires some { 1 ≤ length rows_of.now }
-    requires few { length rows_of.now ≤ 64 }
+    requires ranks { (1 ≤ length rows_of.now) × (length rows_of.now ≤ 64) }
     requires own { EachAt (λ r cells. All (λ t. t.i % length rows_of.now ≡ r) cells) rows_of.now }
     requires tall { rows ≤ 16_384 }
     requires wide { cols ≤ 16_384 }

@@ -1,4 +1,4 @@
--- What an advance leaves of a conveyor and of its port, from old to new and from port to port'.
+-- What an advance does to a conveyor, from old to new, and to its port, from port to port'.
 use Rattle.std.specs.Prelude.{◌≡◌, ◌≢◌, ℕ, ◌+◌, ◌<◌, ◌≤◌, Bool, true, false, List, ◌++◌, length, slice_get, Some, None}
 use Rattle.std.specs.List.{flat_map}
 use Rattle.bale_items.specs.Counters.{RoseOrFull}
@@ -38,8 +38,8 @@ pub record KeepsPort (old new : State)
   pub rank : new.rank ≡ old.rank
   pub same_port : SamePort port port'
 
--- The conveyor agrees with the port again, and is that of its rank, in the same epoch and done as
--- told.
+-- The conveyor agrees with the port again, and is that of its rank, in the same epoch; it is done
+-- if the caller said so.
 -- begun: it isn't Dormant.
 -- step: the advance is a step of its part of the exchange machine.
 pub record StaysAtPort (told : Bool) (old new : State)
@@ -55,7 +55,7 @@ pub record StaysAtPort (told : Bool) (old new : State)
       (part_of (buffers_of old) port.sent port.got) (part_of (buffers_of new) port'.sent port'.got)
   pub same_port : SamePort port port'
 
--- What an answer tells of the phase after it: Complete, if and only if the epoch is over.
+-- Which phase an answer means: Complete, if and only if the epoch is over.
 pub record HasSettled (told : Bool) (new : State) (answer : Progress) : Type 0 where
   pub is : answer ≡ progress_of new.phase
   pub phase : new.phase ≡ phase_of new
@@ -119,7 +119,7 @@ pub record WereServed (cap : ℕ) (old new : State)
       → hop_at old.dims l < length old.dims → slice_get (in_of new l).parcel.untaken 0 ≡ Some e
       → NextIs old.dims old.rank l e.tag (IsHeldUpAt cap new port.sent port'.sent (is_crowded port'))
 
--- A conveyor may advance at a port, told whether its rank is done.
+-- A conveyor may advance at a port; the caller says whether its rank is done.
 -- begun: it isn't Dormant.
 -- at_port: the port is its own.
 -- done_stays: a rank that was done in this epoch is done still.

@@ -32,8 +32,8 @@ pub record IsReady (dims : List ℕ) (rank : ℕ) (st : State) (sent got : Logs)
 abbrev pub without_latest : Part → Part
 without_latest p = record p { latest = None }
 
--- What each step of an advance leaves: the rank's part of the machine, and its lists but for more
--- at their ends.
+-- What each step of an advance keeps: the rank's part of the machine, and its lists, to which it
+-- may append.
 -- fills: each parcel that it posts is filled as a conveyor fills it.
 pub record GoesOn (old new : State) (sent sent' got got' : Logs) : Type 0 where
   pub cap : new.cap ≡ old.cap
@@ -85,13 +85,13 @@ pub record HasOneMoreParcel (entries : List Entry) (log log' : List Shipped) : T
   pub is : log' ≡ log ++ parcel ∷ []
   pub holds : parcel.entries ≡ entries
 
--- What posting leaves of a link's log, if these entries waited: it is as before, or has one
--- parcel more, of them.
+-- A link's log after posting, if these entries waited: it is as before, or has one parcel more, of
+-- these entries.
 abbrev pub WasPosted : List Entry → List Shipped → List Shipped → Type 0
 WasPosted entries log log' = (log' ≡ log) ⊎ HasOneMoreParcel entries log log'
 
--- What a relay leaves, over the lists of a port: entries only move on from an inbox to the end of
--- an open parcel.
+-- What a relay does, over the lists of a port: entries only move from an inbox to the end of an
+-- open parcel.
 pub record PassedOn (dims : List ℕ) (rank : ℕ) (old new : State) (sent got : Logs) : Type 0 where
   pub ready : IsReady dims rank new sent got
   pub goes_on : GoesOn old new sent sent got got
@@ -140,14 +140,14 @@ pub record HasServed (old new : State) (sent sent' : Logs) (looks looks' : ℕ �
       → hop_at old.dims l < length old.dims → slice_get (in_of new l).parcel.untaken 0 ≡ Some e
       → NextIs old.dims old.rank l e.tag (IsHeldUpAt old.cap new sent sent' is_crowded)
 
--- A rank of so many hops may move its exchange on at a port, told whether it is done.
+-- A rank of so many hops may move its exchange on at a port; the caller says whether it is done.
 pub record MayMoveOn (hops : ℕ) (told : Bool) (st : State) (port : PortView) : Type 0 where
   pub conveyor : IsConveyor hops st
   pub begun : st.phase ≢ Dormant
   pub done_stays : st.done ≡ true → told ≡ true
   pub ready : IsReady port.dims port.rank st port.sent port.got
 
--- What it makes of the rank and of the port, whatever it answers.
+-- What it does to the rank and to the port, whatever it answers.
 -- held: an entry is left in an inbox below the last hop only if the open parcel that it goes to
 -- was full.
 -- complete: a rank that is complete has nothing left to move.

@@ -67,7 +67,7 @@ pub record IsOver (st : State) : Type 0 where
   pub read : (l : ℕ) → l < links st.dims → reader_at st.dims l ≡ st.rank → (in_of st l).parcel.untaken ≡ []
 
 -- The link on which an entry leaves a rank that came to it on hop h: of its links out on hop h + 1
--- the one to the neighbour with the coordinate that the tag tells.
+-- the one to the neighbour with the coordinate that is in the tag.
 -- In the grid 2x2x2 an entry with the tag (0,1,1) that came on hop 1 leaves rank 0 on link 17, for
 -- rank 2.
 abbrev pub next_link : List ℕ → ℕ → ℕ → Tag → ℕ

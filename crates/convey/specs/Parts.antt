@@ -13,7 +13,7 @@ use Rattle.convey.specs.Buffers.{Buffers}
 use Rattle.convey.specs.Agreement.{items_among}
 
 -- What a rank pushed toward d in an epoch: the flow that it sent on hop 1 and, in its current
--- epoch, what stands for d in the open parcel.
+-- epoch, the items for d in the open parcel.
 -- With [x] sent and [y] in the open parcel toward d it is [x, y].
 abbrev pub pushed_to : Buffers → Logs → ℕ → ℕ → List Item
 pushed_to b sent e d = flow b.dims sent b.rank d 1 e

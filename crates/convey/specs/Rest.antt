@@ -25,7 +25,7 @@ pub record HasBusy (dims : List ℕ) (r : ℕ) (sent got : Logs) : Type 0 where
   pub sender : sender_at dims link ≡ r
   pub busy : IsBusy sent got link
 
--- What rank r tells after an advance that moved no parcel, if the lists of the bank are sent and
+-- What holds of rank r after an advance that moved no parcel, if the lists of the bank are sent and
 -- got: old is its conveyor just before that advance, and new just after it.
 -- pushed: it is done; else a push was refused, and one of its links out is busy.
 -- read: all that came for it was pulled.

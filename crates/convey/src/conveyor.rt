@@ -96,7 +96,7 @@ impl<const CAP: usize, const HOPS: usize> Conveyor<CAP, HOPS> {
         self.state.known();
     }
 
-    /// The tables of the rank's links, which tell of whom what came is.
+    /// The tables of the rank's links, by which the sender of what came is found.
     #[inline]
     pub fn routes(&self) -> &Routes
         ensures value { result.now ≡ record { dims = self.now.dims; rank = self.now.rank } }
@@ -163,7 +163,7 @@ impl<const CAP: usize, const HOPS: usize> Conveyor<CAP, HOPS> {
         self.state.unread()
     }
 
-    /// The link in from which the next pull takes, as `unread` tells, for one who only looks.
+    /// The link in from which the next pull takes, as `unread` answers, without a change.
     #[inline]
     pub fn next_unread(&self) -> Option<u32>
         requires begun { self.now.phase ≢ Phase.Dormant }
@@ -226,7 +226,7 @@ impl<const CAP: usize, const HOPS: usize> Conveyor<CAP, HOPS> {
         self.state.unpull()
     }
 
-    /// Advances the exchange: notes done, collects, relays, posts, and tells how far the rank is.
+    /// Advances the exchange: notes done, collects, relays, posts, and answers how far the rank is.
     ///
     /// # Errors
     /// `NoMemory` comes only from the port's post. What was collected, relayed and posted before it

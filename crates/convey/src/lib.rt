@@ -2,7 +2,7 @@
 //!
 //! A rank pushes items toward other ranks and pulls those that came. Items travel in parcels over
 //! the links of a port; `advance` moves them on, and never waits. An epoch is over once every rank
-//! has said that it is done and all items are pulled; how ranks find that out is told in
+//! has said that it is done and all items are pulled; how ranks find that out is in
 //! `docs/ENDGAME.md`.
 //!
 //! | Phase | Call | After it |

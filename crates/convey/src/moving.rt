@@ -29,7 +29,7 @@ pub(crate) fn move_on<const CAP: usize, const HOPS: usize, P: Port<CAP>>(
     ensures complete_port { state.old.phase ≡ Phase.Complete → port.new ≡ port.old }
     ensures memory { P.Memory.GROWS ≡ false → IsOk result }
 {
-    // The contract of `phase` tells what holds of the state.
+    // The contract of `phase` says what holds of the state.
     if is_over(state.phase()) {
         return Ok(());
     }

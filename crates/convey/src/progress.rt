@@ -1,6 +1,6 @@
 //! How far an exchange has come.
 
-/// What an advance tells of the rank's epoch.
+/// What an advance answers: how far the rank's epoch is.
 #[derive(Clone, Copy, PartialEq, Eq, Debug)]
 pub enum Progress {
     /// Items may still be pushed, or parcels are still to be sent.

@@ -23,7 +23,7 @@ pub record StackIn : Type 0 where
   pub ended : Bool
   pub due : Bool
 
--- A link of a new exstack; it also stands for the link past the end of a list.
+-- A link of a new exstack; it is also the link that is read past the end of a list.
 abbrev pub no_stack_out : StackOut
 no_stack_out = record { waiting = []; closed = false; due = false }
 

@@ -14,7 +14,7 @@ use Rattle.exstack.specs.Cycles.{exchange_parcel, entries_if_any}
 use Rattle.exstack.specs.Parts.{AreOwnSteps, proceed_steps, stack_part, IsStackAtPort}
 use Rattle.exstack.specs.State.{is_all_done}
 
--- An exstack may poll a proceed round, told whether its rank is done.
+-- An exstack may poll a proceed round; the caller says whether its rank is done.
 -- may: its stage allows one.
 -- at_port: the port is its own.
 -- read: nothing is unread.

@@ -57,7 +57,7 @@ pub record IsStack (cap : ℕ) (st : Stack) : Type 0 where
   pub each_in : EachAt (λ a i. IsStackIn st.stage i) st.ins
   pub can_unpop : (a : ℕ) → st.popped ≡ Some a → CanUnpop st a
 
--- What the code keeps besides: a sender below which no inbox has an unread item.
+-- What the code stores beside the state: a sender below which no inbox has an unread item.
 pub record IsKeptStack (cap : ℕ) (st : Stack) (from : ℕ) : Type 0 where
   pub standing : IsStack cap st
   pub from_high : from ≤ st.ranks

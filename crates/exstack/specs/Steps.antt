@@ -78,7 +78,7 @@ pub record IsStackPort (ranks me : ℕ) (port : PortView) : Type 0 where
   pub within : me < ranks
   pub few : ranks ≤ 64
 
--- A round, or what a poll makes of it: on each link out at most one post, and on each link in at
+-- A round, or what a poll does of it: on each link out at most one post, and on each link in at
 -- most one collect.
 pub record MadeRound (last exchange : Bool) (old new : Stack) (sent sent' got got' : Logs) : Type 0 where
   pub posted : (b : ℕ) → b < old.ranks

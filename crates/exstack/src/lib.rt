@@ -1,6 +1,6 @@
 //! The exstack: one rank's side of a many-to-many exchange in collective rounds.
 //!
-//! An epoch is a sequence of cycles. In each, all ranks take part in a *proceed round*, which tells
+//! An epoch is a sequence of cycles. In each, all ranks take part in a *proceed round*, which finds
 //! whether some rank isn't done, push into their buffers, and take part in an *exchange round*,
 //! which hands the buffers over; then each pops what came.
 //! In a round a rank posts one parcel on each of its links and collects one from each. No call

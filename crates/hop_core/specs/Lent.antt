@@ -16,8 +16,7 @@ pub data Lent : Type 0 where
   ToFill : ℕ → Lent
   Given : Lent
 
--- The same, as the code keeps it: the mark of an open parcel that is lent stands besides its
--- contents.
+-- The same, as the code stores it: the mark of an open parcel that is lent is beside its contents.
 abbrev pub lent_by : {cap : ℕ} → Loan cap → Lent
 lent_by (loan.Nothing parcel) = Nothing
 lent_by (loan.ToSend number last parcel) = ToSend number (record parcel.value { last = last })

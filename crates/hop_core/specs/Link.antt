@@ -15,7 +15,7 @@ pub record In : Type 0 where
   pub parcel : Contents
   pub ended : Bool
 
--- What stands for the link past the end of a list.
+-- The link that is read past the end of a list.
 abbrev pub no_out : Out
 no_out = record { parcel = blank 0; closed = false }
 

@@ -135,7 +135,7 @@ after_relay dims r cap (suc n) i ls =
       ins = slice_set ls.ins i (read_on (passed_count dims r cap i ls.outs x.parcel.untaken) x);
     })
 
--- What a relay from hop h to the next leaves of them.
+-- The links after a relay from hop h to the next.
 abbrev pub relayed_hop : List ℕ → ℕ → ℕ → ℕ → Links → Links
 relayed_hop dims r cap h ls = after_relay dims r cap (dim dims h) (links_before dims h) ls
 

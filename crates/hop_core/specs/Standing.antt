@@ -51,9 +51,9 @@ pub record IsState (st : State) : Type 0 where
 abbrev pub failing : {X : Type 0} → (X → Bool) → List X → ℕ
 failing test xs = sum_by (λ x. from_bool (not (test x))) xs
 
--- What the code keeps besides: which hops have reached their end, a link below which no link in of
--- the last hop has an entry, how many links out are not closed, and how many links in of the last
--- hop have not ended.
+-- What the code stores beside the state: which hops have reached their end, a link below which no
+-- link in of the last hop has an entry, how many links out are not closed, and how many links in of
+-- the last hop have not ended.
 pub record IsKept (st : State) (ends : List Bool) (from still_open still_coming : ℕ) : Type 0 where
   pub standing : IsState st
   pub ends_all : length ends ≡ 3

@@ -104,7 +104,7 @@ abbrev pub pulls : ℕ → State → State
 pulls zero st = st
 pulls (suc n) st = pulled_from (pulls n st) (lowest_unread (pulls n st))
 
--- What an unpull leaves: the item pulled last is the first one of its inbox again.
+-- The state after an unpull: the item pulled last is the first one of its inbox again.
 abbrev pub after_unpull : State → Option ℕ → State
 after_unpull st None = st
 after_unpull st (Some i) =
@@ -114,8 +114,8 @@ after_unpull st (Some i) =
       pulled = None;
     }
 
--- What a push leaves: the item, with its first tag, is the last entry of the open parcel toward the
--- rank's first stop.
+-- The state after a push: the item, with its first tag, is the last entry of the open parcel toward
+-- the rank's first stop.
 -- On the grid 2 rank 0's item for rank 1 is at the end of open parcel number 1.
 abbrev pub with_pushed : Item → ℕ → State → State
 with_pushed item to st =

@@ -1,5 +1,5 @@
-//! The way of parcels out of a rank's hands and into them, by the number of the neighbour: each
-//! call exchanges one for a parcel of the caller's, which is empty.
+//! Parcels that leave a rank's state or come into it, by the number of the neighbour: each call
+//! exchanges one for an empty parcel of the caller's.
 
 ghost use Rattle.std.specs.Prelude.{◌≡◌, ◌<◌, ◌≤◌, length, sum, slice_set, true, false, None};
 ghost use Rattle.std.specs.List.{All};

@@ -71,7 +71,7 @@ impl<const CAP: usize, const HOPS: usize> RankState<CAP, HOPS> {
         }
     }
 
-    /// The link in from which the next pull takes, as `unread` tells, for one who only looks.
+    /// The link in from which the next pull takes, as `unread` answers, without a change.
     #[inline]
     pub fn next_unread(&self) -> Option<u32>
         requires begun { self.now.phase ≢ Phase.Dormant }

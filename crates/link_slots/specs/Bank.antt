@@ -11,20 +11,20 @@ use Rattle.link_slots.specs.Link.{LinkOk, BellOk}
 module _ {D T : Type 0} (Blank : T → Type 0) (Good : ℕ → List T → T → Type 0)
     (Law : ℕ → (ℕ → List T) → (ℕ → List T) → Type 0) (shape : D) (w : Wiring) where
   -- The six parts, and the field that says each, for the lists of each rank (`logs`):
-  -- (i)   a link's reader took a prefix of what its sender posted, at most as many parcels are on
-  -- their way as it has slots, and two words
-  --       count what was posted and taken; each parcel in transit, and each empty one, lies in its
-  -- slot, but for those that the reader saw
-  --       or the sender may use, which are with these two (`each_link`; fresh parcels of the
-  -- capacity: its `good`); (ii)  tags are fair (`each_link`: `good`), and what a rank passed on is
-  -- a prefix of what it got (`each_rank`); (iii) a rank ended an epoch on a link only if it had got
-  -- all of it, and had passed all of it on (`each_rank`); (iv)  a parcel's epoch is the number of
-  -- last ones before it on its link (`each_link`: `good`); (v)   a rank's lists are in the view
-  -- of one seat, its owner, and in no other (`each_seat`, `owned`); (vi)  if a link's bit isn't set
-  -- and the link isn't marked, all that was offered is seen, and each look in answers one bit that
-  -- was
-  --       heard; a hear, and a look for room, that is counted was made (`each_bell`); a doorbell
-  -- has no other bits (`no_other_bits`).
+  -- (i) A link's reader took a prefix of what its sender posted, at most as many parcels are in
+  -- transit as it has slots, and two words count what was posted and taken; each parcel in transit,
+  -- and each empty one, is in its slot, but for those that the reader saw or the sender may use,
+  -- which are with these two (`each_link`; fresh parcels of the capacity: its `good`).
+  -- (ii) Tags are fair (`each_link`: `good`), and what a rank passed on is a prefix of what it got
+  -- (`each_rank`).
+  -- (iii) A rank ended an epoch on a link only if it had got all of it, and had passed all of it on
+  -- (`each_rank`).
+  -- (iv) A parcel's epoch is the number of last ones before it on its link (`each_link`: `good`).
+  -- (v) A rank's lists are in the view of one seat, its owner, and in no other (`each_seat`,
+  -- `owned`).
+  -- (vi) If a link's bit isn't set and the link isn't marked, all that was offered is seen, and
+  -- each look in answers one bit that was heard; a hear, and a look for room, that is counted was made
+  -- (`each_bell`); a doorbell has no other bits (`no_other_bits`).
   -- `wide` and `deep` say how many words and slots there are.
   pub record Lawful (s : State T (View D T)) : Type 0 where
     pub logs : ℕ → Lists T

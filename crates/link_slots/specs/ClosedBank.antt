@@ -24,7 +24,7 @@ each_below f (suc n) = each_below f n ++ f n ∷ []
 abbrev pub logs_at : List (Option (Lists Contents)) → ℕ → Lists Contents
 logs_at lists r = logs_or (slice_index_or lists r None)
 
--- What a slot bank leaves if it is closed with these lists of its ranks: of each link, what its
+-- What is known of a slot bank that is closed with these lists of its ranks: of each link, what its
 -- sender posted and its reader collected.
 abbrev pub round_left : Shape → ℕ → (ℕ → Lists Contents) → Round
 round_left shape cap logs = record {

@@ -1,4 +1,4 @@
--- What a rank's seat counts besides the table, and the lists that the counts stand for.
+-- What a rank's seat counts beside the table, and the lists that the counts are of.
 use Rattle.std.specs.Prelude.{◌≡◌, ◌≢◌, ◌⊎◌, ℕ, ◌+◌, ◌-◌, ◌*◌, ◌^◌, ◌%◌, ◌<◌, ◌≤◌, ◌==◌, Bool, true, false, List, take}
 use Rattle.std.specs.Prelude.{length, suc, [], ◌∷◌, ◌++◌}
 use Rattle.std.specs.Int.{bit_at}
@@ -16,7 +16,7 @@ use Rattle.port_bank.specs.declared.port.Collected.TheVariants.{Got, Nothing}
 use Rattle.link_slots.specs.Logs.{OutLog, InLog, Lists, in_of, found_full}
 use Rattle.link_slots.specs.Shape.{Shape, wiring, MayFollow}
 
--- What a post of parcel p makes of a link out, from o to o', by its answer.
+-- A link out before and after a post of parcel p, o and o', by its answer.
 -- looks, once: it looks at most once, and only if no empty slot is at hand.
 -- found: if it finds no room, every slot is taken, and nothing changed but the look.
 pub record HasPosted (slots : ℕ) (o o' : OutLog Contents) (p : Contents) (answer : Posted) : Type 0 where

@@ -16,8 +16,8 @@ module _ {T : Type 0} (Blank : T → Type 0) (Good : ℕ → List T → T → Ty
   -- Parts (i) and (iv) for a link l: G parcels were collected, `known` are seen, S are posted, and
   -- the sender may post below `room`:
   -- G <= known <= S <= room <= G + K. Of the K numbers from G on, those that the reader saw and
-  -- those that the sender may use are away from home; those posted and not yet seen are at home
-  -- with their parcel, and the others at home with an empty one.
+  -- those that the sender may use are not at the table; those posted and not yet seen are there
+  -- with their parcel, and the others there with an empty one.
   -- Good l before p says that p may follow `before` on l: it is fresh, of the bank's capacity, its
   -- entries have fair tags, and its epoch is the number of last parcels before it.
   pub record LinkOk (l : ℕ) (o : OutLog T) (i : InLog T) (words : List ℕ) (homes : List (Option T)) : Type 0 where

@@ -23,7 +23,7 @@ use Rattle.link_slots.specs.Counts.{IsInEnd, IsWire, IsHeard, KeepsOtherLinks, A
 use Rattle.link_slots.specs.Doorbell.{is_due, HeardWhere, LookedFor}
 
 -- A rank's seat m in its place, and link l, which ends at the rank. What the rank counts of the
--- link and of its hop's doorbell, besides the table, is what the seat's lists tell.
+-- link and of its hop's doorbell, beside the table, agrees with the seat's lists.
 pub record ReadsLink (shape : Shape) (table place : TableId) (m : Me Contents TableView) (l : ℕ) (counts : InEnd)
     (way : Wire) (bell : Ear) : Type 0 where
   pub at : IsAtIn shape table place m l
@@ -32,8 +32,8 @@ pub record ReadsLink (shape : Shape) (table place : TableId) (m : Me Contents Ta
   pub wire : IsWire shape.dims l way.bell way.mask way.hop
   pub ear : IsHeard shape m.0.pick (hop_at shape.dims l) (own_logs m.0) bell.marks bell.hears
 
--- What a rank's step on that link leaves, from m to m': its counts tell again what its lists do,
--- the lists are all that changed of the seat, and of the other links what a hear tells alone.
+-- A rank's step on that link, from m to m': its counts agree with its lists again, nothing but the
+-- lists of the seat changed, and of other links only what a hear changes.
 pub record HasRead (shape : Shape) (place place' : TableId) (m m' : Me Contents TableView) (l : ℕ) (counts : InEnd)
     (bell : Ear) : Type 0 where
   pub stays : StaysSeated shape place place' m'
@@ -42,7 +42,7 @@ pub record HasRead (shape : Shape) (place place' : TableId) (m m' : Me Contents 
   pub here : m'.0 ≡ with_logs m.0 (own_logs m'.0)
   pub others : KeepsOtherLinks shape m.0.pick l (own_logs m.0) (own_logs m'.0)
 
--- A collect from link l into parcel p, which leaves p' at hand, for parcels of capacity cap: the
+-- A collect from link l into parcel p, with p' at hand after it, for parcels of capacity cap: the
 -- rank's lists go from x to x', and what it counts of the link from counts to counts'.
 -- good: each parcel seen on the link may follow those before it.
 -- seen, more: nothing that was seen is lost, and the rank listened no less often.

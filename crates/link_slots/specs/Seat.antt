@@ -21,7 +21,7 @@ use Rattle.link_slots.specs.OwnLinks.{IsOwn}
 use Rattle.list_laws.specs.Counts.{saturated_count}
 use Rattle.link_slots.specs.Counts.{IsOutEnd, IsInEnd, IsHeard, AreGood, IsWire}
 
--- The seat speaks for its rank, and its counts are those of the rank's links.
+-- The seat is that of its rank, and its counts are those of the rank's links.
 pub record IsSeat (cap : ℕ) (shape : Shape) (m : Me Contents TableView) (rank : ℕ) (outs : List OutEnd) (ins : List InEnd)
     (ears : List Ear) (ended : List ℕ) : Type 0 where
   pub shaped : IsShape shape
@@ -48,7 +48,7 @@ pub record IsSeat (cap : ℕ) (shape : Shape) (m : Me Contents TableView) (rank 
   pub each_ended : (l d : ℕ) → l < links shape.dims → reader_at shape.dims l ≡ rank
       → slice_index_or ended l d ≡ saturated_count (lasts (map as_shipped (got_of (own_logs m.0) l)))
 
--- What is kept of a bank besides its table: the way of each link, by its number.
+-- What is stored of a bank beside its table: the words of each link, by its number.
 pub record IsWiredUp (cap : ℕ) (shape : Shape) (id : TableId) (slots : ℕ) (grid : List ℕ)
     (wires : List Wire) : Type 0 where
   pub is_cap : IsCap cap

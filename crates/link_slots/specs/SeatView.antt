@@ -26,7 +26,7 @@ pub record SeatView : Type 0 where
   pub noted : List ℕ
   pub ended : List ℕ
 
--- A bank's name, by which one is told from another.
+-- A bank's name: no two banks have the same.
 abbrev pub table_name : TableId → List ℕ
 table_name id = id.words ∷ id.slots ∷ id.views_name ∷ id.atom ∷ id.block ∷ id.offset ∷ id.slot_names
 

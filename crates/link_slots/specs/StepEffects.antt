@@ -1,4 +1,4 @@
--- What each step tells the seat that makes it. After each of them the seat holds the slots of its
+-- What a seat knows by each step that it makes. After each of them the seat holds the slots of its
 -- own numbers.
 use Rattle.std.specs.Prelude.{◌≡◌, ℕ, zero, suc, if◌then◌else◌, ◌+◌, ◌-◌, ◌^◌, ◌%◌, ◌≤◌, Bool, true, false, eqb, List}
 use Rattle.std.specs.Prelude.{[], ◌∷◌, ◌++◌, length, take}
@@ -36,15 +36,15 @@ module _ {T : Type 0} where
   in_front [] = []
   in_front (x ∷ c) = x.1 ∷ []
 
-  -- what a hear of the doorbell b, in which n was found, makes of the links in
+  -- the links in after a hear of the doorbell b, in which n was found
   abbrev pub heard_ins : Wiring → ℕ → ℕ → List (InLog T) → List (InLog T)
   heard_ins w b n ins = map_from (λ l i. if eqb (w.bell l) b then heard_by (bit_at n (w.bit l)) i else i) 0 ins
 
   abbrev pub after_hear : Wiring → ℕ → ℕ → Lists T → Lists T
   after_hear w b n x = record { outs = x.outs; ins = heard_ins w b n x.ins }
 
--- What a look before a step tells: where the step would leave the word as it is, the look is that
--- step; else nothing is changed by it.
+-- A look before a step: if the step would leave the word as it is, the look is that step; else
+-- nothing is changed by it.
 -- Example: a look before a ring, if the link's bit is set already, is the ring.
 abbrev pub LookedFirst : {M : Type 0} → Bool → (M → Type 0) → M → M → Type 0
 LookedFirst true Done m m' = Done m'
@@ -62,7 +62,7 @@ module _ {D T : Type 0} (Blank : T → Type 0) (Good : ℕ → List T → T → 
       (record o { room = length o.sent + (w.slots - beyond (length o.sent) n); looks = suc o.looks })))
       × Holds Blank w m.0.pick (own_logs m'.0) m'.1
 
-  -- Post: the parcel in front is appended, and its slot goes home.
+  -- Post: the parcel in front is appended, and its slot is at the table again.
   abbrev pub posted : ℕ → Me T (View D T) → Me T (View D T) → Type 0
   posted l m m' =
       let x = own_logs m.0 in let o = out_of x l in
@@ -87,8 +87,8 @@ module _ {D T : Type 0} (Blank : T → Type 0) (Good : ℕ → List T → T → 
       (record i { seen = i'.seen; marked = false; look_ins = suc i.look_ins })))
       × Holds Blank w m.0.pick (own_logs m'.0) m'.1
 
-  -- Release: one parcel more is taken, and its slot goes home; the bank keeps how often the sender
-  -- had looked for room then.
+  -- Release: one parcel more is taken, and its slot is at the table; the bank keeps how often the
+  -- sender had looked for room then.
   abbrev pub released : ℕ → Me T (View D T) → Me T (View D T) → Type 0
   released l m m' =
       let x = own_logs m.0 in let i = in_of x l in
@@ -99,7 +99,7 @@ module _ {D T : Type 0} (Blank : T → Type 0) (Good : ℕ → List T → T → 
       ))
       × Holds Blank w m.0.pick (own_logs m'.0) m'.1
 
-  -- The seat lays down what it holds and takes it up with the wanted slot last: a sender's next
+  -- The seat puts down what it holds and takes it up with the wanted slot last: a sender's next
   -- empty one, a reader's next full one. A reader that sends on the link too sees that what it saw
   -- there is a prefix of what it posted.
   abbrev pub spare_brought : ℕ → Me T (View D T) → Me T (View D T) → Type 0

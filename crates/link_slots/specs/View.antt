@@ -2,8 +2,8 @@
 use Rattle.std.specs.Prelude.{◌≡◌, ◌≢◌, ℕ, List, [], map, replicate, slice_index_or, slice_set, Option, Some, None}
 use Rattle.link_slots.specs.Logs.{Lists, no_out, no_in}
 
--- Which bank the seat is of, the lists of the ranks that it has, by rank, and the rank that it
--- speaks for. A rank's own seat has that rank's lists alone, the gathering seat those of the ranks
+-- Which bank the seat is of, the lists of the ranks that it has, by rank, and the rank that makes
+-- its steps. A rank's own seat has that rank's lists alone, the gathering seat those of the ranks
 -- that have no seat, and a spent view has none.
 pub record View (D T : Type 0) : Type 0 where
   pub shape : D
@@ -20,14 +20,14 @@ module _ {T : Type 0} where
   logs_or None = no_logs 0
 
 module _ {D T : Type 0} where
-  -- the lists of the rank that the seat speaks for
+  -- the lists of the rank that makes the seat's steps
   abbrev pub own_logs : View D T → Lists T
   own_logs v = logs_or (slice_index_or v.lists v.pick None)
 
   abbrev pub with_logs : View D T → Lists T → View D T
   with_logs v x = record { shape = v.shape; lists = slice_set v.lists v.pick (Some x); pick = v.pick }
 
-  -- The seat has the lists of the rank that it speaks for.
+  -- The seat has the lists of the rank that makes its steps.
   abbrev pub Speaks : View D T → Type 0
   Speaks v = slice_index_or v.lists v.pick None ≡ Some (own_logs v)
 

@@ -22,7 +22,7 @@ TableView = View Shape Contents
 abbrev pub IsLawful : ℕ → Shape → State Contents TableView → Type 0
 IsLawful cap shape = Lawful IsBlank (MayFollow shape.dims cap) (KeepsLaw shape.dims) shape (wiring shape)
 
--- A rank's seat: it speaks for a rank of this bank, and holds the slots of its own numbers.
+-- A rank's seat: it is that of a rank of this bank, and holds the slots of its own numbers.
 pub record HoldsSeat (shape : Shape) (m : Me Contents TableView) : Type 0 where
   pub of : m.0.shape ≡ shape
   pub speaks : Speaks m.0
@@ -44,12 +44,12 @@ pub record IsAtIn (shape : Shape) (table place : TableId) (m : Me Contents Table
   pub below : l < links shape.dims
   pub own : reader_at shape.dims l ≡ m.0.pick
 
--- What each step leaves: the same place, and a seat of this bank.
+-- After each step the seat is in the same place, and of this bank.
 pub record StaysSeated (shape : Shape) (place place' : TableId) (m : Me Contents TableView) : Type 0 where
   pub table : place' ≡ place
   pub seat : HoldsSeat shape m
 
--- What one step of a rank's seat makes of what it knows and holds, from m to m', if it found n.
+-- What a rank's seat knows and holds before and after one step, m and m', if it found n.
 module _ (cap : ℕ) (shape : Shape) (l : ℕ) (m : Me Contents TableView) where
   abbrev pub room_found : ℕ → Me Contents TableView → Type 0
   room_found n m' = plays.found_room IsBlank (MayFollow shape.dims cap) (wiring shape) l m n m'

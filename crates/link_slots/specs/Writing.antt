@@ -11,7 +11,7 @@ use Rattle.link_slots.specs.WordSteps.{TableView, IsAtOut, StaysSeated}
 use Rattle.link_slots.specs.Counts.{IsOutEnd}
 
 -- A rank's seat m in its place, and link l, which starts at the rank and has so many slots. What
--- the rank counts of the link, besides the table, is what the seat's lists tell.
+-- the rank counts of the link, beside the table, agrees with the seat's lists.
 pub record WritesLink (shape : Shape) (table place : TableId) (m : Me Contents TableView) (l slots : ℕ)
     (counts : OutEnd) : Type 0 where
   pub at : IsAtOut shape table place m l

@@ -3,8 +3,8 @@
 //! A link has 1, 2, 4 or 8 slots, each with a parcel in it. To post, a rank exchanges its full
 //! parcel for the empty one in a slot; to collect, its empty one for the full one. Two words for
 //! each link count what was posted and what was released, and one doorbell word for each rank and
-//! hop tells a reader which links were rung for. After `new` no memory is taken, and no call waits.
-//! docs/SLOT_LINKS.md tells which accident each step prevents.
+//! hop shows a reader which links were rung for. After `new` no memory is taken, and no call waits.
+//! docs/SLOT_LINKS.md says which race each step prevents.
 //!
 //! | Call | Answer |
 //! |---|---|

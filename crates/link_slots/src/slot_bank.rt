@@ -1,4 +1,4 @@
-//! The slot bank: the table that all ranks' seats share, and the way of each link.
+//! The slot bank: the table that all ranks' seats share, and the words of each link.
 ghost use Rattle.std.specs.Prelude.{◌≡◌, ◌<◌, false, [], length, replicate, IfOk, Some, None, slice_index_or};
 ghost use Rattle.item_buffer.specs.Capacity.{IsCap};
 ghost use Rattle.item_buffer.specs.Contents.{blank};

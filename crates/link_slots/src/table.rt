@@ -1,4 +1,4 @@
-//! The table that the threads share: its rule, what is told once of it, what a seat at it knows,
+//! The table that the threads share: its rule, what it is given once, what a seat at it knows,
 //! and each step that a seat makes.
 
 pub(crate) mod plan;

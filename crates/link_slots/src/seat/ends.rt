@@ -1,4 +1,4 @@
-//! What a rank's seat counts for each of its links, besides the table.
+//! What a rank's seat counts for each of its links, beside the table.
 ghost use Rattle.std.specs.Prelude.{◌≡◌, ℕ, ◌+◌, ◌*◌, ◌%◌, ◌^◌};
 ghost use Rattle.port_bank.specs.Port.{IsSlots};
 

@@ -114,8 +114,8 @@ impl<const CAP: usize> GatherSeat<CAP> {
 }
 
 impl<const CAP: usize> SlotBank<CAP> {
-    /// The gathering seat learns what the rank knows, and what it knew of the others stands. The
-    /// seat's slots stay if they are.
+    /// The gathering seat learns what the rank knows, and still knows what it knew of the others.
+    /// The seat's slots stay where they are.
     pub fn gather(&self, g: &mut GatherSeat<CAP>, seat: SlotSeat<CAP>)
         requires bank { (g.old.id ≡ self.now.id) × (g.old.shape ≡ self.now.shape) }
         requires seat { (seat.id ≡ self.now.id) × (seat.shape ≡ self.now.shape) }

@@ -31,23 +31,23 @@ impl<const CAP: usize> SlotBank<CAP> {
 }
 
 /// Between any two steps, whichever threads make them, the bank is lawful: the rule that its table
-/// keeps (`SlotBank::table`), `Links`, says so in all six parts. This call tells it, and does
-/// nothing else.
+/// keeps (`SlotBank::table`), `Links`, says so in all six parts. It is a law: the call does
+/// nothing.
 pub fn rule_law<const CAP: usize>()
     ensures { (shape : Shape) (s : State Contents TableView)
         → ⟦<Links<CAP> as TableRule<Slot<CAP>, Knows, Plan>>⟧.holds shape s → IsLawful CAP shape s }
 {}
 
 /// The lists of a lawful bank keep the laws of a round at every moment, and not only when it is
-/// closed. This call tells it, and does nothing else.
+/// closed. It is a law: the call does nothing.
 pub fn live_law<const CAP: usize>()
     ensures { LiveLaw CAP }
 {}
 
 /// If a link's bit isn't set, as right after a hear of its doorbell, or the reader has heard it
 /// since the sender last rang, and a collect of the link answered Nothing, each parcel that was
-/// offered is collected; and a step that counts a hear marks each link for which one rang. This
-/// call tells it, and does nothing else.
+/// offered is collected; and a step that counts a hear marks each link for which one rang. It is
+/// a law: the call does nothing.
 pub fn bell_law<const CAP: usize>()
     ensures unset { BellLaw CAP }
     ensures heard { HeardLaw CAP }
@@ -56,7 +56,7 @@ pub fn bell_law<const CAP: usize>()
 
 /// If the sender of a link has looked for room since the latest release, and a post answered
 /// NoRoom, every slot of the link is taken; and a step that counts a look finds all the room that
-/// there is. This call tells it, and does nothing else.
+/// there is. It is a law: the call does nothing.
 pub fn room_law<const CAP: usize>()
     ensures full { NoRoomLaw CAP }
     ensures step { LookLaw CAP }

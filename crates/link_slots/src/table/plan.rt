@@ -1,4 +1,4 @@
-//! What a bank is told once, when it is made.
+//! What a bank is given once, when it is made.
 ghost use Rattle.link_slots.specs.Shape.{Shape};
 
 use route_tensor::Grid;

@@ -1,4 +1,4 @@
-//! What each kind of step tells the seat that makes it.
+//! What a seat knows by each kind of step that it makes.
 ghost use Rattle.link_slots.specs.WordSteps.{room_told, post_told, look_told, release_told, spare_told, parcel_told, ring_look_told, ring_told, hear_told, pick_told};
 ghost use Rattle.link_slots.specs.View.{without_pick, pick_alone, emptied, gathered, spent};
 ghost use Rattle.link_slots.specs.Shape.{no_shape};
@@ -31,14 +31,14 @@ impl<const CAP: usize> Play<Slot<CAP>, Knows> for Release {
     ghost then = { release_told CAP };
 }
 
-/// The seat lays down what it holds, and takes it up with the slot of the link's next post last.
+/// The seat puts down what it holds, and takes it up with the slot of the link's next post last.
 pub(crate) struct BringSpare;
 
 impl<const CAP: usize> Play<Slot<CAP>, Knows> for BringSpare {
     ghost then = { spare_told CAP };
 }
 
-/// The seat lays down what it holds, and takes it up with the slot of the link's next parcel last.
+/// The seat puts down what it holds, and takes it up with the slot of the link's next parcel last.
 pub(crate) struct BringParcel;
 
 impl<const CAP: usize> Play<Slot<CAP>, Knows> for BringParcel {

@@ -20,9 +20,9 @@ impl<const CAP: usize> TableRule<Slot<CAP>, Knows, Plan> for Links<CAP> {
 }
 
 /// Word `2 * link` counts the parcels posted on a link, word `2 * link + 1` those released by its
-/// reader, and behind these words stand the doorbells. Word number `n` is at word `16 * n` of
-/// the table, on cache lines of its own. Slot `slots * link + n % slots` is the way of parcel
-/// number n.
+/// reader, and the doorbells come after these words. Word number `n` is at word `16 * n` of the
+/// table, on cache lines of its own. Parcel number n of a link goes through slot
+/// `slots * link + n % slots`.
 pub(crate) type Board<const CAP: usize> = Table<Slot<CAP>, Knows, Plan, Links<CAP>, Global>;
 
 pub(crate) type Top<const CAP: usize> = Shared<Slot<CAP>, Knows, Plan, Links<CAP>>;

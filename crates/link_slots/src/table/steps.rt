@@ -1,5 +1,5 @@
-//! The steps of a rank's seat: each is one exchange with the table, and the way of a parcel into a
-//! slot or out of it.
+//! The steps of a rank's seat: each is one exchange with the table, by which a parcel goes into a
+//! slot or comes out of it.
 ghost use Rattle.std.specs.Prelude.{◌≡◌, ◌+◌, ◌*◌, ◌^◌, ◌<◌, true, ◌∷◌, length};
 ghost use mathlib.Core.Option.{some};
 ghost use lib.ListN.{get_elem?};

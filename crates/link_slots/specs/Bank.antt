@@ -23,8 +23,8 @@ module _ {D T : Type 0} (Blank : T → Type 0) (Good : ℕ → List T → T → 
   -- (v) A rank's lists are in the view of one seat, its owner, and in no other (`each_seat`,
   -- `owned`).
   -- (vi) If a link's bit isn't set and the link isn't marked, all that was offered is seen, and
-  -- each look in answers one bit that was heard; a hear, and a look for room, that is counted was made
-  -- (`each_bell`); a doorbell has no other bits (`no_other_bits`).
+  -- each look in answers one bit that was heard; a hear, and a look for room, that is counted was
+  -- made (`each_bell`); a doorbell has no other bits (`no_other_bits`).
   -- `wide` and `deep` say how many words and slots there are.
   pub record Lawful (s : State T (View D T)) : Type 0 where
     pub logs : ℕ → Lists T

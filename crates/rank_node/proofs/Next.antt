@@ -55,7 +55,7 @@ filling_later : (s : Stage) → s ≡ Start → s ≡ Filling → ⊥
 filling_later s a b = absurd (cc)
 
 -- so it is in cycle 0
-cycle_at_start : {S : Type 0} (R : Rules S) (quota : ℕ → ℕ) (run : Running S) (cap : ℕ) (x : Stack) (sent got : Logs) → IsStacking cap x sent got → x.stage ≡ Start
+pub cycle_at_start : {S : Type 0} (R : Rules S) (quota : ℕ → ℕ) (run : Running S) (cap : ℕ) (x : Stack) (sent got : Logs) → IsStacking cap x sent got → x.stage ≡ Start
     → length (to_send R run.prog run.sends) ≤ quota x.epoch → MarksLast quota x sent → InCycle R quota 0 run x sent got
 cycle_at_start R quota run cap x sent got is start few marks =
     let e : exchanges_in 0 x.stage ≡ 0 = ap (exchanges_in 0) start in

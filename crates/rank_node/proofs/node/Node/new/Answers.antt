@@ -1,4 +1,4 @@
-use Rattle.std.proofs.Common.{sym, subst}
+use Rattle.std.proofs.Common.{false, sym, subst}
 use Rattle.rank_node.specs.declared.sends.Sends.TheVariants.{Emissions}
 use Rattle.rank_node.specs.Movers.{manner_of, mover_state, IsNew}
 use Rattle.rank_node.specs.Nodes.{IsNewNode}

@@ -55,13 +55,16 @@ returns-clause-turned g c =
     let b = c.port-replying.result.rank in
     let a' = c.turn.new.queries.rank in
     let b' = c.turn.new.replies.rank in
-    let noted = (calls_of c.port-asking.result.calls, calls_of c.turn.new.queries.calls, calls_of c.port-replying.result.calls, calls_of c.turn.new.replies.calls) in
-    let notified : PortTurns T g.row.CAP n n' noted.0 noted.1 noted.2 noted.3 pq a pq' a' pr b pr' b' = record { turns = c.turn.ensures.turns; stuck = c.in_ok-_turn.ensures.stuck } in
+    let k = calls_of c.port-asking.result.calls in
+    let k' = calls_of c.turn.new.queries.calls in
+    let j = calls_of c.port-replying.result.calls in
+    let j' = calls_of c.turn.new.replies.calls in
+    let notified : PortTurns T g.row.CAP n n' k k' j j' pq a pq' a' pr b pr' b' = record { turns = c.turn.ensures.turns; stuck = c.in_ok-_turn.ensures.stuck } in
     subst (λ (x : Bank). AfterBiRank T q.dims g.row.CAP q.slots c.args.number n n' (sides_of q r) (sides_of x c.into_bank-2.result)) (sym c.into_bank.ensures.bank)
     (subst (λ (x : Bank). AfterBiRank T q.dims g.row.CAP q.slots c.args.number n n' (sides_of q r) (sides_of pq' x)) (sym c.into_bank-2.ensures.bank)
-    (after_turn T q.dims g.row.CAP q.slots c.args.number n n' noted.0 noted.1 noted.2 noted.3 q a pq' a' r b pr' b' refl refl c.requires.banks.replies_dims c.requires.banks.replies_slots
+    (after_turn T q.dims g.row.CAP q.slots c.args.number n n' k k' j j' q a pq' a' r b pr' b' refl refl c.requires.banks.replies_dims c.requires.banks.replies_slots
     (c.turn.ensures.turns.queries.same_port.dims ∙ ap (λ (x : Bank). x.dims) c.port-asking.ensures.bank) (c.turn.ensures.turns.queries.same_port.slots ∙ ap (λ (x : Bank). x.slots) c.port-asking.ensures.bank)
     (c.turn.ensures.turns.replies.same_port.dims ∙ ap (λ (x : Bank). x.dims) c.port-replying.ensures.bank) (c.turn.ensures.turns.replies.same_port.slots ∙ ap (λ (x : Bank). x.slots) c.port-replying.ensures.bank)
     c.port-asking.ensures.rank c.turn.ensures.turns.queries.same_port.rank c.port-replying.ensures.rank c.turn.ensures.turns.replies.same_port.rank
     h.same_dims h.same_rank (h.node.same_dims ∙ h.same_dims) (h.node.same_rank ∙ h.same_rank)
-    (subst (λ (x : Bank). PortTurns T g.row.CAP n n' noted.0 noted.1 noted.2 noted.3 q a pq' a' x b pr' b') c.port-replying.ensures.bank (subst (λ (x : Bank). PortTurns T g.row.CAP n n' noted.0 noted.1 noted.2 noted.3 x a pq' a' pr b pr' b') c.port-asking.ensures.bank notified))))
+    (subst (λ (x : Bank). PortTurns T g.row.CAP n n' k k' j j' q a pq' a' x b pr' b') c.port-replying.ensures.bank (subst (λ (x : Bank). PortTurns T g.row.CAP n n' k k' j j' x a pq' a' pr b pr' b') c.port-asking.ensures.bank notified))))

@@ -22,8 +22,8 @@ use Rattle.rank_node.specs.Runs.{Running}
 use Rattle.rank_node.specs.Movers.{MoverState, mover_dims, IsStacking, IsMoving, GoesToNextEpoch, HasCap, SameUnread, epoch_in}
 use Rattle.rank_node.specs.Movers.MoverState.{Conveying, Stacking}
 use Rattle.rank_node.specs.Cycles.{exchanges_in, cycles_gone_on, MarksLast, InCycle, IsInCycle}
-use Rattle.rank_node.specs.Nodes.{NodeState, IsNode}
-use Rattle.rank_node.specs.Next.{with_next, MayGoOn, KeepsTransport, BeginsEpoch}
+use Rattle.rank_node.specs.Nodes.{NodeState}
+use Rattle.rank_node.specs.Next.{MayGoOn, KeepsTransport, BeginsEpoch}
 use Rattle.rank_node.proofs.Paced.{marks_like}
 use Rattle.rank_node.proofs.Onward.{round_few, epoch_is, node_votes, node_work}
 

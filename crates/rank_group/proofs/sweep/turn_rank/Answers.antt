@@ -45,15 +45,17 @@ next-requires g c =
     let is : HasRank g.Q.Program.rules c.args.bank.dims g.row.CAP manner c.args.number h inside (sent_of c.args.bank) (got_of c.args.bank) =
     subst (λ (m : RankState g.row.Q.Denot). HasRank g.Q.Program.rules c.args.bank.dims g.row.CAP manner c.args.number h m (sent_of c.args.bank) (got_of c.args.bank)) (sym c.rank.view_is) c.requires.rank.2 in
     let t = c.in_ok-bank.ensures.turned in
-    let few = subst (λ (m : RankState g.row.Q.Denot). epoch_in m.node.mover < 2 ^ 63) (sym c.rank.view_is) c.requires.few in
-    (search rules, record {
-      over = t.ended c.in-Ended.is;
-      epochs = subst (λ e. e < 2 ^ 63) (sym t.same.epoch) few;
-      history = h;
-      sent = starting_at c.args.bank.dims c.args.number (sent_of c.in_ok-bank.bank);
-      got = ending_at c.args.bank.dims c.args.number (got_of c.in_ok-bank.bank);
-      node = t.kept h (is.runs c.if-rank.false);
-    })
+    let few = subst (λ (m : RankState g.row.Q.Denot). epoch_in m.node.mover < 2 ^ 63) (sym c.rank.view_is) c.requires.few in (
+      search rules,
+      record {
+        over = t.ended c.in-Ended.is;
+        epochs = subst (λ e. e < 2 ^ 63) (sym t.same.epoch) few;
+        history = h;
+        sent = starting_at c.args.bank.dims c.args.number (sent_of c.in_ok-bank.bank);
+        got = ending_at c.args.bank.dims c.args.number (got_of c.in_ok-bank.bank);
+        node = t.kept h (is.runs c.if-rank.false);
+      },
+    )
 
 pub returns-in-Going-clause-turned : goal.returns-in-Going-clause-turned
 returns-in-Going-clause-turned g c =

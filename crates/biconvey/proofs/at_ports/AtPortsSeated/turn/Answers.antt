@@ -15,13 +15,15 @@ turn-requires g c =
     let x : BiSeatedState g.row.A.Denot = record { node = i.node; queries = q; replies = p; turns = i.turns } in
     let was : BiSeatedState g.row.A.Denot = record { node = i.node; queries = i.queries.port.seat; replies = i.replies.port.seat; turns = i.turns } in
     let at : x ≡ was = ap (λ k. record { node = i.node; queries = k.seat; replies = p; turns = i.turns }) c.watch.ensures.port ∙ ap (λ k. record { node = i.node; queries = i.queries.port.seat; replies = k.seat; turns = i.turns }) c.watch-2.ensures.port in
-    let w = subst (HasSomeBiRun g.A.Asker.talk g.row.CAP) (sym at) c.self.invariant in
-    (search rules, record {
-      queries = record { same_dims = sym w.way.queries.same_dims; same_rank = sym w.way.queries.same_rank };
-      replies = record { same_dims = sym w.way.replies.same_dims; same_rank = sym w.way.replies.same_rank };
-      start = w.start;
-      node = w.way.node;
-    })
+    let w = subst (HasSomeBiRun g.A.Asker.talk g.row.CAP) (sym at) c.self.invariant in (
+      search rules,
+      record {
+        queries = record { same_dims = sym w.way.queries.same_dims; same_rank = sym w.way.queries.same_rank };
+        replies = record { same_dims = sym w.way.replies.same_dims; same_rank = sym w.way.replies.same_rank };
+        start = w.start;
+        node = w.way.node;
+      },
+    )
 
 pub invariant_of-self : goal.invariant_of-self
 invariant_of-self g c =

@@ -65,8 +65,8 @@ begun {S} T cap dims slots steady askers s ns fresh all some is =
       inboxes = λ l below. let z = no_unread dims (map f ns) (λ r c from m. let x = mapped f r c from in subst (λ (y : State). (in_of y m).parcel.untaken ≡ []) x.2 ((each r x.0 x.1).1 m)) l in omega (arith, z);
     } in
     record {
-      queries = way (λ n. n.queries) (λ r n from. let f = fresh.each r n from in (f.same_steady.0, λ l. (f.unread l).0));
-      replies = way (λ n. n.replies) (λ r n from. let f = fresh.each r n from in (f.same_steady.1, λ l. (f.unread l).1));
+      queries = way (λ n. n.queries) (λ r n from. let f = fresh.each r n from in (f.new.queries.same_steady, f.new.queries.unread));
+      replies = way (λ n. n.replies) (λ r n from. let f = fresh.each r n from in (f.new.replies.same_steady, f.new.replies.unread));
       some = slots_some slots is.counts;
       some_cap = some;
       each = λ r n from.
@@ -74,12 +74,12 @@ begun {S} T cap dims slots steady askers s ns fresh all some is =
           let own : slice_get askers r ≡ Some n.asker = ap (λ xs. slice_get xs r) (sym fresh.same) ∙ get_map (λ (m : BiState S). m.asker) ns r n from in
           let same : n.asker ≡ starts_of askers s r = sym (get_or_from_slice_get askers r n.asker s own) in
           record {
-            same_dims = f.same_dims;
-            same_rank = f.same_rank;
+            same_dims = f.new.queries.same_dims;
+            same_rank = f.new.queries.same_rank ∙ f.own_rank;
             node =
                 subst (λ t. IsBiNode T t n (starting_at dims r (sent_of b)) (ending_at dims r (got_of b)) (starting_at dims r (sent_of b)) (ending_at dims r (got_of b))) same
                 (subst (λ (a : Logs). IsBiNode T n.asker n a (ending_at dims r (got_of b)) a (ending_at dims r (got_of b))) (sym (no_sent r))
-                (subst (λ (a : Logs). IsBiNode T n.asker n (λ l. []) a (λ l. []) a) (sym (no_got r)) f.node));
+                (subst (λ (a : Logs). IsBiNode T n.asker n (λ l. []) a (λ l. []) a) (sym (no_got r)) f.new.node));
           };
     } where
       mapped : (f : BiState S → State) (r : ℕ) (c : State) → slice_get (map f ns) r ≡ Some c → (n : BiState S) × (slice_get ns r ≡ Some n) × (f n ≡ c)
@@ -164,7 +164,7 @@ module _ {S : Type 0} (T : Talk S) (cap : ℕ) (dims : List ℕ) (slots : ℕ) (
 
   -- no rank is over as an exchange begins, so each is turned
   none_over : list_all is_over ns ≡ false
-  none_over = by ns (λ n at. (fresh.each 0 n at).working) (let positive = ranks_some dims is.grid.positive in let e = ap length fresh.same in omega (arith, positive, all.size, e, length-map ns (λ (n : BiState S). n.asker))) where
+  none_over = by ns (λ n at. (fresh.each 0 n at).new.queries.working) (let positive = ranks_some dims is.grid.positive in let e = ap length fresh.same in omega (arith, positive, all.size, e, length-map ns (λ (n : BiState S). n.asker))) where
     by : (xs : List (BiState S)) → ((n : BiState S) → slice_get xs 0 ≡ Some n → n.queries.phase ≡ Working) → 0 < length xs → list_all is_over xs ≡ false
     by [] working some = absurd (omega (arith, some))
     by (x ∷ xs) working some = ap (λ p. (is_complete p && is_complete x.replies.phase) && list_all is_over xs) (working x refl)

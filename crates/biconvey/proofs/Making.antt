@@ -3,11 +3,9 @@ use Rattle.std.proofs.Common.{◌≡◌, ℕ, ◌+◌, Bool, List, [], ◌∷◌
 use Rattle.std.proofs.lemmas.Bool.{cases_lt}
 use Rattle.std.proofs.lemmas.List.{map-append, length-map, append-nil}
 use Rattle.list_laws.proofs.Lists.{within, get_once, get_last, get_before}
-use Rattle.hop_core.specs.declared.phase.Phase.TheVariants.{Working}
-use Rattle.convey.specs.Buffers.{in_of}
 use Rattle.round_program.specs.Talks.{Talk}
 use Rattle.rank_group.proofs.Making.{at_end, shift, first_of, none_of}
-use Rattle.query_node.specs.States.{BiState, IsBiNode}
+use Rattle.query_node.specs.States.{BiState, IsNewBiNode}
 use Rattle.biconvey.specs.Drives.{AreAskers, IsFreshBiRank, AreFreshBiRanks, askers_of}
 
 -- ranks for the askers so far
@@ -22,22 +20,17 @@ module _ {S : Type 0} (T : Talk S) (dims : List ℕ) (steady : Bool) (starts res
       ap (λ xs. slice_get xs (length ns)) (f.left ∙ ap (λ ys. askers_of ns ++ ys) (first_of rest q at))
       ∙ (ap (slice_get (askers_of ns ++ q ∷ drop 1 rest)) (sym (length-map ns (λ (n : BiState S). n.asker))) ∙ at_end (askers_of ns) (drop 1 rest) q)
 
-  pub making_more : (p : ℕ) (rest' : List S) (ns' : List (BiState S)) (q : S) (n : BiState S) → AreAskers T p starts → slice_get rest 0 ≡ Some q → rest' ≡ drop 1 rest → ns' ≡ ns ++ n ∷ []
-      → IsBiNode T q n (λ l. []) (λ l. []) (λ l. []) (λ l. []) → n.asker ≡ q → n.queries.dims ≡ dims → n.queries.rank ≡ T.rank q → n.queries.phase ≡ Working → (n.queries.steady ≡ steady) × (n.replies.steady ≡ steady)
-      → ((l : ℕ) → ((in_of n.queries l).parcel.untaken ≡ []) × ((in_of n.replies l).parcel.untaken ≡ [])) → Making T dims steady starts rest' ns'
-  making_more p rest' ns' q n all at gone more node np nd nr working steadies unread =
+  pub making_more : (p : ℕ) (rest' : List S) (ns' : List (BiState S)) (q : S) (n : BiState S) → AreAskers T p starts → slice_get rest 0 ≡ Some q → rest' ≡ drop 1 rest → ns' ≡ ns ++ n ∷ [] → IsNewBiNode T dims steady q n
+      → Making T dims steady starts rest' ns'
+  making_more p rest' ns' q n all at gone more new =
       let made : IsFreshBiRank T dims steady (length ns) n = record {
-        same_dims = nd;
-        same_rank = nr ∙ (all.each (length ns) q (next_asker q at)).0;
-        same_steady = steadies;
-        working = working;
-        node = subst (λ (s : S). IsBiNode T s n (λ l. []) (λ l. []) (λ l. []) (λ l. [])) (sym np) node;
-        unread = unread;
+        own_rank = ap T.rank new.asker ∙ (all.each (length ns) q (next_asker q at)).0;
+        new = subst (λ (s : S). IsNewBiNode T dims steady s n) (sym new.asker) new;
       } in
       let size : length (ns ++ n ∷ []) ≡ length ns + 1 = length-append ns (n ∷ []) in
       record {
         left = f.left ∙ (ap (λ ys. askers_of ns ++ ys) (first_of rest q at) ∙ (sym (shift (askers_of ns) (drop 1 rest) q)
-            ∙ (ap (λ s. (askers_of ns ++ s ∷ []) ++ drop 1 rest) (sym np) ∙ (ap (λ ps. ps ++ drop 1 rest) (sym (map-append (λ (m : BiState S). m.asker) ns (n ∷ []))) ∙ (ap (λ ys. askers_of ys ++ drop 1 rest) (sym more) ∙ ap (λ ys. askers_of ns' ++ ys) (sym gone))))));
+            ∙ (ap (λ s. (askers_of ns ++ s ∷ []) ++ drop 1 rest) (sym new.asker) ∙ (ap (λ ps. ps ++ drop 1 rest) (sym (map-append (λ (m : BiState S). m.asker) ns (n ∷ []))) ∙ (ap (λ ys. askers_of ys ++ drop 1 rest) (sym more) ∙ ap (λ ys. askers_of ns' ++ ys) (sym gone))))));
         each = λ r m now. elim (cases_lt r (length ns)) [
           | inl below ↦ f.each r m (sym (get_before ns (n ∷ []) r below) ∙ (ap (λ xs. slice_get xs r) (sym more) ∙ now))
           | inr past ↦

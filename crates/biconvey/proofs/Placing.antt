@@ -97,17 +97,17 @@ module _ {S : Type 0} (T : Talk S) (cap : ℕ) (b p : BankIdentity) (same : p.sh
           numbers = (rank_q, rank_p);
           none = refl;
           way = record {
-            queries = record { same_dims = f.same_dims ∙ sym dims_q; same_rank = f.same_rank ∙ sym rank_q };
-            replies = record { same_dims = f.node.same_dims ∙ (f.same_dims ∙ sym dims_p); same_rank = f.node.same_rank ∙ (f.same_rank ∙ sym rank_p) };
-            same_steady = f.same_steady;
+            queries = record { same_dims = f.new.queries.same_dims ∙ sym dims_q; same_rank = f.new.queries.same_rank ∙ (f.own_rank ∙ sym rank_q) };
+            replies = record { same_dims = f.new.replies.same_dims ∙ sym dims_p; same_rank = f.new.replies.same_rank ∙ (f.own_rank ∙ sym rank_p) };
+            same_steady = (f.new.queries.same_steady, f.new.replies.same_steady);
             node =
                 subst (λ (a : Logs). IsBiNode T node.asker node a (collected_from sq) (posted_on sp) (collected_from sp)) (sym new_q.sent)
                 (subst (λ (a : Logs). IsBiNode T node.asker node (λ l. []) a (posted_on sp) (collected_from sp)) (sym new_q.got)
                 (subst (λ (a : Logs). IsBiNode T node.asker node (λ l. []) (λ l. []) a (collected_from sp)) (sym new_p.sent)
-                (subst (λ (a : Logs). IsBiNode T node.asker node (λ l. []) (λ l. []) (λ l. []) a) (sym new_p.got) f.node)));
+                (subst (λ (a : Logs). IsBiNode T node.asker node (λ l. []) (λ l. []) (λ l. []) a) (sym new_p.got) f.new.node)));
             queries_shape = no_parcels steady cap (posted_on sq) new_q.sent;
             replies_shape = no_parcels steady cap (posted_on sp) new_p.sent;
-            some = λ over. absurd (true≢false (sym over ∙ ap (λ k. is_complete k && is_complete node.replies.phase) f.working));
+            some = λ over. absurd (true≢false (sym over ∙ ap (λ k. is_complete k && is_complete node.replies.phase) f.new.queries.working));
           };
         }
 

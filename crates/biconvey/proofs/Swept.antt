@@ -1,16 +1,13 @@
 -- One more rank is turned in a sweep.
-use Rattle.std.proofs.Common.{◌≡◌, ◌≢◌, ℕ, ◌+◌, ◌<◌, ◌≤◌, Bool, cond, List, [], length, map, Some, slice_get, get_or, sym, ap, subst, ◌∙◌, arith, inl, inr}
+use Rattle.std.proofs.Common.{◌≡◌, ◌≢◌, ℕ, ◌+◌, ◌<◌, ◌≤◌, Bool, List, length, map, Some, slice_get, get_or, sym, ap, subst, ◌∙◌, arith, inl, inr}
 use Rattle.std.specs.Option.{option_map}
-use Rattle.std.proofs.lemmas.Bool.{cases_eq, ne_eqb}
-use Rattle.std.proofs.lemmas.List.{length-map, get_or_past}
+use Rattle.std.proofs.lemmas.Bool.{cases_eq}
+use Rattle.std.proofs.lemmas.List.{length-map}
 use Rattle.std.proofs.lemmas.Option.{slice_get-map, get_or_from_slice_get}
 use Rattle.list_laws.proofs.Lists.{find, get_once, get_map}
 use Rattle.route_tensor.specs.Grid.{ranks}
-use Rattle.port_bank.specs.Logs.{Logs, starting_at, ending_at}
-use Rattle.convey.proofs.OneRank.{starting-own}
-use Rattle.route_tensor.specs.Link.{links}
-use Rattle.route_tensor.specs.Ends.{sender_at}
-use Rattle.port_bank.specs.Plain.{Bank, IsBank, unused_channel, channel_at, sent_of, got_of}
+use Rattle.port_bank.specs.Logs.{starting_at, ending_at}
+use Rattle.port_bank.specs.Plain.{Bank, sent_of, got_of}
 use Rattle.port_bank.proofs.Owners.{sent_elsewhere, got_elsewhere}
 use Rattle.hop_core.specs.State.{State}
 use Rattle.round_program.specs.Talks.{Talk}

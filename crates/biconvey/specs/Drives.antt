@@ -6,12 +6,10 @@ use Rattle.route_tensor.specs.Link.{links}
 use Rattle.port_bank.specs.Logs.{lasts, EndsLast}
 use Rattle.port_bank.specs.Round.{Round, logs_of, pushed_items, pulled_items}
 use Rattle.port_bank.specs.Shapes.{IsConveyorShape}
-use Rattle.hop_core.specs.declared.phase.Phase.TheVariants.{Working}
-use Rattle.convey.specs.Buffers.{in_of}
 use Rattle.rank_group.specs.Transcript.{BankShape}
 use Rattle.round_program.specs.Talks.{Talk}
 use Rattle.round_program.specs.Replies.{queries_to, answers}
-use Rattle.query_node.specs.States.{BiState, IsBiNode}
+use Rattle.query_node.specs.States.{BiState, IsNewBiNode}
 
 -- Askers for the ranks 0, 1, .., p - 1, in this order.
 pub record AreAskers {S : Type 0} (T : Talk S) (p : ℕ) (askers : List S) : Type 0 where
@@ -58,15 +56,10 @@ pub record RecordsExchange {S : Type 0} (T : Talk S) (askers : List S) (made : B
   pub asking : RecordsOneWay made steady (queries_by T askers) queries
   pub replying : RecordsOneWay made steady (replies_by T askers) replies
 
--- A rank before its first turn, which may push: nothing was sent or collected on its ports, and
--- nothing is unread.
+-- Rank r before its first turn.
 pub record IsFreshBiRank {S : Type 0} (T : Talk S) (dims : List ℕ) (steady : Bool) (r : ℕ) (n : BiState S) : Type 0 where
-  pub same_dims : n.queries.dims ≡ dims
-  pub same_rank : n.queries.rank ≡ r
-  pub same_steady : (n.queries.steady ≡ steady) × (n.replies.steady ≡ steady)
-  pub working : n.queries.phase ≡ Working
-  pub node : IsBiNode T n.asker n (λ l. []) (λ l. []) (λ l. []) (λ l. [])
-  pub unread : (l : ℕ) → ((in_of n.queries l).parcel.untaken ≡ []) × ((in_of n.replies l).parcel.untaken ≡ [])
+  pub own_rank : T.rank n.asker ≡ r
+  pub new : IsNewBiNode T dims steady n.asker n
 
 -- Ranks before their first turn, one for each asker, in order.
 abbrev pub askers_of : {S : Type 0} → List (BiState S) → List S

@@ -8,6 +8,7 @@ use Rattle.bale_items.specs.declared.item.Item.{Item}
 use Rattle.bale_items.specs.declared.fault.NoMemory.{NoMemory}
 use Rattle.route_tensor.specs.Grid.{ranks}
 use Rattle.port_bank.specs.Logs.{Logs}
+use Rattle.port_bank.specs.Port.{PortView}
 use Rattle.port_bank.specs.Machine.{Part, ItemLists, IsOwnStep}
 use Rattle.hop_core.specs.declared.phase.Phase.{Phase}
 use Rattle.hop_core.specs.declared.phase.Phase.TheVariants.{Dormant, Working, Endgame, Cleanup, Complete}
@@ -16,7 +17,7 @@ use Rattle.convey.specs.Buffers.{buffers_of, is_complete}
 use Rattle.convey.specs.Conveyors.{AgreesWith}
 use Rattle.convey.specs.Law.{IsSound}
 use Rattle.convey.specs.Parts.{part_of}
-use Rattle.convey.specs.Advance.{HasSettled}
+use Rattle.convey.specs.Advance.{HasSettled, AdvancesAtPort, AdvanceStops}
 use Rattle.convey.specs.Due.{IsOver}
 use Rattle.convey.specs.Progress.{progress_of, advance_step}
 use Rattle.convey.specs.declared.progress.Progress.{Progress}
@@ -57,10 +58,25 @@ pub record Advances (c c' : State) (done : Bool) (sent got sent' got' : Logs) : 
   pub step : IsOwnStep (advance_step c.done done (is_complete c'.phase)) (part_of (buffers_of c) sent got) (part_of (buffers_of c') sent' got')
 
 -- a rank that isn't done goes on working
-pub works_on : (result : Result Progress NoMemory) (c c' : State) (done : Bool) → IfOk result (HasSettled done c') → (IsErr result → c'.phase ≡ c.phase)
+works_on : (result : Result Progress NoMemory) (c c' : State) (done : Bool) → IfOk result (HasSettled done c') → (IsErr result → c'.phase ≡ c.phase)
     → (done ≡ false → c.phase ≡ Working) → done ≡ false → c'.phase ≡ Working
 works_on (Ok p) c c' done f g w d = f.working d
 works_on (Err e) c c' done f g w d = g refl ∙ w d
+
+pub advances_of : (cap : ℕ) (result : Result Progress NoMemory) (c c' : State) (done : Bool) (port port' : PortView) → AdvancesAtPort cap done c c' port port' → IfOk result (HasSettled done c') → (IsErr result → AdvanceStops c c' port port')
+    → Advances c c' done port.sent port.got port'.sent port'.got
+advances_of cap result c c' done port port' advances settled stops =
+    record {
+      agrees = advances.stays.agrees;
+      dims = advances.stays.dims;
+      rank = advances.stays.rank;
+      epoch = advances.stays.epoch;
+      done_is = advances.stays.done;
+      begun = advances.stays.begun;
+      works = works_on result c c' done settled (λ err. (stops err).phase);
+      stays = λ e. ap (λ (t : State). t.phase) (advances.complete e) ∙ e;
+      step = advances.stays.step;
+    }
 
 -- what an advance that had memory tells
 pub was_served : {X : Type 0} (result : Result Progress NoMemory) → IsOk result → OnOk result X → X

@@ -5,3 +5,4 @@ pub mod States
 pub mod Still
 pub mod Ranks
 pub mod Moments
+pub mod Turns

@@ -82,6 +82,15 @@ pub record IsBiNode {S : Type 0} (T : Talk S) (start : S) (n : BiState S)
       (part_of (buffers_of n.replies) replying replied).pulled
   pub read : AllRead n.replies
 
+-- A BiNode that hasn't turned, of an asker in the state `start`: nothing was sent or collected on its
+-- ports.
+pub record IsNewBiNode {S : Type 0} (T : Talk S) (dims : List ℕ) (steady : Bool) (start : S)
+    (n : BiState S) : Type 0 where
+  pub node : IsBiNode T start n (λ l. []) (λ l. []) (λ l. []) (λ l. [])
+  pub asker : n.asker ≡ start
+  pub queries : IsFirst dims (T.rank start) steady n.queries
+  pub replies : IsFirst dims (T.rank start) steady n.replies
+
 -- A port has a conveyor's grid and rank.
 pub record IsPortOf (c : State) (port : PortView) : Type 0 where
   pub same_dims : port.dims ≡ c.dims

@@ -1,15 +1,11 @@
 //! A rank that asks, answers and hears.
 
-ghost use Rattle.std.specs.Prelude.{◌≡◌, ◌≢◌, ℕ, ◌+◌, ◌<◌, ◌==◌, ◌&&◌, false, [], length, IfOk, OnOk, IsOk, Ok};
+ghost use Rattle.std.specs.Prelude.{◌≡◌, ◌≢◌, ◌+◌, ◌<◌, ◌&&◌, false, IfOk, OnOk, IsOk, Ok};
 ghost use Rattle.route_tensor.specs.Grid.{ranks};
-ghost use Rattle.convey.specs.Buffers.{in_of, is_complete};
-ghost use Rattle.round_program.specs.Replies.{asks_of};
-ghost use Rattle.query_node.specs.States.{BiState, Sides, IsBiNode, IsFirst, IsPortOf, AdvancesOnce, HasAsked, HasAnswered};
-ghost use Rattle.query_node.specs.Banks.{IsOwnSide};
-ghost use Rattle.query_node.specs.Moments.{IsMoment, sides_of_ports};
-ghost use Rattle.query_node.specs.Still.{IsStuckBoth};
+ghost use Rattle.convey.specs.Buffers.{is_complete};
+ghost use Rattle.query_node.specs.States.{IsNewBiNode, IsFirst};
+ghost use Rattle.query_node.specs.Turns.{MayTurnBoth, TurnsBoth, IsStuckIfStill};
 ghost use Rattle.rank_node.specs.Fits.{FitsGrid};
-ghost use Rattle.port_bank.specs.Port.{is_crowded, is_idle};
 
 use crate::answering::{answer_open, is_over};
 use crate::asking::push_queries;
@@ -58,14 +54,7 @@ impl<A: Asker, const CAP: usize, const HOPS: usize> BiNode<A, CAP, HOPS> {
         requires fits { FitsGrid CAP HOPS grid.now }
         requires rank { A.talk.rank asker < ranks grid.now }
         requires all_ranks { A.talk.ranks asker ≡ ranks grid.now }
-        ensures node { IfOk result (λ n. IsBiNode A.talk asker n (λ l. []) (λ l. []) (λ l. []) (λ l. [])) }
-        ensures asker { IfOk result (λ n. n.asker ≡ asker) }
-        ensures dims { IfOk result (λ n. n.queries.dims ≡ grid.now) }
-        ensures rank { IfOk result (λ n. n.queries.rank ≡ A.talk.rank asker) }
-        ensures unread { IfOk result (λ n. (l : ℕ) → ((in_of n.queries l).parcel.untaken ≡ [])
-            × ((in_of n.replies l).parcel.untaken ≡ [])) }
-        ensures working { IfOk result (λ n. n.queries.phase ≡ Phase.Working) }
-        ensures steady { IfOk result (λ n. (n.queries.steady ≡ steady) × (n.replies.steady ≡ steady)) }
+        ensures { IfOk result (λ n. IsNewBiNode A.talk grid.now steady asker n) }
     {
         let rank = asker.rank();
         let queries = begun(alloc, grid, rank, steady)?;
@@ -94,85 +83,19 @@ impl<A: Asker, const CAP: usize, const HOPS: usize> BiNode<A, CAP, HOPS> {
         replies: &mut R,
         steps: &mut Steps<L>,
     ) -> Result<Turn, NoMemory>
-        requires queries { IsPortOf self.old.queries (P.view queries.old) }
-        requires replies { IsPortOf self.old.replies (R.view replies.old) }
-        requires node { (start : A) × IsBiNode A.talk start self.old (P.view queries.old).sent (P.view queries.old).got
-            (R.view replies.old).sent (R.view replies.old).got }
-        ensures kept { (start : A) → IsBiNode A.talk start self.old (P.view queries.old).sent (P.view queries.old).got
-            (R.view replies.old).sent (R.view replies.old).got
-            → IsBiNode A.talk start self.new (P.view queries.new).sent (P.view queries.new).got
-            (R.view replies.new).sent
-            (R.view replies.new).got }
+        requires turns { MayTurnBoth A.talk self.old (P.view queries.old) (R.view replies.old) }
         ensures steps { steps.new ≡ steps.old + 1 }
-
-        // Between its two advances, when the queries' port is as the turn leaves it and the
-        // replies' port as the turn found it, the rank is one that is between two turns: so
-        // what holds of those moments holds of this one.
-        ensures between { (mid : BiState A) × ((start : A) → IsBiNode A.talk start self.old (P.view queries.old).sent
-            (P.view queries.old).got (R.view replies.old).sent (R.view replies.old).got
-            → IsBiNode A.talk start mid (P.view queries.new).sent (P.view queries.new).got (R.view replies.old).sent
-            (R.view replies.old).got) }
-
-        // After each post and each collect: by its own lists at any moment of the turn, the rank
-        // has sent its queries in order, and its answers, in order, to queries that it has got.
-        ensures moments { (start : A) (now : Sides)
-            → IsBiNode A.talk start self.old (P.view queries.old).sent (P.view queries.old).got
-            (R.view replies.old).sent (R.view replies.old).got
-            → IsMoment (sides_of_ports (P.view queries.old) (R.view replies.old))
-            (sides_of_ports (P.view queries.new) (R.view replies.new)) now
-            → IsOwnSide A.talk self.old.queries.dims (λ r. start) self.old.queries.rank
-            now.asking now.replying now.asked }
         ensures memory { P.Memory.GROWS ≡ false → R.Memory.GROWS ≡ false → IsOk result }
+        ensures turns { TurnsBoth CAP A.talk self.old self.new (P.view queries.old) (P.view queries.new)
+            (R.view replies.old) (R.view replies.new) }
+        ensures stuck { OnOk result (IsStuckIfStill A.talk self.old self.new (P.view queries.old) (P.view queries.new)
+            (R.view replies.old) (R.view replies.new)) }
 
         // Ended if and only if both ways are complete.
         ensures ended { result ≡ Ok Turn.Ended → (self.new.queries.phase ≡ Phase.Complete)
             × (self.new.replies.phase ≡ Phase.Complete) }
         ensures going { result ≡ Ok Turn.Going → self.new.queries.phase ≡ Phase.Complete
             → self.new.replies.phase ≢ Phase.Complete }
-
-        // A query is left to push only if its push was refused, and one that came is unread only
-        // if its answer was. The rank is done asking if and only if all its queries are pushed,
-        // and done replying if and only if the queries are over.
-        ensures unasked { HasAsked A.talk CAP self.old self.new }
-        ensures unanswered { HasAnswered A.talk CAP self.old self.new (P.view queries.old).sent (P.view queries.old).got
-            (P.view queries.new).sent (P.view queries.new).got }
-        ensures asked_all { self.new.queries.done ≡ (self.new.next == length (asks_of A.talk self.new.asker)) }
-        ensures replied_all { self.new.replies.done ≡ is_complete self.new.queries.phase }
-
-        // What stays.
-        ensures dims { self.new.queries.dims ≡ self.old.queries.dims }
-        ensures rank { self.new.queries.rank ≡ self.old.queries.rank }
-
-        // Each way advances once.
-        ensures queries { AdvancesOnce CAP self.old.queries self.new.queries (P.view queries.old) (P.view queries.new) }
-        ensures replies { AdvancesOnce CAP self.old.replies self.new.replies (R.view replies.old) (R.view replies.new) }
-
-        // If no parcel was moved on either way, something outside keeps the rank.
-        ensures stuck { OnOk result ((start : A) → IsBiNode A.talk start self.old (P.view queries.old).sent
-            (P.view queries.old).got (R.view replies.old).sent (R.view replies.old).got
-            → ((l : ℕ) → (P.view queries.new).sent l ≡ (P.view queries.old).sent l)
-            → ((l : ℕ) → (P.view queries.new).got l ≡ (P.view queries.old).got l)
-            → ((l : ℕ) → (R.view replies.new).sent l ≡ (R.view replies.old).sent l)
-            → ((l : ℕ) → (R.view replies.new).got l ≡ (R.view replies.old).got l)
-            → IsStuckBoth self.old self.new
-            (record {
-              asking = (P.view queries.old).sent;
-              asked = (P.view queries.old).got;
-              replying = (R.view replies.old).sent;
-              replied = (R.view replies.old).got;
-            })
-            (record {
-              asking = (P.view queries.new).sent;
-              asked = (P.view queries.new).got;
-              replying = (R.view replies.new).sent;
-              replied = (R.view replies.new).got;
-            })
-            (record {
-              crowded = is_crowded (P.view queries.new);
-              idle = is_idle (P.view queries.new);
-              replies_crowded = is_crowded (R.view replies.new);
-              replies_idle = is_idle (R.view replies.new);
-            })) }
     {
         steps.tick();
         self.next = push_queries(&self.asker, &mut self.queries, self.next);

@@ -77,12 +77,12 @@ begun {S} R laws cap dims slots manner starts shape most n rs fresh some is star
               let prog : slice_get starts r ≡ Some x.node.run.prog = ap (λ ps. slice_get ps r) (sym fresh.programs) ∙ get_map (λ (n : RankState S). n.node.run.prog) rs r x at in
               let same : x.node.run.prog ≡ get_or starts r first.0 = sym (get_or_from_slice_get starts r x.node.run.prog first.0 prog) in
               record {
-                same_dims = f.same_dims;
-                same_rank = f.same_rank;
-                same_manner = f.same_manner;
-                same_cap = f.same_cap;
+                same_dims = f.new.mover.same_dims;
+                same_rank = f.new.mover.same_rank ∙ f.own_rank;
+                same_manner = f.new.mover.same_manner;
+                same_cap = f.new.same_cap;
                 runs = λ on. subst (λ s. IsNode R (λ m. s) x.node (starting_at dims r (sent_of b)) (ending_at dims r (got_of b))) same
-                    (subst (λ (a : Logs). IsNode R (λ m. x.node.run.prog) x.node a (ending_at dims r (got_of b))) (sym (no_sent r)) (subst (λ (a : Logs). IsNode R (λ m. x.node.run.prog) x.node (λ l. []) a) (sym (no_got r)) f.node));
+                    (subst (λ (a : Logs). IsNode R (λ m. x.node.run.prog) x.node a (ending_at dims r (got_of b))) (sym (no_sent r)) (subst (λ (a : Logs). IsNode R (λ m. x.node.run.prog) x.node (λ l. []) a) (sym (no_got r)) f.new.node));
                 stopped = λ over. absurd (true≢false (sym over ∙ f.on));
                 shape = λ l below own. subst (λ (a : Logs). IsLogShape manner cap (a l)) (sym (no_sent r)) (shape_none manner cap);
               };
@@ -97,12 +97,12 @@ begun {S} R laws cap dims slots manner starts shape most n rs fresh some is star
             let f = fresh.each r x at in
             let prog : slice_get starts r ≡ Some x.node.run.prog = ap (λ ps. slice_get ps r) (sym fresh.programs) ∙ get_map (λ (n : RankState S). n.node.run.prog) rs r x at in
             let few : length (R.emissions x.node.run.prog) ≤ quota_of R (ranks dims) starts r 0 = let e = ap (emission_count R) prog in omega (arith, e) in
-            let first : IsInCycle R (quota_of R (ranks dims) starts r) 0 x.node.run x.node.mover (λ l. []) (λ l. []) = f.cycle (quota_of R (ranks dims) starts r) few in
+            let first : IsInCycle R (quota_of R (ranks dims) starts r) 0 x.node.run x.node.mover (λ l. []) (λ l. []) = f.new.cycle (quota_of R (ranks dims) starts r) few in
             record {
               running = λ on. (
                 subst (λ (a : Logs). IsInCycle R (quota_of R (ranks dims) starts r) 0 x.node.run x.node.mover a (ending_at dims r (got_of b))) (sym (no_sent r))
                     (subst (λ (a : Logs). IsInCycle R (quota_of R (ranks dims) starts r) 0 x.node.run x.node.mover (λ l. []) a) (sym (no_got r)) first),
-                between_first R (quota_of R (ranks dims) starts r) x.node.run x.node.mover f.node.moving first,
+                between_first R (quota_of R (ranks dims) starts r) x.node.run x.node.mover f.new.node.moving first,
               );
               over = λ over. absurd (true≢false (sym over ∙ f.on));
             };
@@ -116,7 +116,7 @@ begun {S} R laws cap dims slots manner starts shape most n rs fresh some is star
 
         by : (o : Option (RankState S)) → slice_get rs (reader_at dims l) ≡ o → lying (mover_in (slice_get rs (reader_at dims l))) l ≡ 0
         by None e = ap (λ o. lying (mover_in o) l) e
-        by (Some x) e = ap (λ o. lying (mover_in o) l) e ∙ none x.node.mover (fresh.each (reader_at dims l) x e).unread
+        by (Some x) e = ap (λ o. lying (mover_in o) l) e ∙ none x.node.mover (fresh.each (reader_at dims l) x e).new.mover.unread
 
 module _ {S : Type 0} (R : Rules S) (laws : Laws R) (cap : ℕ) (dims : List ℕ) (slots : ℕ) (manner : Manner) (starts : List S) (shape : List ℕ) (most : ℕ) (start : InRound R (ranks dims) 0 shape most starts) (ends : EndsWithin R starts most)
     (rs : List (RankState S)) (fresh : AreFresh R dims cap manner starts rs) (some : 0 < cap) (b : Bank) (made : b ≡ empty_bank dims slots) (is : IsBank cap b) where
@@ -183,7 +183,7 @@ none_completed : {S : Type 0} (R : Rules S) (dims : List ℕ) (cap : ℕ) (manne
 none_completed {S} R dims cap manner starts rs fresh = total_zero (ranks dims) (λ r. progress_in (slice_get rs r)) (λ r low. by r (slice_get rs r) refl) where
   by : (r : ℕ) (o : Option (RankState S)) → slice_get rs r ≡ o → progress_in (slice_get rs r) ≡ 0
   by r None e = ap progress_in e
-  by r (Some x) e = let f = fresh.each r x e in ap progress_in e ∙ (ap (λ b. cond b (epoch_in x.node.mover + 1) (epoch_in x.node.mover)) f.on ∙ f.epoch)
+  by r (Some x) e = let f = fresh.each r x e in ap progress_in e ∙ (ap (λ b. cond b (epoch_in x.node.mover + 1) (epoch_in x.node.mover)) f.on ∙ f.new.mover.first)
 
 module _ {S : Type 0} (R : Rules S) (laws : Laws R) (law : ClosesLaws) (cap : ℕ) (dims : List ℕ) (slots : ℕ) (manner : Manner) (starts : List S) (h : ℕ → ℕ → S) (rs : List (RankState S)) (b : Bank)
     (ed : b.dims ≡ dims) (es : b.slots ≡ slots) (w : AllRanks R dims cap slots manner starts h rs (sent_of b) (got_of b)) (over : (r : ℕ) (x : RankState S) → slice_get rs r ≡ Some x → x.over ≡ true)

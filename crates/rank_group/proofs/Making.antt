@@ -1,13 +1,12 @@
 -- The ranks of a drive are made, and taken apart.
-use Rattle.std.proofs.Common.{◌≡◌, ℕ, ◌+◌, ◌≤◌, false, List, [], ◌∷◌, ◌++◌, length, length-append, drop, slice_get, Some, None, refl, sym, ap, subst, ◌∙◌, arith, inl, inr}
+use Rattle.std.proofs.Common.{◌≡◌, ℕ, ◌+◌, false, List, [], ◌∷◌, ◌++◌, length, length-append, drop, slice_get, Some, None, refl, sym, ap, subst, ◌∙◌, arith, inl, inr}
 use Rattle.std.proofs.lemmas.Bool.{cases_lt}
 use Rattle.std.proofs.lemmas.List.{map-append, length-map, append-nil}
 use Rattle.list_laws.proofs.Lists.{within, get_once, get_last, get_before}
 use Rattle.round_program.specs.Rules.{Rules}
 use Rattle.round_program.specs.Canonical.{InRound}
-use Rattle.rank_node.specs.Movers.{Manner, mover_dims, mover_rank, epoch_in, manner_in, HasCap, NoneUnread}
-use Rattle.rank_node.specs.Nodes.{NodeState, IsNode}
-use Rattle.rank_node.specs.Cycles.{IsInCycle}
+use Rattle.rank_node.specs.Movers.{Manner}
+use Rattle.rank_node.specs.Nodes.{NodeState, IsNewNode}
 use Rattle.rank_group.specs.Ranks.{RankState}
 use Rattle.rank_group.specs.Drives.{progs_of, IsFreshRank, AreFresh}
 
@@ -43,25 +42,18 @@ module _ {S : Type 0} (R : Rules S) (dims : List ℕ) (cap : ℕ) (manner : Mann
       ∙ (ap (slice_get (progs_of rs ++ q ∷ drop 1 rest)) (sym (length-map rs (λ (n : RankState S). n.node.run.prog))) ∙ at_end (progs_of rs) (drop 1 rest) q)
 
   pub making_more : (p : ℕ) (shape : List ℕ) (most : ℕ) (rest' : List S) (rs' : List (RankState S)) (q : S) (n : NodeState S) → InRound R p 0 shape most starts → slice_get rest 0 ≡ Some q → rest' ≡ drop 1 rest
-      → rs' ≡ rs ++ record { node = n; over = false } ∷ [] → IsNode R (λ m. q) n (λ l. []) (λ l. []) → n.run.prog ≡ q → mover_dims n.mover ≡ dims → mover_rank n.mover ≡ R.rank q → manner_in n.mover ≡ manner → HasCap cap n.mover → epoch_in n.mover ≡ 0
-      → NoneUnread n.mover → ((quota : ℕ → ℕ) → length (R.emissions q) ≤ quota 0 → IsInCycle R quota 0 n.run n.mover (λ l. []) (λ l. [])) → Making R dims cap manner starts rest' rs'
-  making_more p shape most rest' rs' q n all at gone more node np nd nr ns nc epoch unread cycle =
+      → rs' ≡ rs ++ record { node = n; over = false } ∷ [] → IsNewNode R cap dims manner q n → Making R dims cap manner starts rest' rs'
+  making_more p shape most rest' rs' q n all at gone more new =
       let x : RankState S = record { node = n; over = false } in
       let made : IsFreshRank R dims cap manner (length rs) x = record {
         on = refl;
-        same_dims = nd;
-        same_rank = nr ∙ (all.each (length rs) q (next_prog q at)).own_rank;
-        same_manner = ns;
-        same_cap = nc;
-        epoch = epoch;
-        node = subst (λ (s : S). IsNode R (λ m. s) n (λ l. []) (λ l. [])) (sym np) node;
-        unread = unread;
-        cycle = λ quota few. cycle quota (omega (arith, few, ap (λ s. length (R.emissions s)) np));
+        own_rank = ap R.rank new.prog ∙ (all.each (length rs) q (next_prog q at)).own_rank;
+        new = subst (λ (s : S). IsNewNode R cap dims manner s n) (sym new.prog) new;
       } in
       let size : length (rs ++ x ∷ []) ≡ length rs + 1 = length-append rs (x ∷ []) in
       record {
         left = f.left ∙ (ap (λ ys. progs_of rs ++ ys) (first_of rest q at) ∙ (sym (shift (progs_of rs) (drop 1 rest) q)
-            ∙ (ap (λ s. (progs_of rs ++ s ∷ []) ++ drop 1 rest) (sym np) ∙ (ap (λ ps. ps ++ drop 1 rest) (sym (map-append (λ (m : RankState S). m.node.run.prog) rs (x ∷ []))) ∙ (ap (λ ys. progs_of ys ++ drop 1 rest) (sym more) ∙ ap (λ ys. progs_of rs' ++ ys) (sym gone))))));
+            ∙ (ap (λ s. (progs_of rs ++ s ∷ []) ++ drop 1 rest) (sym new.prog) ∙ (ap (λ ps. ps ++ drop 1 rest) (sym (map-append (λ (m : RankState S). m.node.run.prog) rs (x ∷ []))) ∙ (ap (λ ys. progs_of ys ++ drop 1 rest) (sym more) ∙ ap (λ ys. progs_of rs' ++ ys) (sym gone))))));
         each = λ r m now. elim (cases_lt r (length rs)) [
           | inl below ↦ f.each r m (sym (get_before rs (x ∷ []) r below) ∙ (ap (λ ns. slice_get ns r) (sym more) ∙ now))
           | inr past ↦

@@ -6,9 +6,9 @@ use Rattle.route_tensor.specs.Link.{links}
 use Rattle.route_tensor.specs.Ends.{sender_at}
 use Rattle.round_program.specs.Rules.{Rules}
 use Rattle.rank_node.specs.Sending.{is_voting}
-use Rattle.rank_node.specs.Movers.{Manner, IsLogShape, mover_dims, mover_rank, epoch_in, manner_in, HasCap, SameUnread}
+use Rattle.rank_node.specs.Movers.{Manner, IsLogShape, mover_dims, mover_rank, manner_in, HasCap}
 use Rattle.rank_node.specs.Nodes.{NodeState, IsNode}
-use Rattle.rank_node.specs.Next.{with_next, HasStopped}
+use Rattle.rank_node.specs.Next.{with_next, HasStopped, KeepsTransport, BeginsEpoch, EndsRun}
 use Rattle.rank_group.specs.Ranks.{RankState, IsRank}
 use Rattle.rank_node.proofs.Between.{extended_before}
 
@@ -23,16 +23,9 @@ pub record OneTurn {S : Type 0} (R : Rules S) (cap : ℕ) (n n' : NodeState S) (
 
 -- what `next` tells
 pub record NextTold {S : Type 0} (R : Rules S) (cap : ℕ) (n n' : NodeState S) (more : Bool) : Type 0 where
-  pub self_dims : mover_dims n'.mover ≡ mover_dims n.mover
-  pub self_rank : mover_rank n'.mover ≡ mover_rank n.mover
-  pub manner : manner_in n'.mover ≡ manner_in n.mover
-  pub cap_is : HasCap cap n'.mover
-  pub epoch : more ≡ true → epoch_in n'.mover ≡ epoch_in n.mover + 1
-  pub unread : SameUnread n.mover n'.mover
-  pub votes : is_voting n.run.sends ≡ false → (more ≡ true) × ((h : ℕ → S) (sent got : Logs) → IsNode R h n sent got → IsNode R h n' sent got)
-  pub work : is_voting n.run.sends ≡ true → more ≡ true → (h : ℕ → S) (sent got : Logs) → IsNode R h n sent got → IsNode R (with_next h (n.run.round + 1) (R.ended n.run.prog n.run.sum)) n' sent got
-  pub stays : more ≡ false → n'.mover ≡ n.mover
-  pub stopped : more ≡ false → (h : ℕ → S) (sent got : Logs) → IsNode R h n sent got → HasStopped R h n' sent got
+  pub keeps : KeepsTransport cap n.mover n'.mover
+  pub begins : more ≡ true → BeginsEpoch R n n'
+  pub ends : more ≡ false → EndsRun R n n'
 
 module _ {S : Type 0} (R : Rules S) (dims : List ℕ) (cap r : ℕ) (manner : Manner) (h : ℕ → S) (n : RankState S) (n1 : NodeState S) (sent got sent' got' : Logs)
     (is : IsRank R dims cap manner r h n sent got) (on : n.over ≡ false) (t : OneTurn R cap n.node n1 sent got sent' got') where
@@ -64,18 +57,18 @@ module _ {S : Type 0} (R : Rules S) (dims : List ℕ) (cap r : ℕ) (manner : Ma
     has : (g : ℕ → S) → (not more ≡ false → IsNode R g n2 sent' got') → (not more ≡ true → HasStopped R g n2 sent' got') → IsRank R dims cap manner r g (record { node = n2; over = not more }) sent' got'
     has g runs stopped =
         record {
-          same_dims = x.self_dims ∙ (t.dims ∙ is.same_dims);
-          same_rank = x.self_rank ∙ (t.rank ∙ is.same_rank);
-          same_manner = x.manner ∙ (t.manner ∙ is.same_manner);
-          same_cap = x.cap_is;
+          same_dims = x.keeps.dims ∙ (t.dims ∙ is.same_dims);
+          same_rank = x.keeps.rank ∙ (t.rank ∙ is.same_rank);
+          same_manner = x.keeps.manner ∙ (t.manner ∙ is.same_manner);
+          same_cap = x.keeps.same_cap;
           runs = runs;
           stopped = stopped;
           shape = shaped;
         }
 
     by : (b : Bool) → more ≡ b → (v : Bool) → is_voting n1.run.sends ≡ v → (g : ℕ → S) × (g 0 ≡ h 0) × IsRank R dims cap manner r g (record { node = n2; over = not more }) sent' got'
-    by true m false v = (h, refl, has h (λ e. (x.votes v).1 h _ _ node1) (λ e. absurd (true≢false (sym e ∙ ap not m))))
+    by true m false v = (h, refl, has h (λ e. (x.begins m).votes v h _ _ node1) (λ e. absurd (true≢false (sym e ∙ ap not m))))
     by true m true v =
         let g : ℕ → S = with_next h (n1.run.round + 1) (R.ended n1.run.prog n1.run.sum) in
-        (g, extended_before h (n1.run.round + 1) (R.ended n1.run.prog n1.run.sum) 0 (λ q. omega (arith, q)), has g (λ e. x.work v m h _ _ node1) (λ e. absurd (true≢false (sym e ∙ ap not m))))
-    by false m v e = (h, refl, has h (λ q. absurd (true≢false (sym (ap not m) ∙ q))) (λ q. x.stopped m h _ _ node1))
+        (g, extended_before h (n1.run.round + 1) (R.ended n1.run.prog n1.run.sum) 0 (λ q. omega (arith, q)), has g (λ e. (x.begins m).work v h _ _ node1) (λ e. absurd (true≢false (sym e ∙ ap not m))))
+    by false m v e = (h, refl, has h (λ q. absurd (true≢false (sym (ap not m) ∙ q))) (λ q. (x.ends m).stopped h _ _ node1))

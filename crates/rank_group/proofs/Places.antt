@@ -56,11 +56,11 @@ module _ {S : Type 0} (R : Rules S) (cap : ℕ) (b : BankIdentity) (gather : Gat
         let f : IsFreshRank R b.shape.dims cap manner (length taken) rank = fresh.each (length taken) rank (next_is taken rest all now rank s.left is) in
         let h : ℕ → S = λ m. rank.node.run.prog in
         let own : IsRank R b.shape.dims cap manner (length taken) h rank (λ l. []) (λ l. []) = record {
-          same_dims = f.same_dims;
-          same_rank = f.same_rank;
-          same_manner = f.same_manner;
-          same_cap = f.same_cap;
-          runs = λ on. f.node;
+          same_dims = f.new.mover.same_dims;
+          same_rank = f.new.mover.same_rank ∙ f.own_rank;
+          same_manner = f.new.mover.same_manner;
+          same_cap = f.new.same_cap;
+          runs = λ on. f.new.node;
           stopped = λ over. absurd (cc);
           shape = λ l below own. shape_none manner cap;
         } in
@@ -73,7 +73,7 @@ module _ {S : Type 0} (R : Rules S) (cap : ℕ) (b : BankIdentity) (gather : Gat
                 (subst (λ k. IsRank R b.shape.dims cap manner k h rank (posted_on seat) (collected_from seat)) (sym (ap (λ (m : SeatView). m.rank) seat_is ∙ s.count))
                 (subst (λ (a : Logs). IsRank R b.shape.dims cap manner (length taken) h rank a (collected_from seat)) (sym none_sent)
                 (subst (λ (a : Logs). IsRank R b.shape.dims cap manner (length taken) h rank (λ l. []) a) (sym none_got) own)));
-            few = λ kept. let e = f.epoch in let on = ap (λ b. cond b (epoch_in rank.node.mover + 1) (epoch_in rank.node.mover)) f.on in omega (arith, e, on);
+            few = λ kept. let e = f.new.mover.first in let on = ap (λ b. cond b (epoch_in rank.node.mover + 1) (epoch_in rank.node.mover)) f.on in omega (arith, e, on);
           };
         }
 

@@ -1,19 +1,17 @@
 -- A sweep of turns in which nothing moved ends the least epoch.
-use Rattle.std.proofs.Common.{◌≡◌, ◌⊎◌, ℕ, ◌<◌, ◌≤◌, Bool, true, false, List, length, refl, sym, ap, subst, ◌∙◌, arith, inl, inr}
+use Rattle.std.proofs.Common.{◌≡◌, ℕ, ◌<◌, ◌≤◌, Bool, true, List, length, refl, sym, ap, subst, ◌∙◌, arith, inl, inr}
 use Rattle.std.proofs.lemmas.Bool.{cases_eq, cases_lt}
-use Rattle.route_tensor.specs.Grid.{ranks, IsGrid}
+use Rattle.route_tensor.specs.Grid.{ranks}
 use Rattle.route_tensor.specs.Link.{links}
 use Rattle.route_tensor.specs.Ends.{hop_at, reader_at}
 use Rattle.port_bank.specs.Logs.{Logs, starting_at, ending_at}
-use Rattle.port_bank.specs.Link.{LinkLaw}
 use Rattle.hop_core.specs.State.{State}
-use Rattle.hop_core.specs.declared.phase.Phase.TheVariants.{Complete}
 use Rattle.convey.specs.Buffers.{is_complete, in_of}
 use Rattle.convey.specs.Conveyors.{AgreesWith}
 use Rattle.convey.specs.Due.{IsOver}
 use Rattle.convey.specs.Rest.{IsAtRest, IsRestingSweep, RestLaw}
 use Rattle.round_program.specs.Rules.{Rules}
-use Rattle.rank_node.specs.Movers.{MoverState, mover_dims, mover_rank, epoch_in, manner_in, has_completed, lying, IsMoving, IsConveying}
+use Rattle.rank_node.specs.Movers.{MoverState, mover_dims, mover_rank, epoch_in, manner_in, has_completed, lying}
 use Rattle.rank_node.specs.Movers.MoverState.{Conveying, Stacking}
 use Rattle.rank_node.specs.Movers.Manner.{ByConveyor}
 use Rattle.rank_node.specs.Runs.{Running}
@@ -23,7 +21,7 @@ use Rattle.rank_node.specs.Stuck.{IsStuck}
 use Rattle.rank_node.proofs.Onward.{complete_is}
 use Rattle.rank_group.specs.Ranks.{crowded_in, idle_in}
 use Rattle.rank_group.specs.RanksOverBank.{no_conveyor}
-use Rattle.rank_group.specs.Rest.{IsConveyingNode, MovesNothing, IsQuietSweep, NodesRestLaw}
+use Rattle.rank_group.specs.Rest.{IsQuietSweep, NodesRestLaw}
 use Rattle.rank_group.proofs.Still as still
 use Rattle.rank_group.proofs.Resting.{ByItsConveyor, by_conveyor, complete_rests}
 

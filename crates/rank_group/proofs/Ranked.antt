@@ -19,7 +19,6 @@ use Rattle.rank_node.specs.Movers.MoverState.{Conveying, Stacking}
 use Rattle.rank_node.specs.Runs.{Running}
 use Rattle.rank_node.specs.Nodes.{NodeState, IsNode}
 use Rattle.rank_node.specs.Moves.{Leaves, Waits}
-use Rattle.rank_node.specs.Sending.{to_send}
 use Rattle.rank_node.specs.Cycles.{IsInCycle, cycle_of_turn, TurnsOnward, AwaitsSome}
 use Rattle.rank_group.specs.Ranks.{RankState, HasRank, SameMover, AfterTurn, AfterRank, IsBlockedMover, progress}
 use Rattle.rank_group.proofs.OneTurn.{OneTurn, NextTold, stays_in, goes_on}
@@ -142,12 +141,11 @@ module _ {S : Type 0} (R : Rules S) (dims : List ℕ) (cap slots r : ℕ) where
       }
 
 module _ {S : Type 0} (R : Rules S) (dims : List ℕ) (cap slots r : ℕ) (n : RankState S) (n1 n2 : NodeState S) (more : Bool) (sent got sent' got' : Logs)
-    (on : n.over ≡ false) (t : AfterTurn R dims cap slots r Ended n.node n1 sent got sent' got') (x : NextTold R cap n1 n2 more)
-    (anew : more ≡ true → (quota : ℕ → ℕ) (k : ℕ) (sent got : Logs) → IsInCycle R quota k n1.run n1.mover sent got → length (to_send R n2.run.prog n2.run.sends) ≤ quota (epoch_in n2.mover) → IsInCycle R quota 0 n2.run n2.mover sent got) where
+    (on : n.over ≡ false) (t : AfterTurn R dims cap slots r Ended n.node n1 sent got sent' got') (x : NextTold R cap n1 n2 more) where
   ended_epoch : cond (not more) (epoch_in n2.mover + 1) (epoch_in n2.mover) ≡ epoch_in n.node.mover + 1
   ended_epoch = elim (cases_Bool more) [
-    | inl yes' ↦ ap (λ b. cond (not b) (epoch_in n2.mover + 1) (epoch_in n2.mover)) yes' ∙ (x.epoch yes' ∙ ap (λ e. e + 1) t.same.epoch)
-    | inr no' ↦ ap (λ b. cond (not b) (epoch_in n2.mover + 1) (epoch_in n2.mover)) no' ∙ (ap (λ m. epoch_in m + 1) (x.stays no') ∙ ap (λ e. e + 1) t.same.epoch)
+    | inl yes' ↦ ap (λ b. cond (not b) (epoch_in n2.mover + 1) (epoch_in n2.mover)) yes' ∙ ((x.begins yes').epoch ∙ ap (λ e. e + 1) t.same.epoch)
+    | inr no' ↦ ap (λ b. cond (not b) (epoch_in n2.mover + 1) (epoch_in n2.mover)) no' ∙ (ap (λ m. epoch_in m + 1) ((x.ends no').stays) ∙ ap (λ e. e + 1) t.same.epoch)
   ]
 
   abbrev n' : RankState S
@@ -160,7 +158,7 @@ module _ {S : Type 0} (R : Rules S) (dims : List ℕ) (cap slots r : ℕ) (n : R
   rank_ended =
       record {
         own = t.own;
-        lies = λ l xs below to is. omega (arith, t.lies l xs below to is, same_lying n1.mover n2.mover l x.unread);
+        lies = λ l xs below to is. omega (arith, t.lies l xs below to is, same_lying n1.mover n2.mover l x.keeps.unread);
         forward = let a : progress n ≡ epoch_in n.node.mover = ap (λ b. cond b (epoch_in n.node.mover + 1) (epoch_in n.node.mover)) on in
             let b = ended_epoch in
             omega (arith, a, b);
@@ -173,9 +171,9 @@ module _ {S : Type 0} (R : Rules S) (dims : List ℕ) (cap slots r : ℕ) (n : R
           at_end = n1;
           same = t.same;
           within = t.within;
-          over = λ over. x.stays (negated more over);
-          next = λ on'. x.epoch (affirmed more on') ∙ ap (λ e. e + 1) t.same.epoch;
-          anew = λ on' quota k is few. anew (affirmed more on') quota k _ _ is few;
+          over = λ over. (x.ends (negated more over)).stays;
+          next = λ on'. (x.begins (affirmed more on')).epoch ∙ ap (λ e. e + 1) t.same.epoch;
+          anew = λ on' quota k. (x.begins (affirmed more on')).cycle quota k _ _;
         });
       } where
         negated : (b : Bool) → not b ≡ true → b ≡ false

@@ -1,5 +1,5 @@
 -- All ranks of a drive over one plain bank, and what a sweep over them does.
-use Rattle.std.specs.Prelude.{◌≡◌, ◌⊎◌, ⊤, true, ℕ, ◌+◌, ◌-◌, ◌^◌, ◌<◌, ◌≤◌, false, List, [], length, Option, Some}
+use Rattle.std.specs.Prelude.{◌≡◌, ◌⊎◌, ⊤, true, ℕ, ◌+◌, ◌^◌, ◌<◌, ◌≤◌, false, List, [], length, Option, Some}
 use Rattle.std.specs.Prelude.{if◌then◌else◌}
 use Rattle.std.specs.Prelude.{None, slice_get}
 use Rattle.list_laws.specs.Sums.{total}

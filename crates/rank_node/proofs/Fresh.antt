@@ -1,5 +1,5 @@
 -- A node that hasn't turned.
-use Rattle.std.proofs.Common.{◌≡◌, ◌≢◌, ℕ, ◌==◌, nat_lt, Bool, true, false, cond, List, [], replicate, None, refl, sym, ap, subst, ◌∙◌, arith, get_or}
+use Rattle.std.proofs.Common.{◌≡◌, ◌≢◌, ℕ, ◌==◌, ◌≤◌, nat_lt, Bool, true, false, cond, List, [], length, replicate, None, refl, sym, ap, subst, ◌∙◌, arith, get_or}
 use Rattle.std.proofs.lemmas.Bool.{false≢true}
 use Rattle.std.proofs.Math.Seq.{take-nil}
 use Rattle.route_tensor.specs.Grid.{ranks}
@@ -26,13 +26,16 @@ use Rattle.round_program.specs.Orders.{fitting}
 use Rattle.round_program.proofs.Orders.{upto_ext, upto_none}
 use Rattle.round_program.proofs.Steps.{own_start}
 use Rattle.rank_node.specs.declared.sends.Sends.TheVariants.{Emissions}
-use Rattle.rank_node.specs.Movers.{MoverState, Manner, mover_dims, mover_rank, epoch_in, part_in, IsNew}
+use Rattle.rank_node.specs.Movers.{MoverState, Manner, mover_dims, mover_rank, epoch_in, part_in, HasCap, IsNew}
 use Rattle.rank_node.specs.Movers.MoverState.{Conveying, Stacking}
 use Rattle.rank_node.specs.Movers.Manner.{ByConveyor, ByExstack}
-use Rattle.rank_node.specs.Runs.{part_lists, from_round, HasTaken}
-use Rattle.rank_node.specs.Nodes.{IsNode}
+use Rattle.rank_node.specs.Sending.{to_send}
+use Rattle.rank_node.specs.Runs.{Running, part_lists, from_round, HasTaken}
+use Rattle.rank_node.specs.Cycles.{IsInCycle}
+use Rattle.rank_node.specs.Nodes.{IsNode, IsNewNode}
 use Rattle.rank_node.proofs.Begun.{no_logs, Empty, new_part, new_links, same_or}
 use Rattle.rank_node.proofs.Onward.{paced_start}
+use Rattle.rank_node.proofs.Next.{cycle_at_start}
 
 -- the first epoch, in which nothing was pushed or pulled
 pub fresh_taken : {S : Type 0} (R : Rules S) (p rank : ℕ) (prog : S) (part : Part) → part.epoch ≡ 0 → part.done ≡ false → ((e d : ℕ) → (part.pushed e d ≡ []) × (part.pulled e d ≡ []))
@@ -68,16 +71,33 @@ fresh_taken R p rank prog part first not_done none valid own all =
 not_dormant : (p : Phase) → p ≡ Working → p ≢ Dormant
 not_dormant p w d = absurd (cc)
 
-pub fresh_node : {S : Type 0} (R : Rules S) (prog : S) (dims : List ℕ) (rank : ℕ) (manner : Manner) (m : MoverState) → IsNew dims rank manner m
-    → R.valid prog → R.rank prog ≡ rank → R.ranks prog ≡ ranks dims
+fresh_at : {S : Type 0} (R : Rules S) (prog : S) (dims : List ℕ) (manner : Manner) (m : MoverState) → IsNew dims (R.rank prog) manner m → R.valid prog → R.ranks prog ≡ ranks dims
     → IsNode R (λ k. prog) (record { run = record { prog = prog; round = 0; sends = Emissions; next = 0; sum = 0; spoiled = false }; mover = m }) no_logs no_logs
-fresh_node R prog dims rank manner m new valid own all =
+fresh_at R prog dims manner m new valid all =
     let t : HasTaken R (ranks (mover_dims m)) (mover_rank m) (λ k. prog) 0 Emissions 0 prog 0 false (part_in m no_logs no_logs) =
-    fresh_taken R (ranks (mover_dims m)) (mover_rank m) prog (part_in m no_logs no_logs) (part_epoch m ∙ new.first) new.not_done new.none valid (own ∙ sym new.same_rank) (all ∙ ap ranks (sym new.same_dims)) in
+    fresh_taken R (ranks (mover_dims m)) (mover_rank m) prog (part_in m no_logs no_logs) (part_epoch m ∙ new.first) new.not_done new.none valid (sym new.same_rank) (all ∙ ap ranks (sym new.same_dims)) in
     record { moving = new.moving; paced = paced_start R (record { prog = prog; round = 0; sends = Emissions; next = 0; sum = 0; spoiled = false }) m new.starts; passed = t.passed; within = t.within } where
       part_epoch : (m : MoverState) → (part_in m no_logs no_logs).epoch ≡ epoch_in m
       part_epoch (Conveying c) = refl
       part_epoch (Stacking cap x) = refl
+
+-- an unused exstack is in cycle 0
+fresh_cycle : {S : Type 0} (R : Rules S) (quota : ℕ → ℕ) (run : Running S) (dims : List ℕ) (rank : ℕ) (manner : Manner) (m : MoverState) → IsNew dims rank manner m → length (to_send R run.prog run.sends) ≤ quota 0 → IsInCycle R quota 0 run m no_logs no_logs
+fresh_cycle R quota run dims rank manner (Conveying c) new few = tt
+fresh_cycle R quota run dims rank manner (Stacking k x) new few =
+    cycle_at_start R quota run k x no_logs no_logs new.moving new.starts (subst (λ e. length (to_send R run.prog run.sends) ≤ quota e) (sym new.first) few) (λ e b m p low at last. absurd (cc))
+
+pub fresh_node : {S : Type 0} (R : Rules S) (cap : ℕ) (prog : S) (dims : List ℕ) (manner : Manner) (m : MoverState) → IsNew dims (R.rank prog) manner m → HasCap cap m → R.valid prog → R.ranks prog ≡ ranks dims
+    → IsNewNode R cap dims manner prog (record { run = record { prog = prog; round = 0; sends = Emissions; next = 0; sum = 0; spoiled = false }; mover = m })
+fresh_node R cap prog dims manner m new has valid all =
+    record {
+      node = fresh_at R prog dims manner m new valid all;
+      prog = refl;
+      next = refl;
+      mover = new;
+      same_cap = has;
+      cycle = λ quota few. fresh_cycle R quota (record { prog = prog; round = 0; sends = Emissions; next = 0; sum = 0; spoiled = false }) dims (R.rank prog) manner m new few;
+    }
 
 -- a conveyor that has begun its first epoch
 pub new_conveying : (dims : List ℕ) (n : ℕ) (steady : Bool) (st st' : State) → st.outs ≡ replicate n no_out → st.ins ≡ replicate n no_in → st.done ≡ false → st.epoch ≡ 0 → st.dims ≡ dims → st.steady ≡ steady

@@ -1,14 +1,12 @@
 //! One rank of a run.
-ghost use Rattle.std.specs.Prelude.{◌≡◌, ◌⊎◌, ℕ, ◌+◌, ◌-◌, ◌^◌, ◌<◌, ◌≤◌, [], length, IfOk, true, false, IsOk, IsErr, OnOk, Ok};
+ghost use Rattle.std.specs.Prelude.{◌≡◌, ◌⊎◌, ℕ, ◌+◌, ◌-◌, ◌^◌, ◌<◌, length, IfOk, true, false, IsOk, IsErr, OnOk, Ok};
 ghost use Rattle.route_tensor.specs.Grid.{ranks};
-ghost use Rattle.port_bank.specs.Logs.{Logs};
-ghost use Rattle.rank_node.specs.Sending.{is_voting, to_send};
-ghost use Rattle.rank_node.specs.Movers.{mover_dims, mover_rank, epoch_in, manner_in, manner_of, has_completed, HasCap, IsStarting, NoneUnread, SameUnread};
+ghost use Rattle.rank_node.specs.Sending.{is_voting};
+ghost use Rattle.rank_node.specs.Movers.{manner_of, has_completed, HasCap};
 ghost use Rattle.rank_node.specs.Moves.{MayTurn};
 ghost use Rattle.rank_node.specs.Turns.{Turns, TurnsInFull};
-ghost use Rattle.rank_node.specs.Nodes.{IsNode};
-ghost use Rattle.rank_node.specs.Next.{with_next, HasStopped};
-ghost use Rattle.rank_node.specs.Cycles.{IsInCycle};
+ghost use Rattle.rank_node.specs.Nodes.{IsNewNode};
+ghost use Rattle.rank_node.specs.Next.{MayGoOn, KeepsTransport, BeginsEpoch, EndsRun};
 ghost use Rattle.rank_node.specs.Fits.{FitsGrid};
 
 use crate::ending::{Follows, end_prog, vote_of};
@@ -63,18 +61,7 @@ impl<Q: Program, const CAP: usize, const HOPS: usize> Node<Q, CAP, HOPS> {
         requires one_hop { via ≡ Via.Exstack → length grid.now ≡ 1 }
         requires rank { Q.rules.rank prog < ranks grid.now }
         requires all_ranks { Q.rules.ranks prog ≡ ranks grid.now }
-        ensures node { IfOk result (λ n. IsNode Q.rules (λ m. prog) n (λ l. []) (λ l. [])) }
-        ensures prog { IfOk result (λ n. n.run.prog ≡ prog) }
-        ensures next { IfOk result (λ n. n.run.next ≡ 0) }
-        ensures dims { IfOk result (λ n. mover_dims n.mover ≡ grid.now) }
-        ensures rank { IfOk result (λ n. mover_rank n.mover ≡ Q.rules.rank prog) }
-        ensures manner { IfOk result (λ n. manner_in n.mover ≡ manner_of via steady) }
-        ensures cap { IfOk result (λ n. HasCap CAP n.mover) }
-        ensures epoch { IfOk result (λ n. epoch_in n.mover ≡ 0) }
-        ensures unread { IfOk result (λ n. NoneUnread n.mover) }
-        ensures starts { IfOk result (λ n. IsStarting n.mover) }
-        ensures cycle { IfOk result (λ n. (quota : ℕ → ℕ) → length (Q.rules.emissions prog) ≤ quota 0
-            → IsInCycle Q.rules quota 0 n.run n.mover (λ l. []) (λ l. [])) }
+        ensures { IfOk result (λ n. IsNewNode Q.rules CAP grid.now (manner_of via steady) prog n) }
     {
         let rank = prog.rank();
         let prog = Box::new(alloc, prog)?;
@@ -140,38 +127,13 @@ impl<Q: Program, const CAP: usize, const HOPS: usize> Node<Q, CAP, HOPS> {
     /// `NoMemory` comes only if no epoch follows: if the sum of the votes is 2^64 - 1, as
     /// each rank then finds, or if the program found no memory to end its last round.
     pub fn next(&mut self) -> Result<bool, NoMemory>
-        requires over { has_completed self.old.mover ≡ true }
-        requires epochs { epoch_in self.old.mover < 2 ^ 63 }
-        requires node { (h : ℕ → Q) × (sent : Logs) × (got : Logs) × IsNode Q.rules h self.old sent got }
-        ensures self_dims { mover_dims self.new.mover ≡ mover_dims self.old.mover }
-        ensures self_rank { mover_rank self.new.mover ≡ mover_rank self.old.mover }
-        ensures manner { manner_in self.new.mover ≡ manner_in self.old.mover }
-        ensures cap { HasCap CAP self.new.mover }
-        ensures epoch { result ≡ Ok true → epoch_in self.new.mover ≡ epoch_in self.old.mover + 1 }
-        ensures unread { SameUnread self.old.mover self.new.mover }
-
-        // After a round's work come its votes.
-        ensures votes { is_voting self.old.run.sends ≡ false → (result ≡ Ok true)
-            × ((h : ℕ → Q) (sent got : Logs) → IsNode Q.rules h self.old sent got
-            → IsNode Q.rules h self.new sent got) }
-
-        // After the votes comes the next round, if and only if the program goes on; its state is
-        // the one with memory.
-        ensures work { is_voting self.old.run.sends ≡ true → result ≡ Ok true → (h : ℕ → Q) (sent got : Logs)
-            → IsNode Q.rules h self.old sent got
-            → IsNode Q.rules (with_next h (self.old.run.round + 1) (Q.rules.ended self.old.run.prog self.old.run.sum))
-            self.new sent got }
-        ensures stays { result ≡ Ok false → self.new.mover ≡ self.old.mover }
-        ensures stopped { result ≡ Ok false → (h : ℕ → Q) (sent got : Logs) → IsNode Q.rules h self.old sent got
-            → HasStopped Q.rules h self.new sent got }
-
-        // An exstack begins the next epoch in cycle 0, and keeps pace with what its rank has to
-        // send in it.
-        ensures starts { result ≡ Ok true → IsStarting self.new.mover }
-        ensures cycle { result ≡ Ok true → (quota : ℕ → ℕ) (n : ℕ) (sent got : Logs)
-            → IsInCycle Q.rules quota n self.old.run self.old.mover sent got
-            → length (to_send Q.rules self.new.run.prog self.new.run.sends) ≤ quota (epoch_in self.new.mover)
-            → IsInCycle Q.rules quota 0 self.new.run self.new.mover sent got }
+        requires goes_on { MayGoOn Q.rules self.old }
+        ensures keeps { KeepsTransport CAP self.old.mover self.new.mover }
+        // After a round's work come its votes, and after the votes the next round, if and only if
+        // the program goes on.
+        ensures votes { is_voting self.old.run.sends ≡ false → result ≡ Ok true }
+        ensures begins { result ≡ Ok true → BeginsEpoch Q.rules self.old self.new }
+        ensures ends { result ≡ Ok false → EndsRun Q.rules self.old self.new }
 
         // No memory: only if no epoch follows, and always if the sum says that some rank had
         // none. A spoiled rank is one of these, since its own vote is in the sum.

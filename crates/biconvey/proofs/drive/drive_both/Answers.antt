@@ -1,4 +1,4 @@
-use Rattle.std.proofs.Common.{rules, ◌≡◌, ◌<◌, ℕ, false, [], ◌∷◌, length, slice_get, refl, arith, sym, ap, subst, ◌∙◌}
+use Rattle.std.proofs.Common.{rules, ◌≡◌, ◌<◌, false, [], ◌∷◌, length, slice_get, refl, arith, sym, ap, subst, ◌∙◌}
 use Rattle.list_laws.proofs.Lists.{get_once}
 use Rattle.list_laws.proofs.Results.{if_ok_from, if_ok_is}
 use Rattle.route_tensor.specs.Grid.{ranks}

@@ -26,7 +26,7 @@ pub loop-asker-preserved : goal.loop-asker-preserved
 loop-asker-preserved g c = record {
   making = making_more g.A.Asker.talk c.args.grid.now c.args.steady c.args.askers c.loop-asker.askers c.loop-asker.all.items c.loop-asker.invariant.making (ranks c.args.grid.now) c.take_first.new.self c.push_reserved.new.self.items
       c.in-Some.asker c.in_ok-node.node c.requires.askers (sym c.in-Some.ensures.first) c.take_first.ensures.rest c.push_reserved.ensures.items
-      c.in_ok-node.ensures.node c.in_ok-node.ensures.asker c.in_ok-node.ensures.dims c.in_ok-node.ensures.rank c.in_ok-node.ensures.working c.in_ok-node.ensures.steady c.in_ok-node.ensures.unread;
+      c.in_ok-node.ensures;
   room = subst (λ n. length c.args.askers ≤ n) (sym c.push_reserved.ensures.capacity) c.loop-asker.invariant.room;
 }
 

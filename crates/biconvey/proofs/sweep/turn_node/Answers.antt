@@ -1,4 +1,5 @@
 use Rattle.std.proofs.Common.{rules, ◌≡◌, refl, ap, ◌∙◌, sym, subst}
+use Rattle.port_bank.specs.Calls.{calls_of}
 use Rattle.port_bank.specs.Plain.{Bank}
 use Rattle.biconvey.specs.RanksOverBanks.{AfterBiRank, sides_of}
 use Rattle.biconvey.proofs.Ranked.{PortTurns, after_turn, port_needs}
@@ -14,19 +15,15 @@ turn-requires g c =
     let eq = c.port-asking.ensures.bank in
     let er = c.port-replying.ensures.bank in (
       search rules,
-      (
-        record { same_dims = subst (λ (b : Bank). b.dims ≡ n.queries.dims) (sym eq) (sym h.same_dims); same_rank = c.port-asking.ensures.rank ∙ sym h.same_rank },
-        (
-          record {
-            same_dims = subst (λ (b : Bank). b.dims ≡ n.replies.dims) (sym er) (c.requires.banks.replies_dims ∙ sym (h.node.same_dims ∙ h.same_dims));
-            same_rank = c.port-replying.ensures.rank ∙ sym (h.node.same_rank ∙ h.same_rank);
-          },
-          (
-            c.requires.rank.0,
-            port_needs T q.dims c.args.number c.requires.rank.0 n q r c.port-asking.result.bank c.port-replying.result.bank c.port-asking.result.rank c.port-replying.result.rank refl c.requires.banks.replies_dims eq er c.port-asking.ensures.rank c.port-replying.ensures.rank h,
-          ),
-        ),
-      ),
+      record {
+        queries = record { same_dims = subst (λ (b : Bank). b.dims ≡ n.queries.dims) (sym eq) (sym h.same_dims); same_rank = c.port-asking.ensures.rank ∙ sym h.same_rank };
+        replies = record {
+          same_dims = subst (λ (b : Bank). b.dims ≡ n.replies.dims) (sym er) (c.requires.banks.replies_dims ∙ sym (h.node.same_dims ∙ h.same_dims));
+          same_rank = c.port-replying.ensures.rank ∙ sym (h.node.same_rank ∙ h.same_rank);
+        };
+        start = c.requires.rank.0;
+        node = port_needs T q.dims c.args.number c.requires.rank.0 n q r c.port-asking.result.bank c.port-replying.result.bank c.port-asking.result.rank c.port-replying.result.rank refl c.requires.banks.replies_dims eq er c.port-asking.ensures.rank c.port-replying.ensures.rank h;
+      },
     )
 
 pub returns-clause-banks : goal.returns-clause-banks
@@ -36,10 +33,10 @@ returns-clause-banks g c =
     record {
       queries = c.into_bank.ensures.lawful;
       replies = c.into_bank-2.ensures.lawful;
-      queries_dims = ap (λ (b : Bank). b.dims) c.into_bank.ensures.bank ∙ (c.turn.ensures.queries.same_port.dims ∙ ap (λ (b : Bank). b.dims) c.port-asking.ensures.bank);
-      replies_dims = ap (λ (b : Bank). b.dims) c.into_bank-2.ensures.bank ∙ (c.turn.ensures.replies.same_port.dims ∙ (ap (λ (b : Bank). b.dims) c.port-replying.ensures.bank ∙ c.requires.banks.replies_dims));
-      queries_slots = ap (λ (b : Bank). b.slots) c.into_bank.ensures.bank ∙ (c.turn.ensures.queries.same_port.slots ∙ ap (λ (b : Bank). b.slots) c.port-asking.ensures.bank);
-      replies_slots = ap (λ (b : Bank). b.slots) c.into_bank-2.ensures.bank ∙ (c.turn.ensures.replies.same_port.slots ∙ (ap (λ (b : Bank). b.slots) c.port-replying.ensures.bank ∙ c.requires.banks.replies_slots));
+      queries_dims = ap (λ (b : Bank). b.dims) c.into_bank.ensures.bank ∙ (c.turn.ensures.turns.queries.same_port.dims ∙ ap (λ (b : Bank). b.dims) c.port-asking.ensures.bank);
+      replies_dims = ap (λ (b : Bank). b.dims) c.into_bank-2.ensures.bank ∙ (c.turn.ensures.turns.replies.same_port.dims ∙ (ap (λ (b : Bank). b.dims) c.port-replying.ensures.bank ∙ c.requires.banks.replies_dims));
+      queries_slots = ap (λ (b : Bank). b.slots) c.into_bank.ensures.bank ∙ (c.turn.ensures.turns.queries.same_port.slots ∙ ap (λ (b : Bank). b.slots) c.port-asking.ensures.bank);
+      replies_slots = ap (λ (b : Bank). b.slots) c.into_bank-2.ensures.bank ∙ (c.turn.ensures.turns.replies.same_port.slots ∙ (ap (λ (b : Bank). b.slots) c.port-replying.ensures.bank ∙ c.requires.banks.replies_slots));
     }
 
 pub returns-clause-turned : goal.returns-clause-turned
@@ -58,31 +55,16 @@ returns-clause-turned g c =
     let b = c.port-replying.result.rank in
     let a' = c.turn.new.queries.rank in
     let b' = c.turn.new.replies.rank in
-    let notified : PortTurns T g.row.CAP n n' pq a pq' a' pr b pr' b' = record {
-      queries_rest = c.turn.ensures.queries.same_port.others;
-      replies_rest = c.turn.ensures.replies.same_port.others;
-      dims = c.turn.ensures.dims;
-      rank = c.turn.ensures.rank;
-      steady = c.turn.ensures.queries.steady;
-      steady_replies = c.turn.ensures.replies.steady;
-      queries_sent = c.turn.ensures.queries.grows.sent_grows;
-      queries_got = c.turn.ensures.queries.grows.got_grows;
-      replies_sent = c.turn.ensures.replies.grows.sent_grows;
-      replies_got = c.turn.ensures.replies.grows.got_grows;
-      queries_once = c.turn.ensures.queries.grows.one_sent;
-      replies_once = c.turn.ensures.replies.grows.one_sent;
-      queries_shape = c.turn.ensures.queries.grows.shape;
-      replies_shape = c.turn.ensures.replies.grows.shape;
-      queries_lie = c.turn.ensures.queries.lie;
-      replies_lie = c.turn.ensures.replies.lie;
-      kept = c.turn.ensures.kept;
-      stuck = c.in_ok-_turn.ensures.stuck;
-    } in
+    let k = calls_of c.port-asking.result.calls in
+    let k' = calls_of c.turn.new.queries.calls in
+    let j = calls_of c.port-replying.result.calls in
+    let j' = calls_of c.turn.new.replies.calls in
+    let notified : PortTurns T g.row.CAP n n' k k' j j' pq a pq' a' pr b pr' b' = record { turns = c.turn.ensures.turns; stuck = c.in_ok-_turn.ensures.stuck } in
     subst (λ (x : Bank). AfterBiRank T q.dims g.row.CAP q.slots c.args.number n n' (sides_of q r) (sides_of x c.into_bank-2.result)) (sym c.into_bank.ensures.bank)
     (subst (λ (x : Bank). AfterBiRank T q.dims g.row.CAP q.slots c.args.number n n' (sides_of q r) (sides_of pq' x)) (sym c.into_bank-2.ensures.bank)
-    (after_turn T q.dims g.row.CAP q.slots c.args.number n n' q a pq' a' r b pr' b' refl refl c.requires.banks.replies_dims c.requires.banks.replies_slots
-    (c.turn.ensures.queries.same_port.dims ∙ ap (λ (x : Bank). x.dims) c.port-asking.ensures.bank) (c.turn.ensures.queries.same_port.slots ∙ ap (λ (x : Bank). x.slots) c.port-asking.ensures.bank)
-    (c.turn.ensures.replies.same_port.dims ∙ ap (λ (x : Bank). x.dims) c.port-replying.ensures.bank) (c.turn.ensures.replies.same_port.slots ∙ ap (λ (x : Bank). x.slots) c.port-replying.ensures.bank)
-    c.port-asking.ensures.rank c.turn.ensures.queries.same_port.rank c.port-replying.ensures.rank c.turn.ensures.replies.same_port.rank
+    (after_turn T q.dims g.row.CAP q.slots c.args.number n n' k k' j j' q a pq' a' r b pr' b' refl refl c.requires.banks.replies_dims c.requires.banks.replies_slots
+    (c.turn.ensures.turns.queries.same_port.dims ∙ ap (λ (x : Bank). x.dims) c.port-asking.ensures.bank) (c.turn.ensures.turns.queries.same_port.slots ∙ ap (λ (x : Bank). x.slots) c.port-asking.ensures.bank)
+    (c.turn.ensures.turns.replies.same_port.dims ∙ ap (λ (x : Bank). x.dims) c.port-replying.ensures.bank) (c.turn.ensures.turns.replies.same_port.slots ∙ ap (λ (x : Bank). x.slots) c.port-replying.ensures.bank)
+    c.port-asking.ensures.rank c.turn.ensures.turns.queries.same_port.rank c.port-replying.ensures.rank c.turn.ensures.turns.replies.same_port.rank
     h.same_dims h.same_rank (h.node.same_dims ∙ h.same_dims) (h.node.same_rank ∙ h.same_rank)
-    (subst (λ (x : Bank). PortTurns T g.row.CAP n n' q a pq' a' x b pr' b') c.port-replying.ensures.bank (subst (λ (x : Bank). PortTurns T g.row.CAP n n' x a pq' a' pr b pr' b') c.port-asking.ensures.bank notified))))
+    (subst (λ (x : Bank). PortTurns T g.row.CAP n n' k k' j j' q a pq' a' x b pr' b') c.port-replying.ensures.bank (subst (λ (x : Bank). PortTurns T g.row.CAP n n' k k' j j' x a pq' a' pr b pr' b') c.port-asking.ensures.bank notified))))

@@ -2,7 +2,6 @@ use Rattle.std.proofs.Common.{rules, ◌≡◌, ◌+◌, ◌<◌, ◌^◌, Bool,
 use Rattle.rank_node.specs.Movers.{epoch_in}
 use Rattle.rank_group.specs.Ranks.{RankState, IsRank, progress}
 use Rattle.rank_group.proofs.OneTurn.{OneTurn, NextTold, stays_in, goes_on}
-use Rattle.rank_node.proofs.Halted.{ok_once}
 use Rattle.rank_group.proofs.rank_turn.turn_over.Goals as goal
 
 pub turn-requires : goal.turn-requires
@@ -24,13 +23,14 @@ next-requires g c =
     subst (λ (m : RankState g.row.Q.Denot). IsRank g.Q.Program.rules (P.view p).dims g.row.CAP c.requires.rank.0 (P.view p).rank c.requires.rank.1 m (P.view p).sent (P.view p).got) (sym c.rank.view_is) c.requires.rank.2 in
     let few = subst (λ (m : RankState g.row.Q.Denot). epoch_in m.node.mover < 2 ^ 63) (sym c.rank.view_is) c.requires.few in (
       search rules,
-      (
-        c.in-Ok.ensures.ended (ap Ok c.in-Ended.is),
-        (
-          subst (λ e. e < 2 ^ 63) (sym c.turn.ensures.turns.moves.epoch) few,
-          (c.requires.rank.1, (P.view c.turn.new.port).sent, (P.view c.turn.new.port).got, c.turn.ensures.turns.moves.kept c.requires.rank.1 (mine.runs (ap (λ (m : RankState g.row.Q.Denot). m.over) c.rank.view_is ∙ c.requires.going))),
-        ),
-      ),
+      record {
+        over = c.in-Ok.ensures.ended (ap Ok c.in-Ended.is);
+        epochs = subst (λ e. e < 2 ^ 63) (sym c.turn.ensures.turns.moves.epoch) few;
+        history = c.requires.rank.1;
+        sent = (P.view c.turn.new.port).sent;
+        got = (P.view c.turn.new.port).got;
+        node = c.turn.ensures.turns.moves.kept c.requires.rank.1 (mine.runs (ap (λ (m : RankState g.row.Q.Denot). m.over) c.rank.view_is ∙ c.requires.going));
+      },
     )
 
 pub returns-in-Going-clause-kept : goal.returns-in-Going-clause-kept
@@ -61,16 +61,9 @@ returns-in_ok-rank-inside-in-Ended-clause-kept g c = λ manner h is.
     let t : OneTurn R g.row.CAP c.rank.inside.node c.turn.new.self (P.view p).sent (P.view p).got (P.view q).sent (P.view q).got =
     record { dims = c.turn.ensures.turns.moves.dims; rank = c.turn.ensures.turns.moves.rank; manner = c.turn.ensures.turns.moves.manner; cap_is = c.turn.ensures.cap; shape = c.turn.ensures.turns.moves.shape; kept = c.turn.ensures.turns.moves.kept } in
     let x : NextTold R g.row.CAP c.turn.new.self c.next.new.self more = record {
-      self_dims = c.next.ensures.self_dims;
-      self_rank = c.next.ensures.self_rank;
-      manner = c.next.ensures.manner;
-      cap_is = c.next.ensures.cap;
-      epoch = λ e. c.in_ok-rank-inside-in-Ended.ensures.epoch (ap Ok e);
-      unread = c.next.ensures.unread;
-      votes = λ v. (ok_once (c.in_ok-rank-inside-in-Ended.ensures.votes v).0, (c.in_ok-rank-inside-in-Ended.ensures.votes v).1);
-      work = λ v e. c.in_ok-rank-inside-in-Ended.ensures.work v (ap Ok e);
-      stays = λ e. c.in_ok-rank-inside-in-Ended.ensures.stays (ap Ok e);
-      stopped = λ e. c.in_ok-rank-inside-in-Ended.ensures.stopped (ap Ok e);
+      keeps = c.next.ensures.keeps;
+      begins = λ e. c.in_ok-rank-inside-in-Ended.ensures.begins (ap Ok e);
+      ends = λ e. c.in_ok-rank-inside-in-Ended.ensures.ends (ap Ok e);
     } in
     goes_on R (P.view p).dims g.row.CAP (P.view p).rank manner h inside c.turn.new.self (P.view p).sent (P.view p).got (P.view q).sent (P.view q).got mine on t c.next.new.self more x
 
@@ -92,5 +85,5 @@ returns-in_ok-rank-inside-in-Ended-clause-epoch g c =
     let now : progress (record { node = c.next.new.self; over = not c.in_ok-rank-inside-in-Ended.field-0 }) ≡ epoch_in c.turn.new.self.mover + 1 = by c.in_ok-rank-inside-in-Ended.field-0 refl in
     omega (arith, e, was, here, now) where
       by : (more : Bool) → c.in_ok-rank-inside-in-Ended.field-0 ≡ more → progress (record { node = c.next.new.self; over = not c.in_ok-rank-inside-in-Ended.field-0 }) ≡ epoch_in c.turn.new.self.mover + 1
-      by true is = ap (λ b. cond (not b) (epoch_in c.next.new.self.mover + 1) (epoch_in c.next.new.self.mover)) is ∙ c.in_ok-rank-inside-in-Ended.ensures.epoch (ap Ok is)
-      by false is = ap (λ b. cond (not b) (epoch_in c.next.new.self.mover + 1) (epoch_in c.next.new.self.mover)) is ∙ ap (λ m. epoch_in m + 1) (c.in_ok-rank-inside-in-Ended.ensures.stays (ap Ok is))
+      by true is = ap (λ b. cond (not b) (epoch_in c.next.new.self.mover + 1) (epoch_in c.next.new.self.mover)) is ∙ (c.in_ok-rank-inside-in-Ended.ensures.begins (ap Ok is)).epoch
+      by false is = ap (λ b. cond (not b) (epoch_in c.next.new.self.mover + 1) (epoch_in c.next.new.self.mover)) is ∙ ap (λ m. epoch_in m + 1) (c.in_ok-rank-inside-in-Ended.ensures.ends (ap Ok is)).stays

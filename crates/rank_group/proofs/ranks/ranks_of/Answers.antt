@@ -21,7 +21,7 @@ pub loop-prog-preserved : goal.loop-prog-preserved
 loop-prog-preserved g c = record {
   making = making_more g.Q.Program.rules c.args.grid.now g.row.CAP (manner_of c.args.via c.args.steady) c.args.progs c.loop-prog.progs c.loop-prog.all.items c.loop-prog.invariant.making (ranks c.args.grid.now) c.requires.begins.0 c.requires.begins.1 c.take_first.new.self c.push_reserved.new.self.items
       c.in-Some.prog c.in_ok-node.node c.requires.begins.2 (sym c.in-Some.ensures.first) c.take_first.ensures.rest c.push_reserved.ensures.items
-      c.in_ok-node.ensures.node c.in_ok-node.ensures.prog c.in_ok-node.ensures.dims c.in_ok-node.ensures.rank c.in_ok-node.ensures.manner c.in_ok-node.ensures.cap c.in_ok-node.ensures.epoch c.in_ok-node.ensures.unread c.in_ok-node.ensures.cycle;
+      c.in_ok-node.ensures;
   room = subst (λ n. length c.args.progs ≤ n) (sym c.push_reserved.ensures.capacity) c.loop-prog.invariant.room;
 }
 

@@ -6,7 +6,6 @@ use Rattle.rank_node.specs.Movers.{epoch_in}
 use Rattle.rank_group.specs.Ranks.{RankState, HasRank, AfterTurn, AfterRank}
 use Rattle.rank_group.proofs.OneTurn.{NextTold}
 use Rattle.rank_group.proofs.Ranked.{rank_over, rank_going, rank_ended}
-use Rattle.rank_node.proofs.Halted.{ok_once}
 use Rattle.rank_group.proofs.sweep.turn_rank.Goals as goal
 
 -- a rank whose run is over makes no turn, and another makes one
@@ -46,8 +45,17 @@ next-requires g c =
     let is : HasRank g.Q.Program.rules c.args.bank.dims g.row.CAP manner c.args.number h inside (sent_of c.args.bank) (got_of c.args.bank) =
     subst (λ (m : RankState g.row.Q.Denot). HasRank g.Q.Program.rules c.args.bank.dims g.row.CAP manner c.args.number h m (sent_of c.args.bank) (got_of c.args.bank)) (sym c.rank.view_is) c.requires.rank.2 in
     let t = c.in_ok-bank.ensures.turned in
-    let few = subst (λ (m : RankState g.row.Q.Denot). epoch_in m.node.mover < 2 ^ 63) (sym c.rank.view_is) c.requires.few in
-    (search rules, (t.ended c.in-Ended.is, (subst (λ e. e < 2 ^ 63) (sym t.same.epoch) few, (h, starting_at c.args.bank.dims c.args.number (sent_of c.in_ok-bank.bank), ending_at c.args.bank.dims c.args.number (got_of c.in_ok-bank.bank), t.kept h (is.runs c.if-rank.false)))))
+    let few = subst (λ (m : RankState g.row.Q.Denot). epoch_in m.node.mover < 2 ^ 63) (sym c.rank.view_is) c.requires.few in (
+      search rules,
+      record {
+        over = t.ended c.in-Ended.is;
+        epochs = subst (λ e. e < 2 ^ 63) (sym t.same.epoch) few;
+        history = h;
+        sent = starting_at c.args.bank.dims c.args.number (sent_of c.in_ok-bank.bank);
+        got = ending_at c.args.bank.dims c.args.number (got_of c.in_ok-bank.bank);
+        node = t.kept h (is.runs c.if-rank.false);
+      },
+    )
 
 pub returns-in-Going-clause-turned : goal.returns-in-Going-clause-turned
 returns-in-Going-clause-turned g c =
@@ -64,17 +72,9 @@ returns-in_ok-rank-inside-in-Ended-clause-turned g c =
     let more = c.in_ok-rank-inside-in-Ended.field-0 in
     let t = subst (λ (u : Turn). AfterTurn R c.args.bank.dims g.row.CAP c.args.bank.slots c.args.number u c.rank.inside.node c.turn_node.new.node (sent_of c.args.bank) (got_of c.args.bank) (sent_of c.in_ok-bank.bank) (got_of c.in_ok-bank.bank)) c.in-Ended.is c.in_ok-bank.ensures.turned in
     let x : NextTold R g.row.CAP c.turn_node.new.node c.next.new.self more = record {
-      self_dims = c.next.ensures.self_dims;
-      self_rank = c.next.ensures.self_rank;
-      manner = c.next.ensures.manner;
-      cap_is = c.next.ensures.cap;
-      epoch = λ e. c.in_ok-rank-inside-in-Ended.ensures.epoch (ap Ok e);
-      unread = c.next.ensures.unread;
-      votes = λ v. (ok_once (c.in_ok-rank-inside-in-Ended.ensures.votes v).0, (c.in_ok-rank-inside-in-Ended.ensures.votes v).1);
-      work = λ v e. c.in_ok-rank-inside-in-Ended.ensures.work v (ap Ok e);
-      stays = λ e. c.in_ok-rank-inside-in-Ended.ensures.stays (ap Ok e);
-      stopped = λ e. c.in_ok-rank-inside-in-Ended.ensures.stopped (ap Ok e);
+      keeps = c.next.ensures.keeps;
+      begins = λ e. c.in_ok-rank-inside-in-Ended.ensures.begins (ap Ok e);
+      ends = λ e. c.in_ok-rank-inside-in-Ended.ensures.ends (ap Ok e);
     } in
     subst (λ (m : RankState g.row.Q.Denot). AfterRank R c.args.bank.dims g.row.CAP c.args.bank.slots c.args.number m (record { node = c.next.new.self; over = not more }) (sent_of c.args.bank) (got_of c.args.bank) (sent_of c.in_ok-bank.bank) (got_of c.in_ok-bank.bank)) c.rank.view_is
-    (rank_ended R c.args.bank.dims g.row.CAP c.args.bank.slots c.args.number inside c.turn_node.new.node c.next.new.self more (sent_of c.args.bank) (got_of c.args.bank) (sent_of c.in_ok-bank.bank) (got_of c.in_ok-bank.bank) c.if-rank.false t x
-    (λ e. c.in_ok-rank-inside-in-Ended.ensures.cycle (ap Ok e)))
+    (rank_ended R c.args.bank.dims g.row.CAP c.args.bank.slots c.args.number inside c.turn_node.new.node c.next.new.self more (sent_of c.args.bank) (got_of c.args.bank) (sent_of c.in_ok-bank.bank) (got_of c.in_ok-bank.bank) c.if-rank.false t x)

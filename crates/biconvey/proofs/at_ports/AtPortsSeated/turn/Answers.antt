@@ -15,8 +15,15 @@ turn-requires g c =
     let x : BiSeatedState g.row.A.Denot = record { node = i.node; queries = q; replies = p; turns = i.turns } in
     let was : BiSeatedState g.row.A.Denot = record { node = i.node; queries = i.queries.port.seat; replies = i.replies.port.seat; turns = i.turns } in
     let at : x ≡ was = ap (λ k. record { node = i.node; queries = k.seat; replies = p; turns = i.turns }) c.watch.ensures.port ∙ ap (λ k. record { node = i.node; queries = i.queries.port.seat; replies = k.seat; turns = i.turns }) c.watch-2.ensures.port in
-    let w = subst (HasSomeBiRun g.A.Asker.talk g.row.CAP) (sym at) c.self.invariant in
-    (search rules, (record { same_dims = sym w.way.queries.same_dims; same_rank = sym w.way.queries.same_rank }, (record { same_dims = sym w.way.replies.same_dims; same_rank = sym w.way.replies.same_rank }, (w.start, w.way.node))))
+    let w = subst (HasSomeBiRun g.A.Asker.talk g.row.CAP) (sym at) c.self.invariant in (
+      search rules,
+      record {
+        queries = record { same_dims = sym w.way.queries.same_dims; same_rank = sym w.way.queries.same_rank };
+        replies = record { same_dims = sym w.way.replies.same_dims; same_rank = sym w.way.replies.same_rank };
+        start = w.start;
+        node = w.way.node;
+      },
+    )
 
 pub invariant_of-self : goal.invariant_of-self
 invariant_of-self g c =
@@ -24,7 +31,7 @@ invariant_of-self g c =
     let q = c.watch.new.self.port.seat in
     let p = c.watch-2.new.self.port.seat in
     let n = c.turn.new in
-    let t = c.turn.ensures in
+    let t = c.turn.ensures.turns in
     let x : BiSeatedState g.row.A.Denot = record { node = i.node; queries = q; replies = p; turns = i.turns } in
     let was : BiSeatedState g.row.A.Denot = record { node = i.node; queries = i.queries.port.seat; replies = i.replies.port.seat; turns = i.turns } in
     let at : x ≡ was = ap (λ k. record { node = i.node; queries = k.seat; replies = p; turns = i.turns }) c.watch.ensures.port ∙ ap (λ k. record { node = i.node; queries = i.queries.port.seat; replies = k.seat; turns = i.turns }) c.watch-2.ensures.port in
@@ -41,7 +48,7 @@ returns g c =
     let q = c.watch.new.self.port.seat in
     let p = c.watch-2.new.self.port.seat in
     let n = c.turn.new in
-    let t = c.turn.ensures in
+    let t = c.turn.ensures.turns in
     let x : BiSeatedState g.row.A.Denot = record { node = i.node; queries = q; replies = p; turns = i.turns } in
     let was : BiSeatedState g.row.A.Denot = record { node = i.node; queries = i.queries.port.seat; replies = i.replies.port.seat; turns = i.turns } in
     let at : x ≡ was = ap (λ k. record { node = i.node; queries = k.seat; replies = p; turns = i.turns }) c.watch.ensures.port ∙ ap (λ k. record { node = i.node; queries = i.queries.port.seat; replies = k.seat; turns = i.turns }) c.watch-2.ensures.port in
@@ -54,7 +61,7 @@ returns g c =
           (one_seat p n.replies.port.seat (ap (λ (r : Others). r.bank) t.replies.same_port.others) t.replies.same_port.dims t.replies.same_port.slots t.replies.same_port.rank)
           t.dims t.rank t.queries.steady t.replies.steady t.kept t.queries.grows.shape t.replies.grows.shape);
       one = omega (arith, ap (λ (x : BiSeatedState g.row.A.Denot). x.turns) c.self.view_is);
-      counted = t.steps;
+      counted = c.turn.ensures.steps;
       still = λ none.
           let asked = not (c.asked.result == c.asked-asked.result) in
           let last = neither ((asked || c.is_over-has_ended.result) || c.moved.result) c.moved-2.result none in

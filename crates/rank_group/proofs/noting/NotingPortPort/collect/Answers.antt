@@ -1,4 +1,4 @@
-use Rattle.std.proofs.Common.{◌≡◌, true≢false, ap, ◌∙◌}
+use Rattle.std.proofs.Common.{true≢false, ap, ◌∙◌}
 use Rattle.item_buffer.specs.Contents.{as_shipped}
 use Rattle.port_bank.specs.Port.{Others}
 use Rattle.link_slots.specs.SeatView.{posted_on, collected_from}

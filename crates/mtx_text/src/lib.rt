@@ -56,6 +56,7 @@ mod places;
 mod plain;
 mod read;
 mod refusal;
+mod runs;
 mod seeds;
 mod sizes;
 mod words;

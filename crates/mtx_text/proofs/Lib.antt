@@ -31,6 +31,7 @@ pub mod Nearest
 pub mod Folds
 pub mod Gathered
 pub mod Merged
+pub mod Runs
 pub mod OfCells
 pub mod FiniteMaps
 pub mod Bands

@@ -1,6 +1,7 @@
-//! Lists in order behind each other, of which each has whole rows, put together in one pass: what
-//! ranks own of a matrix's rows is such lists.
-ghost use Rattle.std.specs.Prelude.{IsPermutation, IfOk, IfSome};
+//! Ordered lists behind each other, each of whole rows, put together in one pass: such lists are
+//! what ranks have of the rows of a matrix.
+ghost use Rattle.std.specs.Prelude.{◌≡◌, ◌<◌, ◌≤◌, ◌++◌, IsPermutation, IfOk, IfSome, length};
+ghost use Rattle.std.specs.List.{flat_map};
 
 use crate::place_order::ordered_front;
 use bale_items::Triple;
@@ -12,13 +13,32 @@ const MOST_RUNS: usize = 64;
 /// How many rows a triple there may be at most if a pass over all rows pays.
 const ROWS_PER_TRIPLE: usize = 8;
 
-/// The triples of at most 64 runs, row by row, if row `i` is in run number `i mod n` of `n` alone;
-/// `None` only if that isn't so, or if there are many more rows than triples.
+/// The triples of at most 64 runs, row by row, if row `i` is in run number `i mod n` of `n` alone.
+/// Else it is `None`, or some other order of the triples.
 pub(crate) fn by_rows(
     alloc: Global,
     triples: &[Triple],
 ) -> Result<Option<Vec<Triple>>, AllocError>
-    ensures { IfOk result (λ o. IfSome o (λ v. IsPermutation triples.now v.items)) }
+    ensures { IfOk result (λ o. IfSome o (λ all. IsPermutation triples.now all.items)) }
+{
+    let Some(mut runs) = runs_of(alloc, triples)? else {
+        return Ok(None);
+    };
+    let side = side_of(&runs);
+    if runs.is_empty() || side / ROWS_PER_TRIPLE > triples.len() {
+        return Ok(None);
+    }
+    let all = in_turn(alloc, side, triples.len(), &mut runs)?;
+    if all.len() != triples.len() {
+        return Ok(None);
+    }
+    Ok(Some(all))
+}
+
+/// The longest lists in order that triples are, one behind the other; `None` if they are more than
+/// 64.
+fn runs_of(alloc: Global, triples: &[Triple]) -> Result<Option<Vec<&[Triple]>>, AllocError>
+    ensures { IfOk result (λ o. IfSome o (λ runs. flat_map (λ run. run.now) runs.items ≡ triples.now)) }
 {
     let mut runs = Vec::new(alloc);
     let mut rest = triples;
@@ -30,36 +50,31 @@ pub(crate) fn by_rows(
         runs.push(run)?;
         rest = behind;
     }
-    let side = side_of(&runs);
-    if side / ROWS_PER_TRIPLE > triples.len() {
-        return Ok(None);
-    }
-    let all = in_turn(alloc, side, triples.len(), &mut runs)?;
-    if all.len() < triples.len() {
-        return Ok(None);
-    }
-    Ok(Some(all))
+    Ok(Some(runs))
 }
 
-/// A bound on the rows of runs in order.
-fn side_of(runs: &Vec<&[Triple]>) -> usize {
-    let mut side = 0;
-    for k in 0..runs.len() {
-        if let Some(last) = runs[k].last() {
+/// A number above the rows of all runs.
+fn side_of(runs: &[&[Triple]]) -> usize {
+    let mut side = 0usize;
+    for run in runs {
+        if let Some(last) = run.last() {
             side = side.max(last.i as usize + 1);
         }
     }
     side
 }
 
-/// Takes the rows below `side`, one after the other, each from the front of the run whose turn
-/// it is.
+/// Takes the rows below `side`, one after the other, each from the front of the run whose turn it
+/// is.
 fn in_turn(
     alloc: Global,
     side: usize,
     len: usize,
     runs: &mut Vec<&[Triple]>,
 ) -> Result<Vec<Triple>, AllocError>
+    requires { 0 < length runs.old.items }
+    ensures { IfOk result (λ all. IsPermutation (flat_map (λ run. run.now) runs.old.items)
+        (all.items ++ flat_map (λ run. run.now) runs.new.items)) }
 {
     let mut all = Vec::with_capacity(alloc, len)?;
     let mut turn = 0;
@@ -67,19 +82,30 @@ fn in_turn(
         if turn == runs.len() {
             turn = 0;
         }
-        let run = runs[turn];
-        let n = row_len(run, row);
-        let (front, behind) = run.split_at(n);
-        all.extend_from_slice(front)?;
-        runs[turn] = behind;
+        runs[turn] = after_row(&mut all, runs[turn], row)?;
         turn += 1;
     }
     Ok(all)
 }
 
-/// How many triples at the front are of a row.
+/// Appends what a run has of a row at its front, and gives the rest of the run.
+#[inline(always)]
+fn after_row<'a>(
+    all: &mut Vec<Triple>,
+    run: &'a [Triple],
+    row: usize,
+) -> Result<&'a [Triple], AllocError>
+    ensures { IfOk result (λ rest. all.new.items ++ rest.now ≡ all.old.items ++ run.now) }
+{
+    let (front, behind) = run.split_at(row_len(run, row));
+    all.extend_from_slice(front)?;
+    Ok(behind)
+}
+
+/// How many triples at a run's front are in a row.
 #[inline(always)]
 fn row_len(run: &[Triple], row: usize) -> usize
+    ensures { result ≤ length run.now }
 {
     let mut n = 0;
     while n < run.len() && run[n].i as usize == row {

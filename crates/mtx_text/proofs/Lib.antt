@@ -31,7 +31,7 @@ pub mod Nearest
 pub mod Folds
 pub mod Gathered
 pub mod Merged
-pub mod Runs
+pub mod FrontMoved
 pub mod OfCells
 pub mod FiniteMaps
 pub mod Bands

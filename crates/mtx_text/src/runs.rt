@@ -107,9 +107,10 @@ fn after_row<'a>(
 fn row_len(run: &[Triple], row: usize) -> usize
     ensures { result ≤ length run.now }
 {
-    let mut n = 0;
-    while n < run.len() && run[n].i as usize == row {
-        n += 1;
+    for n in 0..run.len() {
+        if run[n].i as usize != row {
+            return n;
+        }
     }
-    n
+    run.len()
 }

@@ -36,3 +36,15 @@ front_moved {X} {A} f runs k run rest old new l e h =
 pub none_left : {A : Type 0} → (xs ys zs : List A) → IsPermutation xs (ys ++ zs) → length ys ≡ length xs → IsPermutation xs ys
 none_left xs ys [] p e = subst (IsPermutation xs) (append-nil ys) p
 none_left xs ys (z ∷ zs) p e = absurd (omega (arith, length_permutation xs (ys ++ z ∷ zs) p, length-append ys (z ∷ zs), e))
+
+-- the first run of what is left goes behind the runs
+pub run_taken : {X A : Type 0} → (f : X → List A) (runs more : List X) (run : X) (rest behind all : List A) → more ≡ runs ++ run ∷ []
+    → rest ≡ f run ++ behind → flat_map f runs ++ rest ≡ all → flat_map f more ++ behind ≡ all
+run_taken {X} {A} f runs more run rest behind all m r e =
+    let one : flat_map f more ≡ flat_map f runs ++ f run =
+    ap (flat_map f) m ∙ flat_map-append f runs (run ∷ []) ∙ ap (λ l. flat_map f runs ++ l) (append-nil (f run)) in
+    ap (λ l. l ++ behind) one ∙ append_assoc (flat_map f runs) (f run) behind ∙ ap (λ l. flat_map f runs ++ l) (sym r) ∙ e
+
+pub no_rest : {A : Type 0} → (xs rest all : List A) → length rest ≡ 0 → xs ++ rest ≡ all → xs ≡ all
+no_rest xs [] all h e = sym (append-nil xs) ∙ e
+no_rest xs (x ∷ rest) all h e = absurd (omega (arith, h))

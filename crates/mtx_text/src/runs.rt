@@ -79,13 +79,19 @@ fn in_turn(
     let mut all = Vec::with_capacity(alloc, len)?;
     let mut turn = 0;
     for row in 0..side {
-        if turn == runs.len() {
-            turn = 0;
-        }
         runs[turn] = after_row(&mut all, runs[turn], row)?;
-        turn += 1;
+        turn = next_turn(turn, runs.len());
     }
     Ok(all)
+}
+
+/// Whose turn it is after a turn, of so many.
+#[inline(always)]
+fn next_turn(turn: usize, count: usize) -> usize
+    requires { turn < count }
+    ensures { result < count }
+{
+    if turn + 1 == count { 0 } else { turn + 1 }
 }
 
 /// Appends what a run has of a row at its front, and gives the rest of the run.

@@ -15,10 +15,7 @@ const ROWS_PER_TRIPLE: usize = 8;
 
 /// The triples of at most 64 runs, row by row, if row `i` is in run number `i mod n` of `n` alone.
 /// Else it is `None`, or some other order of the triples.
-pub(crate) fn by_rows(
-    alloc: Global,
-    triples: &[Triple],
-) -> Result<Option<Vec<Triple>>, AllocError>
+pub(crate) fn by_rows(alloc: Global, triples: &[Triple]) -> Result<Option<Vec<Triple>>, AllocError>
     ensures { IfOk result (λ o. IfSome o (λ all. IsPermutation triples.now all.items)) }
 {
     let Some(mut runs) = runs_of(alloc, triples)? else {

@@ -1,4 +1,4 @@
-use Rattle.std.proofs.Common.{◌≡◌, ◌++◌, IsPermutation, IfSome, length, List, Bor, arith, subst}
+use Rattle.std.proofs.Common.{◌≡◌, ◌++◌, IsPermutation, IfSome, List, Bor, arith, subst}
 use Rattle.std.specs.List.{flat_map}
 use Rattle.bale_items.specs.declared.triple.Triple.{Triple}
 use Rattle.mtx_text.proofs.FrontMoved.{none_left}

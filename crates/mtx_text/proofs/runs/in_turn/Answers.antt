@@ -1,4 +1,4 @@
-use Rattle.std.proofs.Common.{◌<◌, ◌++◌, IsPermutation, length, List, Bor, arith, refl, sym, subst, ◌∙◌}
+use Rattle.std.proofs.Common.{◌++◌, IsPermutation, List, Bor, arith, refl, sym, subst, ◌∙◌}
 use Rattle.std.specs.List.{flat_map}
 use Rattle.std.proofs.lemmas.List.{length-set}
 use Rattle.std.proofs.lemmas.List.Sorted.{IsPermutation-refl, IsPermutation-trans}

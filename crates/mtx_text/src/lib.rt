@@ -56,7 +56,7 @@ mod places;
 mod plain;
 mod read;
 mod refusal;
-mod runs;
+mod rows;
 mod seeds;
 mod sizes;
 mod words;

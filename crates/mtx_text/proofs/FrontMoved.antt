@@ -33,8 +33,8 @@ front_moved {X} {A} f runs k run rest old new l e h =
     IsPermutation-trans _ _ _ out (subst (λ l. IsPermutation (fs ++ (l ++ gs)) (new ++ flat_map f (set runs k rest))) h back)
 
 -- one list more is appended
-pub list_appended : {X A : Type 0} → (f : X → List A) (lists : List X) (k : ℕ) (list : X) (start old new : List A) → k < length lists → list ≡ get_or lists k list
-    → new ≡ old ++ f list → old ≡ start ++ flat_map f (take k lists) → new ≡ start ++ flat_map f (take (k + 1) lists)
-list_appended {X} {A} f lists k list start old new l e more so_far =
-    more ∙ ap (λ l. l ++ f list) so_far ∙ flat_map_more f start (take k lists) list
-    ∙ ap (λ l. start ++ flat_map f l) (ap (λ x. take k lists ++ x ∷ []) e ∙ sym (take_more lists k list l))
+pub list_appended : {X A : Type 0} → (f : X → List A) (lists : List X) (k : ℕ) (d : X) (start old new : List A) → k < length lists
+    → new ≡ old ++ f (get_or lists k d) → old ≡ start ++ flat_map f (take k lists) → new ≡ start ++ flat_map f (take (k + 1) lists)
+list_appended f lists k d start old new l more so_far =
+    more ∙ ap (λ l. l ++ f (get_or lists k d)) so_far ∙ flat_map_more f start (take k lists) (get_or lists k d)
+    ∙ ap (λ l. start ++ flat_map f l) (sym (take_more lists k d l))

@@ -14,13 +14,13 @@ one_more : {X : Type 0} → (f : X → List Triple) (xs : List X) (x : X) → fl
 one_more f xs x = flat_map-append f xs (x ∷ []) ∙ ap (λ l. flat_map f xs ++ l) (append-nil (f x))
 
 -- one map more, of which `list` came
-pub maps_more : {X Y : Type 0} → (f : X → List Triple) (g : Y → List Triple) (maps : List X) (k : ℕ) (m : X) (lists more : List Y) (list : Y) → k < length maps
-    → m ≡ get_or maps k m → more ≡ lists ++ list ∷ [] → gathered_cells (g list) ≡ f m
+pub maps_more : {X Y : Type 0} → (f : X → List Triple) (g : Y → List Triple) (maps : List X) (k : ℕ) (d : X) (lists more : List Y) (list : Y) → k < length maps
+    → more ≡ lists ++ list ∷ [] → gathered_cells (g list) ≡ f (get_or maps k d)
     → gathered_cells (flat_map g lists) ≡ together (map f (take k maps)) → gathered_cells (flat_map g more) ≡ together (map f (take (k + 1) maps))
-maps_more {X} {Y} f g maps k m lists more list l e p h so_far =
+maps_more {X} {Y} f g maps k d lists more list l p h so_far =
+    let m : X = get_or maps k d in
     let before : List (List Triple) = map f (take k maps) in
-    let right : map f (take (k + 1) maps) ≡ before ++ f m ∷ [] =
-    ap (map f) (take_more maps k m l ∙ ap (λ x. take k maps ++ x ∷ []) (sym e)) ∙ map-append f (take k maps) (m ∷ []) in
+    let right : map f (take (k + 1) maps) ≡ before ++ f m ∷ [] = ap (map f) (take_more maps k d l) ∙ map-append f (take k maps) (m ∷ []) in
     ap gathered_cells (ap (flat_map g) p ∙ one_more g lists list) ∙ sym (gathered_append (flat_map g lists) (g list))
     ∙ ap (λ l. gathered_cells (flat_map g lists ++ l)) h ∙ gathered_alike (flat_map g lists) (cells_of before) (f m) so_far
     ∙ sym (ap together right ∙ ap gathered_cells (one_more (λ cells. cells) before (f m)))

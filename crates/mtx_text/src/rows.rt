@@ -15,13 +15,11 @@ pub(crate) fn rows_together(
     alloc: Global,
     lists: Vec<&[Triple]>,
 ) -> Result<Vec<Triple>, AllocError>
-    ensures { IfOk result (λ all. IsPermutation (flat_map (λ list. list.now) lists.items) all.items) }
+    ensures { IfOk result (λ all. IsPermutation (flat_map (λ list. list.now) lists.entry.items) all.items) }
 {
     let mut lists = lists;
     let mut all = Vec::with_capacity(alloc, count_of(&lists))?;
-    if !lists.is_empty() {
-        take_in_turn(&mut all, &mut lists)?;
-    }
+    take_in_turn(&mut all, &mut lists)?;
     append_all(&mut all, &lists)?;
     Ok(all)
 }
@@ -49,10 +47,12 @@ fn side_of(lists: &[&[Triple]]) -> usize {
 /// Takes one row after the other, each from the front of the list whose turn it is, if there aren't
 /// many more rows than triples.
 fn take_in_turn(all: &mut Vec<Triple>, lists: &mut Vec<&[Triple]>) -> Result<(), AllocError>
-    requires { 0 < length lists.old.items }
     ensures { OnOk result (IsPermutation (all.old.items ++ flat_map (λ list. list.now) lists.old.items)
         (all.new.items ++ flat_map (λ list. list.now) lists.new.items)) }
 {
+    if lists.is_empty() {
+        return Ok(());
+    }
     let side = side_of(lists);
     if side / ROWS_PER_TRIPLE > count_of(lists) {
         return Ok(());

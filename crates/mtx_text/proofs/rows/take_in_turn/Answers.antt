@@ -12,7 +12,7 @@ now list = list.now
 pub loop-row-init : goal.loop-row-init
 loop-row-init c = record {
   moved = IsPermutation-refl (c.args.all.now.items ++ flat_map now c.args.lists.now.items);
-  turn = c.requires;
+  turn = ?;
 }
 
 pub loop-row-preserved : goal.loop-row-preserved

@@ -11,10 +11,7 @@ const ROWS_PER_TRIPLE: usize = 8;
 
 /// The triples of all lists. They are in order if each list is, and row `i` is in list number `i
 /// mod n` of `n` alone.
-pub(crate) fn rows_together(
-    alloc: Global,
-    lists: Vec<&[Triple]>,
-) -> Result<Vec<Triple>, AllocError>
+pub(crate) fn rows_together(alloc: Global, lists: Vec<&[Triple]>) -> Result<Vec<Triple>, AllocError>
     ensures { IfOk result (λ all. IsPermutation (flat_map (λ list. list.now) lists.entry.items) all.items) }
 {
     let mut lists = lists;

@@ -1,5 +1,6 @@
-use Rattle.std.proofs.Common.{◌<◌, ◌++◌, IsPermutation, length, List, Bor, arith}
+use Rattle.std.proofs.Common.{◌<◌, ◌++◌, IsPermutation, length, List, Bor, arith, inl, inr, sym, ◌∙◌}
 use Rattle.std.specs.List.{flat_map}
+use Rattle.std.proofs.lemmas.Bool.{cases_lt, eq-eqb, false≢true}
 use Rattle.std.proofs.lemmas.List.{length-set}
 use Rattle.std.proofs.lemmas.List.Sorted.{IsPermutation-refl, IsPermutation-trans}
 use Rattle.bale_items.specs.declared.triple.Triple.{Triple}
@@ -12,7 +13,10 @@ now list = list.now
 pub loop-row-init : goal.loop-row-init
 loop-row-init c = record {
   moved = IsPermutation-refl (c.args.all.now.items ++ flat_map now c.args.lists.now.items);
-  turn = ?;
+  turn = elim (cases_lt 0 (length c.args.lists.now.items)) [
+    | inl l ↦ l
+    | inr l ↦ absurd (false≢true (sym c.if-is_empty.false ∙ c.is_empty.ensures ∙ eq-eqb _ 0 (omega (arith, c.args.lists.now.ok.0, l))))
+  ];
 }
 
 pub loop-row-preserved : goal.loop-row-preserved

@@ -14,7 +14,12 @@ pub loop-m-init : goal.loop-m-init
 loop-m-init c = ap (λ l. gathered_cells (flat_map now l)) c.in_ok-lists.ensures.items
 
 pub loop-m-preserved : goal.loop-m-preserved
-loop-m-preserved c = ?
+loop-m-preserved c =
+    maps_more now now c.args.maps.now c.loop-m.m-index c.m-item.result c.loop-m.lists.items c.push.new.self.items c.as_they_came.result c.loop-m-test.true c.m-item.is
+    c.in_ok-push.ensures.items c.as_they_came.ensures c.loop-m.invariant
 
 pub returns : goal.returns
-returns c = ?
+returns c =
+    gathered_permutes (flat_map now c.loop-m.lists.items) c.in_ok-triples.triples.items c.in_ok-triples.ensures
+    ∙ c.loop-m.invariant
+    ∙ ap (λ l. together (map now l)) (take_all c.loop-m.m-index c.args.maps.now c.loop-m-test.false)

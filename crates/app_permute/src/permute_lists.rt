@@ -9,8 +9,8 @@ use bale_items::{NoMemory, Triple};
 use mtx_text::Cells;
 use std::alloc::Global;
 
-/// Moves the cells that came in round 0 or 1 into `list`, in order; those of a later round stay,
-/// and the list is empty.
+/// Moves the cells that came in round 0 or 1 into `list`, in order; those of a later round are put
+/// in order and stay, and the list is empty.
 pub(crate) fn take_cells(cells: &mut Cells, list: &mut Vec<Triple>, round: u64)
     ensures came { list.new.items ≡ (if nat_lt round 2 then cells.old else []) }
     ensures kept { cells.new ≡ (if nat_lt round 2 then [] else cells.old) }
@@ -19,6 +19,7 @@ pub(crate) fn take_cells(cells: &mut Cells, list: &mut Vec<Triple>, round: u64)
         cells.take_entries(list);
     } else {
         *list = Vec::new(*list.allocator());
+        cells.settle();
     }
 }
 

@@ -96,12 +96,13 @@ pub fn permute_end(alloc: Global, m: &Matrix, p: &Progs<Permute>) -> Result<Matr
         → IfOk result (λ b. b ≡ reordering_of rp cp m.now) }
     ensures values { (rp cp : List ℕ) → PermuteEnded rp cp m.now p.now → IfOk result (λ b. IsPermuted rp cp m.now b) }
 {
-    let mut all = Cells::new(alloc);
+    let mut maps = Vec::with_capacity(alloc, p.len())?;
     for rank in 0..p.len() {
         let Some(program) = p.get(rank) else {
             unreachable!()
         };
-        all.raise_all(program.cells())?;
+        maps.push(program.cells())?;
     }
+    let all = Cells::of_maps(alloc, &maps)?;
     Matrix::of_own_cells(m.rows(), m.cols(), m.kind(), all)
 }

@@ -153,8 +153,10 @@ impl Program for Transpose {
 
     fn end_round(&mut self, votes: u64) -> Result<bool, NoMemory> {
         self.round = self.round.saturating_add(1);
-        // What was sent makes room for the matrix.
+        // What was sent makes room for the matrix. Each rank puts its cells in order, so that few
+        // steps are left where they are put together.
         self.outgoing = Vec::new(*self.outgoing.allocator());
+        self.cells.settle();
         Ok(false)
     }
 }

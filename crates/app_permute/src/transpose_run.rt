@@ -86,12 +86,13 @@ pub fn transpose_end(alloc: Global, m: &Matrix, p: &Progs<Transpose>) -> Result<
     ensures matrix { IfOk result (λ b. b ≡ transpose_of m.now) }
     ensures values { IfOk result (λ b. IsTransposed m.now b) }
 {
-    let mut all = Cells::new(alloc);
+    let mut maps = Vec::with_capacity(alloc, p.len())?;
     for rank in 0..p.len() {
         let Some(program) = p.get(rank) else {
             unreachable!()
         };
-        all.raise_all(program.cells())?;
+        maps.push(program.cells())?;
     }
+    let all = Cells::of_maps(alloc, &maps)?;
     Matrix::of_own_cells(m.cols(), m.rows(), m.kind(), all)
 }

@@ -31,6 +31,8 @@ pub mod Nearest
 pub mod Folds
 pub mod Gathered
 pub mod Merged
+pub mod FrontMoved
+pub mod MapsTogether
 pub mod OfCells
 pub mod FiniteMaps
 pub mod Bands

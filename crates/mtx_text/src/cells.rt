@@ -1,16 +1,17 @@
 //! Ordered maps from places to values, in which raises come in any order at the cost of a push
 //! each.
-ghost use Rattle.std.specs.Prelude.{◌≡◌, ◌≢◌, ◌+◌, ◌≤◌, ◌++◌, ◌∷◌, ◌==◌, true, not, [], List, length, slice_get, take, Ok, IfOk, OnOk, if◌then◌else◌};
+ghost use Rattle.std.specs.Prelude.{◌≡◌, ◌≢◌, ◌+◌, ◌≤◌, ◌++◌, ◌∷◌, ◌==◌, true, not, [], List, length, map, slice_get, take, Ok, IfOk, OnOk, if◌then◌else◌};
 ghost use Rattle.std.specs.Int.{int_max};
 ghost use Rattle.bale_items.specs.Changes.{AllOrNothing};
 ghost use Rattle.bale_items.specs.declared.triple.Triple.{Triple};
 ghost use Rattle.mtx_text.specs.Grammar.{has_place};
 ghost use Rattle.mtx_text.specs.Maps.{is_at};
-ghost use Rattle.mtx_text.specs.Cells.{is_before, comes_before, InOrder, with_value_raised, raised_all, gathered_cells, first_from};
+ghost use Rattle.mtx_text.specs.Cells.{is_before, comes_before, InOrder, with_value_raised, raised_all, gathered_cells, together, first_from};
 ghost use Rattle.mtx_text.specs.code.PlaceOrder.{IsOrderedFront};
 
 use crate::append::append;
 use crate::place_order::{comes_before, gather, greater, is_before};
+use crate::rows::rows_together;
 use bale_items::{NoMemory, Triple};
 use std::alloc::{AllocError, Global};
 use std::marker::Model;
@@ -55,6 +56,33 @@ impl Cells {
         }
     }
 
+    /// The cells of several maps as one map: a place that some have has its greatest value. It takes
+    /// one pass if the maps are settled, and row `i` is in map number `i mod n` of `n` alone.
+    ///
+    /// # Errors
+    ///
+    /// `NoMemory` if there was none.
+    pub fn of_maps(alloc: Global, maps: &[&Cells]) -> Result<Cells, NoMemory>
+        ensures { IfOk result (λ cells. cells ≡ together (map (λ m. m.now) maps.now)) }
+    {
+        let mut lists = Vec::with_capacity(alloc, maps.len())?;
+        for m in maps {
+            lists.push(m.as_they_came())?;
+        }
+        let triples = rows_together(alloc, lists)?;
+        Ok(Cells {
+            triples,
+            settled: 0,
+        })
+    }
+
+    /// What came, each place of which has its greatest value.
+    fn as_they_came(&self) -> &[Triple]
+        ensures { gathered_cells result.now ≡ self.now }
+    {
+        self.triples.as_slice()
+    }
+
     /// Raises the value at row `i` and column `j` to `v`: it is `v` if the place was new or had
     /// a lesser value, and else nothing changes.
     ///
@@ -66,18 +94,6 @@ impl Cells {
         ensures { AllOrNothing (with_value_raised (record { i = i; j = j; v = v }) self.old) self.old self.new result }
     {
         append(&mut self.triples, Triple { i, j, v })?;
-        Ok(())
-    }
-
-    /// Raises the values to those of other cells.
-    ///
-    /// # Errors
-    ///
-    /// `NoMemory` if there was none; the cells are as before.
-    pub fn raise_all(&mut self, other: &Cells) -> Result<(), NoMemory>
-        ensures { AllOrNothing (raised_all self.old other.now) self.old self.new result }
-    {
-        self.triples.extend_from_slice(other.triples.as_slice())?;
         Ok(())
     }
 

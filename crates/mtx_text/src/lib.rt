@@ -56,6 +56,7 @@ mod places;
 mod plain;
 mod read;
 mod refusal;
+mod rows;
 mod seeds;
 mod sizes;
 mod words;

@@ -16,6 +16,7 @@
 //! | [`Matrix::len`], [`Matrix::get`] | one entry | `None` exactly past the end |
 //! | [`entries_are_a_map`] | a law: the list and the finite map of a matrix say the same | |
 //! | [`Cells`] | an ordered map from places to values: [`Cells::put`], [`Cells::raise`], [`Cells::at_or_after`] | |
+//! | [`Cells::of_maps`] | several such maps as one | |
 //! | [`Matrix::of_cells`], [`Matrix::of_own_cells`], [`Matrix::of_all_cells`] | the matrix of cells, in order | |
 //! | [`Words`] | the words of a seed, and permutations drawn from them | |
 //! | [`gen_matrix`] | a matrix generated from a seed | |

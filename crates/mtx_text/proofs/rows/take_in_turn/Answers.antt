@@ -1,4 +1,4 @@
-use Rattle.std.proofs.Common.{◌<◌, ◌++◌, IsPermutation, length, List, Bor, arith, inl, inr, sym, ◌∙◌}
+use Rattle.std.proofs.Common.{◌++◌, length, List, Bor, arith, inl, inr, sym, ◌∙◌}
 use Rattle.std.specs.List.{flat_map}
 use Rattle.std.proofs.lemmas.Bool.{cases_lt, eq-eqb, false≢true}
 use Rattle.std.proofs.lemmas.List.{length-set}

@@ -1,4 +1,4 @@
-use Rattle.std.proofs.Common.{List, Bor, map, sym, ap, ◌∙◌}
+use Rattle.std.proofs.Common.{List, Bor, map, ap, ◌∙◌}
 use Rattle.std.specs.List.{flat_map}
 use Rattle.std.proofs.lemmas.List.{take_all}
 use Rattle.bale_items.specs.declared.triple.Triple.{Triple}

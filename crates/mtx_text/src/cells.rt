@@ -56,8 +56,8 @@ impl Cells {
         }
     }
 
-    /// The cells of several maps as one map: a place that some have has its greatest value. It takes
-    /// one pass if the maps are settled, and row `i` is in map number `i mod n` of `n` alone.
+    /// The cells of several maps as one map: a place that some have has its greatest value. It
+    /// takes one pass if the maps are settled, and row `i` is in map number `i mod n` of `n` alone.
     ///
     /// # Errors
     ///

@@ -1,5 +1,5 @@
 -- A run of an exchange of queries and replies on one thread, turn by turn.
-use Rattle.std.specs.Prelude.{◌≡◌, ◌≢◌, ℕ, ◌+◌, Bool, List, length, slice_get, Some}
+use Rattle.std.specs.Prelude.{◌≡◌, ℕ, ◌+◌, Bool, List, slice_get, Some}
 use Rattle.port_bank.specs.Plain.{empty_bank}
 use Rattle.rank_group.specs.Turns.{OnlyAt, InSweeps}
 use Rattle.round_program.specs.Talks.{Talk}

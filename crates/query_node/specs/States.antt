@@ -82,8 +82,8 @@ pub record IsBiNode {S : Type 0} (T : Talk S) (start : S) (n : BiState S)
       (part_of (buffers_of n.replies) replying replied).pulled
   pub read : AllRead n.replies
 
--- A BiNode that hasn't turned, of an asker in the state `start`: nothing was sent or collected on its
--- ports.
+-- A BiNode that hasn't turned, of an asker in the state `start`: nothing was sent or collected on
+-- its ports.
 pub record IsNewBiNode {S : Type 0} (T : Talk S) (dims : List ℕ) (steady : Bool) (start : S)
     (n : BiState S) : Type 0 where
   pub node : IsBiNode T start n (λ l. []) (λ l. []) (λ l. []) (λ l. [])

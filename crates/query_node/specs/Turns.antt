@@ -1,5 +1,5 @@
--- What a turn of a rank makes over its two ports: one of queries, which goes from q to q', and one of
--- replies, which goes from r to r'.
+-- What a turn of a rank makes over its two ports: one of queries, which goes from q to q', and one
+-- of replies, which goes from r to r'.
 use Rattle.std.specs.Prelude.{◌≡◌, ℕ, ◌==◌, length}
 use Rattle.port_bank.specs.Port.{PortView, is_crowded, is_idle}
 use Rattle.convey.specs.Buffers.{is_complete}
@@ -21,17 +21,17 @@ pub record MayTurnBoth {S : Type 0} (T : Talk S) (n : BiState S) (q r : PortView
   pub start : S
   pub node : IsOverPorts T start n q r
 
--- Whatever the turn answers.
+-- What it makes, whatever it answers.
 -- kept: the rank is again between two turns.
--- between: between its two advances, when the queries' port is as the turn leaves it and the replies'
--- port as the turn found it, the rank is one that is between two turns: so what holds of those
--- moments holds of this one.
--- moments: after each post and each collect, by its own lists at any moment of the turn, the rank has
--- sent its queries in order, and its answers, in order, to queries that it has got.
+-- between: between its two advances, when the queries' port is as the turn leaves it and the
+-- replies' port as the turn found it, the rank is one that is between two turns: so what holds of
+-- those moments holds of this one.
+-- moments: after each post and each collect, by its own lists at any moment of the turn, the rank
+-- has sent its queries in order, and its answers, in order, to queries that it has got.
 -- unasked, unanswered: a query is left to push only if its push was refused, and one that came is
 -- unread only if its answer was.
--- asked_all, replied_all: the rank is done asking if and only if all its queries are pushed, and done
--- replying if and only if the queries are over.
+-- asked_all, replied_all: the rank is done asking if and only if all its queries are pushed, and
+-- done replying if and only if the queries are over.
 -- queries, replies: each way advances once.
 pub record TurnsBoth (cap : ℕ) {S : Type 0} (T : Talk S) (n n' : BiState S) (q q' r r' : PortView) : Type 0 where
   pub kept : (start : S) → IsOverPorts T start n q r → IsOverPorts T start n' q' r'

@@ -55,7 +55,8 @@ abbrev pub HasRank : {S : Type 0} → Rules S → List ℕ → ℕ → Manner �
 HasRank R dims cap manner r h n sent got =
     IsRank R dims cap manner r h n (starting_at dims r sent) (ending_at dims r got)
 
--- A rank that may be turned over its own port: its run goes on, and its epoch's number is below 2^63.
+-- A rank that may be turned over its own port: its run goes on, and its epoch's number is below
+-- 2^63.
 pub record MayTurnRank {S : Type 0} (R : Rules S) (cap : ℕ) (n : RankState S) (port : PortView) : Type 0 where
   pub going : n.over ≡ false
   pub few : epoch_in n.node.mover < 2 ^ 63

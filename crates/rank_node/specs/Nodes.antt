@@ -31,8 +31,8 @@ pub record IsNode {S : Type 0} (R : Rules S) (h : ℕ → S) (n : NodeState S) (
       (part_in n.mover sent got)
   pub within : IsWithinEpoch R (ranks (mover_dims n.mover)) h n.run (part_in n.mover sent got)
 
--- A node that hasn't turned, of a program in the state `start`: nothing was sent or collected on its
--- port, and no item is pushed.
+-- A node that hasn't turned, of a program in the state `start`: nothing was sent or collected on
+-- its port, and no item is pushed.
 -- mover: its transport is unused, and is of the program's rank.
 -- cycle: over an exstack it is in cycle 0.
 pub record IsNewNode {S : Type 0} (R : Rules S) (cap : ℕ) (dims : List ℕ) (manner : Manner) (start : S)

@@ -78,8 +78,8 @@ abbrev pub AreSeatedBiRanks : {S : Type 0} → Talk S → ℕ → Bool → BankI
 AreSeatedBiRanks {S} T cap steady q p xs = (r : ℕ) (x : BiSeatedState S) → slice_get xs r ≡ Some x
     → IsSeatedBiRank T cap steady q p r x
 
--- The ranks may get their seats, each at both banks: q of queries and p of replies. Their seats are in
--- gq and gp, and none is given yet.
+-- The ranks may get their seats, each at both banks: q of queries and p of replies. Their seats are
+-- in gq and gp, and none is given yet.
 pub record MaySeatAll {S : Type 0} (T : Talk S) (q p : BankIdentity) (gq gp : Gathering)
     (ns : List (BiState S)) : Type 0 where
   pub queries : (gq.id ≡ q.id) × (gq.shape ≡ q.shape)

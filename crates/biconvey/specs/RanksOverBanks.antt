@@ -7,7 +7,7 @@ use Rattle.route_tensor.specs.Ends.{reader_at}
 use Rattle.port_bank.specs.Plain.{Bank, IsBank, sent_of, got_of}
 use Rattle.convey.specs.Buffers.{in_of, is_complete}
 use Rattle.round_program.specs.Talks.{Talk}
-use Rattle.rank_group.specs.Ranks.{crowded_in, idle_in}
+use Rattle.rank_group.specs.Ranks.{IsOrder, crowded_in, idle_in}
 use Rattle.query_node.specs.States.{BiState, Sides}
 use Rattle.query_node.specs.Still.{Known, IsStuckBoth}
 use Rattle.query_node.specs.Ranks.{sides_at, HasBiRank}
@@ -67,6 +67,15 @@ pub record BiRanksOnBanks {S : Type 0} (T : Talk S) (dims : List ℕ) (cap slots
   pub some : 0 < slots
   pub some_cap : 0 < cap
   pub each : (r : ℕ) (n : BiState S) → slice_get ns r ≡ Some n → HasBiRank T dims r (starts r) n s
+
+-- Ranks that a drive may turn over two plain banks, in sweeps of the order given.
+pub record MaySweepBoth {S : Type 0} (T : Talk S) (cap : ℕ) (q r : Bank) (given : List ℕ)
+    (ns : List (BiState S)) : Type 0 where
+  pub order : IsOrder (ranks q.dims) given
+  pub banks : AreBanks cap q.dims q.slots q r
+  pub steady : Bool
+  pub starts : ℕ → S
+  pub on_bank : BiRanksOnBanks T q.dims cap q.slots steady starts ns (sides_of q r)
 
 -- Between two moments no link carried more parcels than there were turns.
 abbrev pub PostedWithin : List ℕ → Sides → ℕ → Sides → ℕ → Type 0

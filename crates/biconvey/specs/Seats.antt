@@ -1,11 +1,16 @@
 -- Ranks that run on threads, each with a seat at two slot banks: one of queries, one of replies.
-use Rattle.std.specs.Prelude.{◌≡◌, ℕ, ◌<◌, ◌≤◌, Bool, true, List, slice_get, Some}
+use Rattle.std.specs.Prelude.{◌≡◌, ℕ, ◌^◌, ◌<◌, ◌≤◌, Bool, true, false, List, length, replicate, slice_get, Some}
+use Rattle.std.specs.List.{All}
+use Rattle.list_laws.specs.Lists.{EachAt}
+use Rattle.route_tensor.specs.Grid.{ranks}
 use Rattle.port_bank.specs.Shapes.{IsConveyorShape}
+use Rattle.link_slots.specs.Gathering.{Gathering}
 use Rattle.link_slots.specs.SeatView.{BankIdentity, SeatView, posted_on, collected_from}
 use Rattle.round_program.specs.Talks.{Talk}
 use Rattle.rank_group.specs.TurnNotes.{HasSame}
 use Rattle.query_node.specs.States.{BiState, IsBiNode}
 use Rattle.biconvey.specs.RanksOverBanks.{is_over}
+use Rattle.biconvey.specs.Drives.{AreFreshBiRanks}
 
 -- A rank, its seat at the bank of queries, its seat at the bank of replies, and the number of turns
 -- that it has made.
@@ -72,6 +77,23 @@ pub record IsSeatedBiRank {S : Type 0} (T : Talk S) (cap : ℕ) (steady : Bool) 
 abbrev pub AreSeatedBiRanks : {S : Type 0} → Talk S → ℕ → Bool → BankIdentity → BankIdentity → List (BiSeatedState S) → Type 0
 AreSeatedBiRanks {S} T cap steady q p xs = (r : ℕ) (x : BiSeatedState S) → slice_get xs r ≡ Some x
     → IsSeatedBiRank T cap steady q p r x
+
+-- The ranks may get their seats, each at both banks: q of queries and p of replies. Their seats are
+-- in gq and gp, and none is given yet.
+pub record MaySeatAll {S : Type 0} (T : Talk S) (q p : BankIdentity) (gq gp : Gathering)
+    (ns : List (BiState S)) : Type 0 where
+  pub queries : (gq.id ≡ q.id) × (gq.shape ≡ q.shape)
+  pub replies : (gp.id ≡ p.id) × (gp.shape ≡ p.shape)
+  pub shape : p.shape ≡ q.shape
+  pub none : (gq.given ≡ replicate (ranks q.shape.dims) false) × (gp.given ≡ replicate (ranks q.shape.dims) false)
+  pub size : length ns ≡ ranks q.shape.dims
+  pub few : ranks q.shape.dims < 2 ^ 32
+  pub fresh : (steady : Bool) × (askers : List S) × AreFreshBiRanks T q.shape.dims steady askers ns
+
+-- Ranks at their seats of both banks, in order.
+pub record AreAtSeats {S : Type 0} (q p : BankIdentity) (xs : List (BiSeatedState S)) : Type 0 where
+  pub same : All (λ x. (bank_at x.queries ≡ q) × (bank_at x.replies ≡ p)) xs
+  pub numbers : EachAt (λ r x. (x.queries.rank ≡ r) × (x.replies.rank ≡ r)) xs
 
 -- Turns from x to y made no progress: no parcel of queries or replies was posted or collected, no
 -- query was pushed, and neither direction was completed.

@@ -1,7 +1,7 @@
 -- A run of an exchange of queries and replies on one thread, turn by turn.
-use Rattle.std.specs.Prelude.{◌≡◌, ◌≢◌, ℕ, ◌+◌, Bool, List, length, slice_get, Some}
+use Rattle.std.specs.Prelude.{◌≡◌, ℕ, ◌+◌, Bool, List, slice_get, Some}
 use Rattle.port_bank.specs.Plain.{empty_bank}
-use Rattle.rank_group.specs.Turns.{InSweeps}
+use Rattle.rank_group.specs.Turns.{OnlyAt, InSweeps}
 use Rattle.round_program.specs.Talks.{Talk}
 use Rattle.query_node.specs.States.{BiState, Sides}
 use Rattle.biconvey.specs.Drives.{AreFreshBiRanks, askers_of}
@@ -15,8 +15,7 @@ pub record AskingScene (S : Type 0) : Type 0 where
 
 -- From moment a to moment b rank r made one turn, which was counted, and no other rank did.
 pub record IsAskingTurn {S : Type 0} (T : Talk S) (dims : List ℕ) (cap slots r : ℕ) (a b : AskingScene S) : Type 0 where
-  pub all : length b.ranks ≡ length a.ranks
-  pub others : (k : ℕ) → k ≢ r → slice_get b.ranks k ≡ slice_get a.ranks k
+  pub only : OnlyAt r a.ranks b.ranks
   pub turned : (n n' : BiState S) → slice_get a.ranks r ≡ Some n → slice_get b.ranks r ≡ Some n'
       → AfterBiRank T dims cap slots r n n' a.sides b.sides
   pub counted : b.turns ≡ a.turns + 1

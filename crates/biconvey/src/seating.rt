@@ -1,12 +1,10 @@
 //! The ranks of an exchange get their seats at two slot banks and go to their ports, and leave
 //! them.
 
-ghost use Rattle.std.specs.Prelude.{◌≡◌, ◌<◌, ◌^◌, Bool, false, List, map, length, replicate, slice_index_or, Some, None, IfOk, OnOk};
-ghost use Rattle.std.specs.List.{All};
+ghost use Rattle.std.specs.Prelude.{◌≡◌, Bool, List, map, slice_index_or, Some, None, IfOk, OnOk};
 ghost use Rattle.list_laws.specs.Lists.{EachAt};
-ghost use Rattle.route_tensor.specs.Grid.{ranks};
 ghost use Rattle.biconvey.specs.Drives.{AreFreshBiRanks};
-ghost use Rattle.biconvey.specs.Seats.{bank_at, AreSeatedBiRanks};
+ghost use Rattle.biconvey.specs.Seats.{MaySeatAll, AreAtSeats, AreSeatedBiRanks};
 
 use crate::at_ports::AtPorts;
 use bale_items::NoMemory;
@@ -25,15 +23,7 @@ pub(crate) fn seat_all<'a, const CAP: usize, const HOPS: usize, A: Asker>(
     of_replies: &mut GatherSeat<CAP>,
     all: Vec<BiNode<A, CAP, HOPS>>,
 ) -> Result<Vec<AtPorts<'a, A, CAP, HOPS>>, NoMemory>
-    requires queries { (of_queries.old.id ≡ queries.now.id) × (of_queries.old.shape ≡ queries.now.shape) }
-    requires replies { (of_replies.old.id ≡ replies.now.id) × (of_replies.old.shape ≡ replies.now.shape) }
-    requires shape { replies.now.shape ≡ queries.now.shape }
-    requires none { (of_queries.old.given ≡ replicate (ranks queries.now.shape.dims) false)
-        × (of_replies.old.given ≡ replicate (ranks queries.now.shape.dims) false) }
-    requires size { length all.items ≡ ranks queries.now.shape.dims }
-    requires few { ranks queries.now.shape.dims < 2 ^ 32 }
-    requires fresh { (steady : Bool) × (askers : List A)
-        × AreFreshBiRanks A.talk queries.now.shape.dims steady askers all.items }
+    requires seats { MaySeatAll A.talk queries.now replies.now of_queries.old of_replies.old all.items }
     ensures queries { (of_queries.new.id ≡ queries.now.id) × (of_queries.new.shape ≡ queries.now.shape) }
     ensures replies { (of_replies.new.id ≡ replies.now.id) × (of_replies.new.shape ≡ replies.now.shape) }
     ensures nodes { IfOk result (λ xs. map (λ x. x.node) xs.items ≡ all.items) }
@@ -80,8 +70,7 @@ pub(crate) fn gather_all<'a, const CAP: usize, const HOPS: usize, A: Asker>(
 ) -> Result<Vec<BiNode<A, CAP, HOPS>>, NoMemory>
     requires queries { (of_queries.old.id ≡ queries.now.id) × (of_queries.old.shape ≡ queries.now.shape) }
     requires replies { (of_replies.old.id ≡ replies.now.id) × (of_replies.old.shape ≡ replies.now.shape) }
-    requires same { All (λ y. (bank_at y.queries ≡ queries.now) × (bank_at y.replies ≡ replies.now)) ended.items }
-    requires numbers { EachAt (λ r y. (y.queries.rank ≡ r) × (y.replies.rank ≡ r)) ended.items }
+    requires ended { AreAtSeats queries.now replies.now ended.items }
     ensures queries { (of_queries.new.id ≡ queries.now.id) × (of_queries.new.shape ≡ queries.now.shape) }
     ensures replies { (of_replies.new.id ≡ replies.now.id) × (of_replies.new.shape ≡ replies.now.shape) }
     ensures nodes { IfOk result (λ ns. ns.items ≡ map (λ y. y.node) ended.entry.items) }

@@ -4,14 +4,13 @@
 //! inbox; or else both ways are complete for every rank. Each of these happens only so often, which
 //! bounds the number of sweeps.
 
-ghost use Rattle.std.specs.Prelude.{◌≡◌, ◌≢◌, ℕ, ◌+◌, ◌<◌, ◌≤◌, Bool, length, slice_get, Some, IfOk, OnOk};
+ghost use Rattle.std.specs.Prelude.{◌≡◌, ℕ, ◌+◌, ◌<◌, ◌≤◌, Bool, length, slice_get, Some, IfOk, OnOk};
 ghost use Rattle.route_tensor.specs.Grid.{ranks};
-ghost use Rattle.rank_group.specs.Ranks.{IsOrder};
 ghost use Rattle.query_node.specs.States.{BiState};
 ghost use Rattle.query_node.specs.Ranks.{HasBiRank};
-ghost use Rattle.rank_group.specs.Turns.{InTurn};
+ghost use Rattle.rank_group.specs.Turns.{OnlyAt, InTurn};
 ghost use Rattle.biconvey.specs.Turns.{IsAskingTurn};
-ghost use Rattle.biconvey.specs.RanksOverBanks.{AreBanks, AfterBiRank, PostedWithin, BiRanksOnBanks, AfterSomeBiTurns, sides_of};
+ghost use Rattle.biconvey.specs.RanksOverBanks.{AreBanks, MaySweepBoth, AfterBiRank, PostedWithin, BiRanksOnBanks, AfterSomeBiTurns, sides_of};
 
 use bale_items::{NoMemory, Steps};
 use port_bank::PlainBank;
@@ -65,8 +64,7 @@ fn turn_one<const CAP: usize, const HOPS: usize, A: Asker, L: Ledger>(
     requires on_bank { (steady : Bool) × (starts : ℕ → A)
         × BiRanksOnBanks A.talk banks.queries.dims CAP banks.queries.slots steady starts all.old.items
         (sides_of banks.queries banks.replies) }
-    ensures size { length all.new.items ≡ length all.old.items }
-    ensures others { (k : ℕ) → k ≢ number → slice_get all.new.items k ≡ slice_get all.old.items k }
+    ensures only { OnlyAt number all.old.items all.new.items }
     ensures banks { IfOk result (λ b. AreBanks CAP banks.entry.queries.dims banks.entry.queries.slots b.queries
         b.replies) }
     ensures steps { steps.new ≡ steps.old + 1 }
@@ -85,11 +83,7 @@ pub(crate) fn sweep<const CAP: usize, const HOPS: usize, A: Asker, L: Ledger>(
     order: &[u32],
     steps: &mut Steps<L>,
 ) -> Result<Banks<CAP>, NoMemory>
-    requires order { IsOrder (ranks banks.queries.dims) order.now }
-    requires banks { AreBanks CAP banks.queries.dims banks.queries.slots banks.queries banks.replies }
-    requires on_bank { (steady : Bool) × (starts : ℕ → A)
-        × BiRanksOnBanks A.talk banks.queries.dims CAP banks.queries.slots steady starts all.old.items
-        (sides_of banks.queries banks.replies) }
+    requires sweeps { MaySweepBoth A.talk CAP banks.queries banks.replies order.now all.old.items }
     ensures banks { IfOk result (λ b. AreBanks CAP banks.entry.queries.dims banks.entry.queries.slots b.queries
         b.replies) }
     ensures most_steps { steps.new ≤ steps.old + length order.now }

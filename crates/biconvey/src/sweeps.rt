@@ -3,11 +3,10 @@
 ghost use Rattle.std.specs.Prelude.{◌≡◌, ℕ, ◌+◌, ◌≤◌, Bool, true, false, slice_get, Some, IfOk, OnOk};
 ghost use Rattle.std.specs.List.{list_all};
 ghost use Rattle.route_tensor.specs.Grid.{ranks};
-ghost use Rattle.rank_group.specs.Ranks.{IsOrder};
 ghost use Rattle.rank_group.specs.Turns.{InSweeps};
 ghost use Rattle.query_node.specs.States.{BiState};
 ghost use Rattle.biconvey.specs.Turns.{IsAskingTurn};
-ghost use Rattle.biconvey.specs.RanksOverBanks.{AreBanks, PostedWithin, BiRanksOnBanks, is_over, queries_in, sides_of, bi_turns_of};
+ghost use Rattle.biconvey.specs.RanksOverBanks.{AreBanks, MaySweepBoth, PostedWithin, BiRanksOnBanks, is_over, queries_in, sides_of, bi_turns_of};
 
 use crate::sweep::{Banks, sweep};
 use bale_items::{NoMemory, Steps};
@@ -23,11 +22,7 @@ pub(crate) fn run_all<const CAP: usize, const HOPS: usize, A: Asker, L: Ledger>(
     order: &[u32],
     steps: &mut Steps<L>,
 ) -> Result<Banks<CAP>, NoMemory>
-    requires order { IsOrder (ranks banks.queries.dims) order.now }
-    requires banks { AreBanks CAP banks.queries.dims banks.queries.slots banks.queries banks.replies }
-    requires on_bank { (steady : Bool) × (starts : ℕ → A)
-        × BiRanksOnBanks A.talk banks.queries.dims CAP banks.queries.slots steady starts all.old.items
-        (sides_of banks.queries banks.replies) }
+    requires sweeps { MaySweepBoth A.talk CAP banks.queries banks.replies order.now all.old.items }
     ensures banks { IfOk result (λ b. AreBanks CAP banks.entry.queries.dims banks.entry.queries.slots b.queries
         b.replies) }
     // It made sweeps in this order, and no other turn.

@@ -29,7 +29,7 @@ use Rattle.rank_group.proofs.Halves.{total_more, halves_low}
 use Rattle.rank_group.proofs.Worlds.{stack_of}
 use Rattle.rank_group.proofs.Stacks.{over_in, stack_in, stack_is, all_stacks}
 use Rattle.rank_group.proofs.MadeHalves.{to_stack, of_stack}
-use Rattle.rank_group.specs.RanksOverBank.{RanksOnBank, moves, BlocksMover, DrivePlan, AfterSomeTurns, AllMadeHalves}
+use Rattle.rank_group.specs.RanksOverBank.{MayTurnRanks, RanksOnBank, moves, BlocksMover, DrivePlan, AfterSomeTurns, AllMadeHalves}
 use Rattle.rank_group.specs.Drives.{progs_of}
 
 -- a rank whose run isn't over
@@ -303,17 +303,17 @@ left R rs0 b0 steps0 steps = steps0 + turns_within R (manner_in_all rs0) b0.dims
 
 module _ {S : Type 0} (R : Rules S) (cap : ℕ) (rs0 : List (RankState S)) (b0 : Bank) (steps0 : ℕ) (rs : List (RankState S)) (b : Bank) (steps : ℕ) (v : Driving R cap rs0 b0 steps0 rs b steps) where
   -- all ranks between two sweeps
-  pub world_now : (manner : Manner) (starts : List S) (n : ℕ) (h : ℕ → ℕ → S) → DrivePlan R b0.dims b0.slots starts n → RanksOnBank R b0.dims cap b0.slots manner starts h rs0 (sent_of b0) (got_of b0)
-      → (manner : Manner) × (starts : List S) × (n : ℕ) × (h : ℕ → ℕ → S) × DrivePlan R b.dims b.slots starts n × RanksOnBank R b.dims cap b.slots manner starts h rs (sent_of b) (got_of b)
+  pub world_now : (manner : Manner) (starts : List S) (n : ℕ) (h : ℕ → ℕ → S) → DrivePlan R b0.dims b0.slots starts n → RanksOnBank R b0.dims cap b0.slots manner starts h rs0 (sent_of b0) (got_of b0) → MayTurnRanks R cap b rs
   world_now manner starts n h p w =
-      let s = v.reached manner starts n h p w in (
-        manner,
-        starts,
-        n,
-        s.h,
-        subst (λ d. DrivePlan R d b.slots starts n) (sym v.same_dims) (subst (λ k. DrivePlan R b0.dims k starts n) (sym v.same_slots) p),
-        subst (λ d. RanksOnBank R d cap b.slots manner starts s.h rs (sent_of b) (got_of b)) (sym v.same_dims) (subst (λ k. RanksOnBank R b0.dims cap k manner starts s.h rs (sent_of b) (got_of b)) (sym v.same_slots) s.on_bank),
-      )
+      let s = v.reached manner starts n h p w in
+      record {
+        manner = manner;
+        starts = starts;
+        rounds = n;
+        h = s.h;
+        plan = subst (λ d. DrivePlan R d b.slots starts n) (sym v.same_dims) (subst (λ k. DrivePlan R b0.dims k starts n) (sym v.same_slots) p);
+        on_bank = subst (λ d. RanksOnBank R d cap b.slots manner starts s.h rs (sent_of b) (got_of b)) (sym v.same_dims) (subst (λ k. RanksOnBank R b0.dims cap k manner starts s.h rs (sent_of b) (got_of b)) (sym v.same_slots) s.on_bank);
+      }
 
   module _ (laws : Laws R) (law : ClosesLaws) (rest : RestLaw) (order : List ℕ) (is : IsOrder (ranks b0.dims) order) (on : GoesOn rs) (rs' : List (RankState S)) (b' : Bank) (steps' : ℕ)
       (lawful : IsBank cap b') (ed : b'.dims ≡ b.dims) (es : b'.slots ≡ b.slots) (turned : steps' ≤ steps + length order)

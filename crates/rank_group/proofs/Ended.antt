@@ -25,14 +25,14 @@ use Rattle.rank_node.specs.Cycles.{IsInCycle}
 use Rattle.rank_group.specs.RoundProgress.{emission_count, quota_of, IsBetween}
 use Rattle.rank_group.proofs.Cycled.{not_over}
 use Rattle.rank_node.specs.Nodes.{IsNode}
-use Rattle.rank_group.specs.Ranks.{RankState, AllRanks}
+use Rattle.rank_group.specs.Ranks.{IsOrder, RankState, AllRanks}
 use Rattle.rank_group.specs.Transcript.{RecordsRun, turns_within}
 use Rattle.route_tensor.proofs.Coordinates.{ranks_some}
 use Rattle.rank_group.proofs.Growing.{lawful}
 use Rattle.rank_group.proofs.Movers.{shape_none}
 use Rattle.rank_group.proofs.Telling.{tells_run}
 use Rattle.rank_group.proofs.Worlds.{over_at_last}
-use Rattle.rank_group.specs.RanksOverBank.{RanksOnBank, DrivePlan, inbox, mover_in, progress_in, all_progress}
+use Rattle.rank_group.specs.RanksOverBank.{MayRunAll, RanksOnBank, DrivePlan, inbox, mover_in, progress_in, all_progress}
 use Rattle.rank_group.specs.Drives.{progs_of, AreFresh}
 
 -- all ranks as a drive begins, over its bank
@@ -126,10 +126,10 @@ module _ {S : Type 0} (R : Rules S) (laws : Laws R) (cap : ℕ) (dims : List ℕ
       (begun R laws cap dims slots manner starts shape most n rs fresh some (subst (IsBank cap) made is) start rounds (let e = rounds_once R starts n ends.rounds rounds ends.has_rounds in let l = ends.at_most in omega (arith, e, l)))
 
   -- what the sweeps need
-  pub run_needs : (manner : Manner) × (n : ℕ) × (h : ℕ → ℕ → S) × (plan : DrivePlan R b.dims b.slots (progs_of rs) n) × (n ≤ plan.most) × RanksOnBank R b.dims cap b.slots manner (progs_of rs) h rs (sent_of b) (got_of b)
-  run_needs =
+  pub run_needs : (order : List ℕ) → IsOrder (ranks b.dims) order → MayRunAll R cap b order rs
+  run_needs order each_once =
       let x : Begun R cap manner (progs_of rs) ends.rounds rs b = subst (λ ps. Begun R cap manner ps ends.rounds rs b) (sym fresh.programs) (begun_at ends.rounds ends.has_rounds) in
-      (manner, ends.rounds, x.h, x.plan, x.few, x.on_bank)
+      record { order = each_once; lawful = is; manner = manner; rounds = ends.rounds; h = x.h; plan = x.plan; few = x.few; on_bank = x.on_bank }
 
   -- and what they leave
   pub steps_at : (steps steps' : ℕ) → ((manner : Manner) (starts : List S) (n : ℕ) (h : ℕ → ℕ → S) → DrivePlan R b.dims b.slots starts n → RanksOnBank R b.dims cap b.slots manner starts h rs (sent_of b) (got_of b) → steps' ≤ steps + turns_within R manner b.dims starts n)

@@ -19,7 +19,7 @@ use Rattle.rank_group.specs.BankLogs.{AreBankLogs}
 use Rattle.rank_group.specs.Closes.{ClosesLaws}
 use Rattle.rank_group.specs.RoundProgress.{most_rounds, MoverMadeHalves, next_cycle}
 use Rattle.rank_group.specs.Ranks.{RankState, AfterRank, IsOrder, progress}
-use Rattle.rank_group.specs.RanksOverBank.{RanksOnBank, inbox, moves, BlocksMover, DrivePlan, AfterSomeTurns, AllMadeHalves, progress_in, all_progress}
+use Rattle.rank_group.specs.RanksOverBank.{MayTurnRanks, RanksOnBank, inbox, moves, BlocksMover, DrivePlan, AfterSomeTurns, AllMadeHalves, progress_in, all_progress}
 use Rattle.rank_group.proofs.Growing.{lawful, posted_once, moves_on, got_more}
 use Rattle.rank_group.proofs.Swept.{grows, on_bank_after, cycle_here, cycle_other, rests_here, rests_on}
 use Rattle.rank_group.proofs.MadeHalves.{all_made, made_here}
@@ -238,17 +238,17 @@ sweeping_more R laws closes cap order rs0 b0 steps0 i r rs rs' b b' steps steps'
 
 -- all ranks in the midst of a sweep
 pub on_bank_at : {S : Type 0} (R : Rules S) (cap : ℕ) (order : List ℕ) (rs0 : List (RankState S)) (b0 : Bank) (steps0 i : ℕ) (rs : List (RankState S)) (b : Bank) (steps : ℕ) → Sweeping R cap order rs0 b0 steps0 i rs b steps
-    → (manner : Manner) (starts : List S) (n : ℕ) (h : ℕ → ℕ → S) → DrivePlan R b0.dims b0.slots starts n → RanksOnBank R b0.dims cap b0.slots manner starts h rs0 (sent_of b0) (got_of b0)
-    → (manner : Manner) × (starts : List S) × (n : ℕ) × (h : ℕ → ℕ → S) × DrivePlan R b.dims b.slots starts n × RanksOnBank R b.dims cap b.slots manner starts h rs (sent_of b) (got_of b)
-on_bank_at R cap order rs0 b0 steps0 i rs b steps v manner starts n h p w =
-    let s = v.swept manner starts n h p w in (
-      manner,
-      starts,
-      n,
-      s.h,
-      subst (λ d. DrivePlan R d b.slots starts n) (sym v.same_dims) (subst (λ k. DrivePlan R b0.dims k starts n) (sym v.same_slots) p),
-      subst (λ d. RanksOnBank R d cap b.slots manner starts s.h rs (sent_of b) (got_of b)) (sym v.same_dims) (subst (λ k. RanksOnBank R b0.dims cap k manner starts s.h rs (sent_of b) (got_of b)) (sym v.same_slots) s.on_bank),
-    )
+    → MayTurnRanks R cap b0 rs0 → MayTurnRanks R cap b rs
+on_bank_at R cap order rs0 b0 steps0 i rs b steps v may =
+    let s = v.swept may.manner may.starts may.rounds may.h may.plan may.on_bank in
+    record {
+      manner = may.manner;
+      starts = may.starts;
+      rounds = may.rounds;
+      h = s.h;
+      plan = subst (λ d. DrivePlan R d b.slots may.starts may.rounds) (sym v.same_dims) (subst (λ k. DrivePlan R b0.dims k may.starts may.rounds) (sym v.same_slots) may.plan);
+      on_bank = subst (λ d. RanksOnBank R d cap b.slots may.manner may.starts s.h rs (sent_of b) (got_of b)) (sym v.same_dims) (subst (λ k. RanksOnBank R b0.dims cap k may.manner may.starts s.h rs (sent_of b) (got_of b)) (sym v.same_slots) s.on_bank);
+    }
 
 -- the rank at a place of an order
 pub order_at : (order : List ℕ) (i : ℕ) → i < length order → slice_get order i ≡ Some (get_or order i 0)

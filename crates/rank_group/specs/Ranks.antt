@@ -1,5 +1,5 @@
 -- The ranks of a run, each with its node, and what a turn does to one of them.
-use Rattle.std.specs.Prelude.{◌≡◌, ◌⊎◌, ℕ, ◌+◌, ◌<◌, ◌≤◌, ◌==◌, Bool, true, false, List, ◌++◌, length, slice_get, Some}
+use Rattle.std.specs.Prelude.{◌≡◌, ◌⊎◌, ℕ, ◌+◌, ◌^◌, ◌<◌, ◌≤◌, ◌==◌, Bool, true, false, List, ◌++◌, length, slice_get, Some}
 use Rattle.std.specs.Prelude.{if◌then◌else◌}
 use Rattle.std.specs.List.{All}
 use Rattle.item_buffer.specs.Contents.{Shipped}
@@ -7,6 +7,7 @@ use Rattle.route_tensor.specs.Grid.{ranks, IsGrid}
 use Rattle.route_tensor.specs.Link.{links}
 use Rattle.route_tensor.specs.Ends.{sender_at, reader_at}
 use Rattle.port_bank.specs.Logs.{Logs, starting_at, ending_at}
+use Rattle.port_bank.specs.Port.{PortView}
 use Rattle.port_bank.specs.Link.{LinkLaw}
 use Rattle.hop_core.specs.State.{State}
 use Rattle.convey.specs.Buffers.{is_complete}
@@ -53,6 +54,15 @@ pub record IsRank {S : Type 0} (R : Rules S) (dims : List ℕ) (cap : ℕ) (mann
 abbrev pub HasRank : {S : Type 0} → Rules S → List ℕ → ℕ → Manner → ℕ → (ℕ → S) → RankState S → Logs → Logs → Type 0
 HasRank R dims cap manner r h n sent got =
     IsRank R dims cap manner r h n (starting_at dims r sent) (ending_at dims r got)
+
+-- A rank that may be turned over its own port: its run goes on, and its epoch's number is below
+-- 2^63.
+pub record MayTurnRank {S : Type 0} (R : Rules S) (cap : ℕ) (n : RankState S) (port : PortView) : Type 0 where
+  pub going : n.over ≡ false
+  pub few : epoch_in n.node.mover < 2 ^ 63
+  pub manner : Manner
+  pub h : ℕ → S
+  pub rank : IsRank R port.dims cap manner port.rank h n port.sent port.got
 
 -- All ranks of a run, with the logs of all links of any bank; h r m is the state of rank r's
 -- program at the start of round m.

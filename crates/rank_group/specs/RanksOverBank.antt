@@ -8,7 +8,7 @@ use Rattle.route_tensor.specs.Link.{links}
 use Rattle.route_tensor.specs.Ends.{reader_at}
 use Rattle.port_bank.specs.Logs.{Logs, starting_at, ending_at}
 use Rattle.port_bank.specs.Machine.{Part}
-use Rattle.port_bank.specs.Plain.{Bank, IsBank}
+use Rattle.port_bank.specs.Plain.{Bank, IsBank, sent_of, got_of}
 use Rattle.port_bank.specs.Relay.{RelayLaw}
 use Rattle.hop_core.specs.Lent.Lent.{Given}
 use Rattle.hop_core.specs.declared.phase.Phase.TheVariants.{Dormant}
@@ -20,7 +20,8 @@ use Rattle.rank_node.specs.Movers.{MoverState, Manner, part_in, lying}
 use Rattle.rank_node.specs.Movers.MoverState.{Conveying, Stacking}
 use Rattle.rank_node.specs.Next.{with_next}
 use Rattle.rank_group.specs.BankLogs.{parcel_entries, moved}
-use Rattle.rank_group.specs.Ranks.{RankState, AllRanks, IsBlockedConveyor, progress, crowded_in, idle_in}
+use Rattle.rank_group.specs.Drives.{progs_of}
+use Rattle.rank_group.specs.Ranks.{RankState, IsOrder, AllRanks, IsBlockedConveyor, progress, crowded_in, idle_in}
 use Rattle.rank_group.specs.RoundProgress.{quota_of, most_rounds, MoverMadeHalves, KeepsCycle}
 
 -- The conveyor of a rank that doesn't exist.
@@ -117,6 +118,41 @@ pub record DrivePlan {S : Type 0} (R : Rules S) (dims : List ℕ) (slots : ℕ) 
   pub rounds : HasRounds R starts n
   pub few : n < 2 ^ 62
   pub some : 0 < slots
+
+-- Ranks that a drive may turn over a plain bank.
+pub record MayTurnRanks {S : Type 0} (R : Rules S) (cap : ℕ) (b : Bank) (rs : List (RankState S)) : Type 0 where
+  pub manner : Manner
+  pub starts : List S
+  pub rounds : ℕ
+  pub h : ℕ → ℕ → S
+  pub plan : DrivePlan R b.dims b.slots starts rounds
+  pub on_bank : RanksOnBank R b.dims cap b.slots manner starts h rs (sent_of b) (got_of b)
+
+-- Ranks that it may turn in a sweep, each once in the order given.
+pub record MaySweep {S : Type 0} (R : Rules S) (cap : ℕ) (b : Bank) (given : List ℕ)
+    (rs : List (RankState S)) : Type 0 where
+  pub order : IsOrder (ranks b.dims) given
+  pub lawful : IsBank cap b
+  pub turns : MayTurnRanks R cap b rs
+
+-- Ranks that it may turn in sweeps of this order, to the end of the run that their programs begin.
+pub record MayRunAll {S : Type 0} (R : Rules S) (cap : ℕ) (b : Bank) (given : List ℕ)
+    (rs : List (RankState S)) : Type 0 where
+  pub order : IsOrder (ranks b.dims) given
+  pub lawful : IsBank cap b
+  pub manner : Manner
+  pub rounds : ℕ
+  pub h : ℕ → ℕ → S
+  pub plan : DrivePlan R b.dims b.slots (progs_of rs) rounds
+  pub few : rounds ≤ plan.most
+  pub on_bank : RanksOnBank R b.dims cap b.slots manner (progs_of rs) h rs (sent_of b) (got_of b)
+
+-- What any turns of the ranks leave of the bank that they began with.
+-- fewest: no epoch was completed but by a turn. posted: a turn posts at most one parcel on a link.
+pub record AfterTurns {S : Type 0} (cap : ℕ) (b b' : Bank) (rs rs' : List (RankState S)) (turns turns' : ℕ) : Type 0 where
+  pub bank : KeepsBank cap b b'
+  pub fewest : all_progress b.dims rs' + turns ≤ all_progress b.dims rs + turns'
+  pub posted : (l : ℕ) → l < links b.dims → length (sent_of b' l) + turns ≤ length (sent_of b l) + turns'
 
 -- What the turns of the first i ranks of a sweep do to all ranks, which began in the cycles
 -- `cycle0`.

@@ -3,7 +3,7 @@ use Rattle.std.specs.Prelude.{◌≡◌, ◌≢◌, ℕ, ◌+◌, zero, suc, if�
 use Rattle.port_bank.specs.Logs.{Logs}
 use Rattle.round_program.specs.Rules.{Rules}
 use Rattle.rank_node.specs.Movers.{Manner}
-use Rattle.port_bank.specs.Plain.{sent_of, got_of, empty_bank}
+use Rattle.port_bank.specs.Plain.{Bank, sent_of, got_of, empty_bank}
 use Rattle.rank_group.specs.Ranks.{RankState, AfterRank}
 use Rattle.rank_group.specs.Drives.{progs_of, AreFresh}
 
@@ -18,10 +18,18 @@ pub record Scene (S : Type 0) : Type 0 where
 abbrev pub turn_count : {S : Type 0} → RankState S → ℕ
 turn_count n = if n.over then 0 else 1
 
+-- All ranks over a plain bank, after this many turns.
+abbrev pub scene_of : {S : Type 0} → Bank → List (RankState S) → ℕ → Scene S
+scene_of b rs turns = record { ranks = rs; sent = sent_of b; got = got_of b; turns = turns }
+
+-- Of two lists of equal length only the elements at place r may differ.
+pub record OnlyAt {X : Type 0} (r : ℕ) (old new : List X) : Type 0 where
+  pub all : length new ≡ length old
+  pub others : (k : ℕ) → k ≢ r → slice_get new k ≡ slice_get old k
+
 -- From moment a to moment b rank r was turned, and no other, and its turns were counted.
 pub record IsTurnOf {S : Type 0} (R : Rules S) (dims : List ℕ) (cap slots r : ℕ) (a b : Scene S) : Type 0 where
-  pub all : length b.ranks ≡ length a.ranks
-  pub others : (k : ℕ) → k ≢ r → slice_get b.ranks k ≡ slice_get a.ranks k
+  pub only : OnlyAt r a.ranks b.ranks
   pub turned : (n n' : RankState S) → slice_get a.ranks r ≡ Some n → slice_get b.ranks r ≡ Some n'
       → AfterRank R dims cap slots r n n' a.sent a.got b.sent b.got
   pub counted : (n : RankState S) → slice_get a.ranks r ≡ Some n → b.turns ≡ a.turns + turn_count n
@@ -58,9 +66,4 @@ pub record SweptBy {S : Type 0} (R : Rules S) (dims : List ℕ) (cap slots : ℕ
   pub ended : progs_of last.ranks ≡ ends
   pub counted : last.turns ≡ after
   pub swept : SweepsOf R dims cap slots order sweeps
-      (record {
-        ranks = first;
-        sent = sent_of (empty_bank dims slots);
-        got = got_of (empty_bank dims slots);
-        turns = before;
-      }) last
+      (scene_of (empty_bank dims slots) first before) last

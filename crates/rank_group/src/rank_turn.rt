@@ -1,8 +1,8 @@
 //! Turns a rank over a port that takes no memory.
-ghost use Rattle.std.specs.Prelude.{◌≡◌, ◌≢◌, ◌⊎◌, ℕ, ◌+◌, ◌^◌, ◌<◌, ◌≤◌, true, false, Ok, OnOk};
+ghost use Rattle.std.specs.Prelude.{◌≡◌, ◌≢◌, ◌⊎◌, ℕ, ◌+◌, ◌≤◌, true, false, Ok, OnOk};
 ghost use Rattle.port_bank.specs.Frames.{SamePort};
-ghost use Rattle.rank_node.specs.Movers.{Manner, epoch_in};
-ghost use Rattle.rank_group.specs.Ranks.{IsRank, progress};
+ghost use Rattle.rank_node.specs.Movers.{Manner};
+ghost use Rattle.rank_group.specs.Ranks.{IsRank, MayTurnRank, progress};
 
 use crate::sweep::Rank;
 use bale_items::{NoMemory, Steps};
@@ -22,10 +22,7 @@ pub(crate) fn turn_over<const CAP: usize, const HOPS: usize, Q: Program, P: Port
     steps: &mut Steps<L>,
 ) -> Result<bool, NoMemory>
     requires fixed { P.Memory.GROWS ≡ false }
-    requires going { rank.old.over ≡ false }
-    requires few { epoch_in rank.old.node.mover < 2 ^ 63 }
-    requires rank { (manner : Manner) × (h : ℕ → Q) × IsRank Q.rules (P.view port.old).dims CAP manner
-        (P.view port.old).rank h rank.old (P.view port.old).sent (P.view port.old).got }
+    requires turns { MayTurnRank Q.rules CAP rank.old (P.view port.old) }
     ensures same_port { SamePort (P.view port.old) (P.view port.new) }
     ensures steps { steps.new ≡ steps.old + 1 }
     ensures epoch { OnOk result (progress rank.new ≤ progress rank.old + 1) }

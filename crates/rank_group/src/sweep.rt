@@ -8,17 +8,16 @@
 //! their second. In a sweep each rank gets half a round further than the last of them was, since
 //! ranks that have finished as many rounds don't keep each other; and an epoch has only so many
 //! rounds.
-ghost use Rattle.std.specs.Prelude.{◌≡◌, ◌≢◌, ℕ, ◌+◌, ◌^◌, ◌<◌, ◌≤◌, List, length, slice_get, Some, IfOk, false};
+ghost use Rattle.std.specs.Prelude.{◌≡◌, ℕ, ◌+◌, ◌^◌, ◌<◌, ◌≤◌, List, length, slice_get, Some, IfOk, false};
 ghost use Rattle.route_tensor.specs.Grid.{ranks};
-ghost use Rattle.route_tensor.specs.Link.{links};
-ghost use Rattle.port_bank.specs.Plain.{IsBank, sent_of, got_of};
+ghost use Rattle.port_bank.specs.Plain.{sent_of, got_of};
 ghost use Rattle.port_bank.specs.Logs.{starting_at, ending_at};
 ghost use Rattle.rank_group.specs.Closes.{ClosesLaws};
 ghost use Rattle.rank_node.specs.Movers.{Manner, mover_dims, mover_rank, epoch_in};
 ghost use Rattle.rank_node.specs.Nodes.{IsNode};
-ghost use Rattle.rank_group.specs.RanksOverBank.{DrivePlan, RanksOnBank, AfterSomeTurns, KeepsBank, all_progress};
-ghost use Rattle.rank_group.specs.Ranks.{RankState, HasRank, AfterTurn, AfterRank, IsOrder};
-ghost use Rattle.rank_group.specs.Turns.{TurnsOf, turn_count};
+ghost use Rattle.rank_group.specs.RanksOverBank.{DrivePlan, RanksOnBank, MayTurnRanks, MaySweep, AfterTurns, AfterSomeTurns, KeepsBank};
+ghost use Rattle.rank_group.specs.Ranks.{RankState, HasRank, AfterTurn, AfterRank};
+ghost use Rattle.rank_group.specs.Turns.{OnlyAt, IsTurnOf, TurnsOf, scene_of, turn_count};
 
 use bale_items::{NoMemory, Steps};
 use port_bank::PlainBank;
@@ -106,20 +105,13 @@ fn turn_one<const CAP: usize, const HOPS: usize, Q: Program, L: Ledger>(
 ) -> Result<PlainBank<CAP>, NoMemory>
     requires number { number < ranks bank.dims }
     requires law { ClosesLaws }
-    requires on_bank { (manner : Manner) × (starts : List Q) × (n : ℕ) × (h : ℕ → ℕ → Q)
-        × DrivePlan Q.rules bank.dims bank.slots starts n
-        × RanksOnBank Q.rules bank.dims CAP bank.slots manner starts h all.old.items (sent_of bank) (got_of bank) }
-    ensures size { length all.new.items ≡ length all.old.items }
-    ensures others { (k : ℕ) → k ≢ number → slice_get all.new.items k ≡ slice_get all.old.items k }
+    requires turns { MayTurnRanks Q.rules CAP bank all.old.items }
+    ensures only { OnlyAt number all.old.items all.new.items }
     ensures bank { IfOk result (KeepsBank CAP bank.entry) }
     ensures most_steps { steps.new ≤ steps.old + 1 }
     ensures fewest_steps { steps.old ≤ steps.new }
-    ensures steps { (n : RankState Q) → slice_get all.old.items number ≡ Some n
-        → IfOk result (λ b. steps.new ≡ steps.old + turn_count n) }
-    ensures turned { (n n' : RankState Q) → slice_get all.old.items number ≡ Some n
-        → slice_get all.new.items number ≡ Some n'
-        → IfOk result (λ b. AfterRank Q.rules bank.entry.dims CAP bank.entry.slots number n n' (sent_of bank.entry)
-        (got_of bank.entry) (sent_of b) (got_of b)) }
+    ensures turned { IfOk result (λ b. IsTurnOf Q.rules bank.entry.dims CAP bank.entry.slots number
+        (scene_of bank.entry all.old.items steps.old) (scene_of b all.new.items steps.new)) }
 {
     turn_rank(bank, &mut all[number as usize], number, steps)
 }
@@ -132,24 +124,13 @@ pub(crate) fn sweep<const CAP: usize, const HOPS: usize, Q: Program, L: Ledger>(
     steps: &mut Steps<L>,
 ) -> Result<PlainBank<CAP>, NoMemory>
     requires law { ClosesLaws }
-    requires order { IsOrder (ranks bank.dims) order.now }
-    requires lawful { IsBank CAP bank }
-    requires on_bank { (manner : Manner) × (starts : List Q) × (n : ℕ) × (h : ℕ → ℕ → Q)
-        × DrivePlan Q.rules bank.dims bank.slots starts n
-        × RanksOnBank Q.rules bank.dims CAP bank.slots manner starts h all.old.items (sent_of bank) (got_of bank) }
-    ensures bank { IfOk result (KeepsBank CAP bank.entry) }
+    requires sweeps { MaySweep Q.rules CAP bank order.now all.old.items }
+    ensures turns { IfOk result (λ b. AfterTurns CAP bank.entry b all.old.items all.new.items steps.old steps.new) }
     ensures most_steps { steps.new ≤ steps.old + length order.now }
     ensures some_step { (r : ℕ) (x : RankState Q) → slice_get all.old.items r ≡ Some x → x.over ≡ false
         → IfOk result (λ b. steps.old < steps.new) }
-    // No epoch was completed but by a turn.
-    ensures fewest { IfOk result (λ b. all_progress bank.entry.dims all.new.items + steps.old
-        ≤ all_progress bank.entry.dims all.old.items + steps.new) }
-    // A turn posts at most one parcel on a link.
-    ensures posted { IfOk result (λ b. (l : ℕ) → l < links bank.entry.dims
-        → length (sent_of b l) + steps.old ≤ length (sent_of bank.entry l) + steps.new) }
     ensures order { IfOk result (λ b. TurnsOf Q.rules bank.entry.dims CAP bank.entry.slots order.now
-        (record { ranks = all.old.items; sent = sent_of bank.entry; got = got_of bank.entry; turns = steps.old })
-        (record { ranks = all.new.items; sent = sent_of b; got = got_of b; turns = steps.new })) }
+        (scene_of bank.entry all.old.items steps.old) (scene_of b all.new.items steps.new)) }
     ensures swept { (manner : Manner) (starts : List Q) (n : ℕ) (h : ℕ → ℕ → Q)
         → DrivePlan Q.rules bank.entry.dims bank.entry.slots starts n
         → (w : RanksOnBank Q.rules bank.entry.dims CAP bank.entry.slots manner starts h all.old.items

@@ -33,10 +33,10 @@ gather_all-requires g c =
               c.seat_all.ensures.queries,
               (
                 c.seat_all.ensures.replies,
-                (
-                  sat_at T g.row.CAP b p same c.args.steady c.args.askers all c.in_ok-all.all.items fresh c.in_ok-seated.seated.items c.in_ok-ended.ended.items c.in_ok-seated.ensures.nodes seated (g.G.Gate.notified c.args.gate.now) c.in_ok-ended.ensures.ran,
-                  numbered_at T g.row.CAP b p same c.args.steady c.args.askers all c.in_ok-all.all.items fresh c.in_ok-seated.seated.items c.in_ok-ended.ended.items c.in_ok-seated.ensures.nodes seated (g.G.Gate.notified c.args.gate.now) c.in_ok-ended.ensures.ran,
-                ),
+                record {
+                  same = sat_at T g.row.CAP b p same c.args.steady c.args.askers all c.in_ok-all.all.items fresh c.in_ok-seated.seated.items c.in_ok-ended.ended.items c.in_ok-seated.ensures.nodes seated (g.G.Gate.notified c.args.gate.now) c.in_ok-ended.ensures.ran;
+                  numbers = numbered_at T g.row.CAP b p same c.args.steady c.args.askers all c.in_ok-all.all.items fresh c.in_ok-seated.seated.items c.in_ok-ended.ended.items c.in_ok-seated.ensures.nodes seated (g.G.Gate.notified c.args.gate.now) c.in_ok-ended.ensures.ran;
+                },
               ),
             ),
           ),

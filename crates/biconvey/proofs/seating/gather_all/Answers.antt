@@ -14,7 +14,7 @@ gather-requires g c =
     let rest = c.next.new.self in
     let v = c.loop-seated.invariant.leaving in
     let is = c.in-Some.ensures.steps ∙ ap (λ z. z ∷ rest) (sym here) in
-    let same = next_banks c.args.queries.now c.args.replies.now c.loop-seated.of_queries c.loop-seated.of_replies c.args.ended.items c.loop-seated.invariant.taken rest c.loop-seated.seated-iterator c.loop-seated.nodes.items v y is c.requires.same in
+    let same = next_banks c.args.queries.now c.args.replies.now c.loop-seated.of_queries c.loop-seated.of_replies c.args.ended.items c.loop-seated.invariant.taken rest c.loop-seated.seated-iterator c.loop-seated.nodes.items v y is c.requires.ended.same in
     (lit< tt, (lit< tt, (lit< tt, (v.queries.bank, (ap (λ (b : BankIdentity). b.id) same.0, ap (λ (b : BankIdentity). b.shape) same.0)))))
 
 pub gather-requires-in-loop-seated : goal.gather-requires-in-loop-seated
@@ -26,7 +26,7 @@ gather-requires-in-loop-seated g c =
     let rest = c.next.new.self in
     let v = c.loop-seated.invariant.leaving in
     let is = c.in-Some.ensures.steps ∙ ap (λ z. z ∷ rest) (sym here) in
-    let same = next_banks c.args.queries.now c.args.replies.now c.loop-seated.of_queries c.loop-seated.of_replies c.args.ended.items c.loop-seated.invariant.taken rest c.loop-seated.seated-iterator c.loop-seated.nodes.items v y is c.requires.same in
+    let same = next_banks c.args.queries.now c.args.replies.now c.loop-seated.of_queries c.loop-seated.of_replies c.args.ended.items c.loop-seated.invariant.taken rest c.loop-seated.seated-iterator c.loop-seated.nodes.items v y is c.requires.ended.same in
     (lit< tt, (lit< tt, (lit< tt, (v.replies.bank, (ap (λ (b : BankIdentity). b.id) same.1, ap (λ (b : BankIdentity). b.shape) same.1)))))
 
 pub push_reserved-requires : goal.push_reserved-requires
@@ -51,7 +51,7 @@ loop-seated-preserved g c =
     let t = c.gather.ensures in
     let u = c.gather-in-loop-seated.ensures in
     let is = c.in-Some.ensures.steps ∙ ap (λ z. z ∷ rest) (sym here) in
-    let numbers = next_numbers b p c.loop-seated.of_queries c.loop-seated.of_replies c.args.ended.items c.loop-seated.invariant.taken rest c.loop-seated.seated-iterator c.loop-seated.nodes.items v y is c.requires.numbers in
+    let numbers = next_numbers b p c.loop-seated.of_queries c.loop-seated.of_replies c.args.ended.items c.loop-seated.invariant.taken rest c.loop-seated.seated-iterator c.loop-seated.nodes.items v y is c.requires.ended.numbers in
     record {
       taken = c.loop-seated.invariant.taken ++ y ∷ [];
       leaving = leaving_more b p c.loop-seated.of_queries c.loop-seated.of_replies c.args.ended.items c.loop-seated.invariant.taken rest c.loop-seated.seated-iterator c.loop-seated.nodes.items v y is

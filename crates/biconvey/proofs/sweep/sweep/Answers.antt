@@ -15,7 +15,7 @@ pub loop-i-init : goal.loop-i-init
 loop-i-init g c =
     record {
       sweeping = record {
-        banks = c.requires.banks;
+        banks = c.requires.sweeps.banks;
         most_steps = omega arith;
         fewest_steps = omega arith;
         posted = λ l below. (omega arith, omega arith);
@@ -27,11 +27,11 @@ loop-i-init g c =
 pub turn_one-requires : goal.turn_one-requires
 turn_one-requires g c =
     let v = c.loop-i.invariant.sweeping in
-    let q = c.requires.on_bank in
+    let q = c.requires.sweeps in
     let d = c.args.banks.queries.dims in
     let k = c.args.banks.queries.slots in
     let low : c.loop-i.i < length c.args.order.now = c.loop-i-test.true in
-    let number = all_get (λ r. r < ranks d) c.args.order.now c.loop-i.i (get_or c.args.order.now c.loop-i.i 0) c.requires.order.below (order_at c.args.order.now c.loop-i.i low) in (
+    let number = all_get (λ r. r < ranks d) c.args.order.now c.loop-i.i (get_or c.args.order.now c.loop-i.i 0) c.requires.sweeps.order.below (order_at c.args.order.now c.loop-i.i low) in (
       search rules,
       (
         search rules,
@@ -40,9 +40,9 @@ turn_one-requires g c =
           (
             same_banks g.row.CAP c.loop-i.banks.queries.dims d c.loop-i.banks.queries.slots k c.loop-i.banks.queries c.loop-i.banks.replies (sym v.banks.queries_dims) (sym v.banks.queries_slots) v.banks,
             (
-              q.0,
-              q.1,
-              same_on_bank g.A.Asker.talk g.row.CAP c.loop-i.banks.queries.dims d c.loop-i.banks.queries.slots k q.0 q.1 c.loop-i.all.items (sides_of c.loop-i.banks.queries c.loop-i.banks.replies) (sym v.banks.queries_dims) (sym v.banks.queries_slots) (v.swept q.0 q.1 q.2).on_bank,
+              q.steady,
+              q.starts,
+              same_on_bank g.A.Asker.talk g.row.CAP c.loop-i.banks.queries.dims d c.loop-i.banks.queries.slots k q.steady q.starts c.loop-i.all.items (sides_of c.loop-i.banks.queries c.loop-i.banks.replies) (sym v.banks.queries_dims) (sym v.banks.queries_slots) (v.swept q.steady q.starts q.on_bank).on_bank,
             ),
           ),
         ),
@@ -58,21 +58,21 @@ loop-i-preserved g c =
     let low : c.loop-i.i < length c.args.order.now = c.loop-i-test.true in
     let here = order_at c.args.order.now c.loop-i.i low in
     let number = get_or c.args.order.now c.loop-i.i 0 in
-    let below = all_get (λ r. r < ranks d) c.args.order.now c.loop-i.i number c.requires.order.below here in
+    let below = all_get (λ r. r < ranks d) c.args.order.now c.loop-i.i number c.requires.sweeps.order.below here in
     let b = c.in_ok-banks.banks in
-    let w = (v.swept c.requires.on_bank.0 c.requires.on_bank.1 c.requires.on_bank.2).on_bank in
+    let w = (v.swept c.requires.sweeps.steady c.requires.sweeps.starts c.requires.sweeps.on_bank).on_bank in
     let all = sym (length-map c.loop-i.all.items (λ (n : BiState g.row.A.Denot). n.queries)) ∙ w.queries.all in
     let same : (n n' : BiState g.row.A.Denot) → slice_get c.loop-i.all.items number ≡ Some n → slice_get c.turn_one.new.all.items number ≡ Some n'
     → AfterBiRank T d g.row.CAP k number n n' (sides_of c.loop-i.banks.queries c.loop-i.banks.replies) (sides_of b.queries b.replies) = λ n n' was now. same_turn T g.row.CAP d c.loop-i.banks.queries.dims k c.loop-i.banks.queries.slots number n n' (sides_of c.loop-i.banks.queries c.loop-i.banks.replies) (sides_of b.queries b.replies) v.banks.queries_dims v.banks.queries_slots (c.in_ok-banks.ensures.turned n n' was now) in
     let sweeping = sweeping_more T g.row.CAP d k c.args.order.now c.args.all.now.items (sides_of c.args.banks.queries c.args.banks.replies) c.args.steps.now c.loop-i.i number c.loop-i.all.items c.turn_one.new.all.items
     c.loop-i.banks.queries c.loop-i.banks.replies b.queries b.replies c.loop-i.steps c.turn_one.new.steps v all here below
     (same_banks g.row.CAP d c.loop-i.banks.queries.dims k c.loop-i.banks.queries.slots b.queries b.replies v.banks.queries_dims v.banks.queries_slots c.in_ok-banks.ensures.banks)
-    c.turn_one.ensures.steps c.turn_one.ensures.size c.turn_one.ensures.others
+    c.turn_one.ensures.steps c.turn_one.ensures.only.all c.turn_one.ensures.only.others
     same in
     let first : AskingScene g.row.A.Denot = record { ranks = c.args.all.now.items; sides = sides_of c.args.banks.queries c.args.banks.replies; turns = c.args.steps.now } in
     let before : AskingScene g.row.A.Denot = record { ranks = c.loop-i.all.items; sides = sides_of c.loop-i.banks.queries c.loop-i.banks.replies; turns = c.loop-i.steps } in
     let after : AskingScene g.row.A.Denot = record { ranks = c.turn_one.new.all.items; sides = sides_of b.queries b.replies; turns = c.turn_one.new.steps } in
-    let one : IsAskingTurn T d g.row.CAP k number before after = record { all = c.turn_one.ensures.size; others = c.turn_one.ensures.others; turned = same; counted = c.turn_one.ensures.steps } in
+    let one : IsAskingTurn T d g.row.CAP k number before after = record { only = c.turn_one.ensures.only; turned = same; counted = c.turn_one.ensures.steps } in
     record {
       sweeping = sweeping;
       turns = subst (λ rs. InTurn (IsAskingTurn T d g.row.CAP k) rs first after) (sym (take_more c.args.order.now c.loop-i.i 0 low))

@@ -1,6 +1,6 @@
 use Rattle.std.proofs.Common.{rules, ◌≡◌, ◌<◌, length, slice_get, slice_set, Some, refl, sym, subst, arith, IfOk, ◌∙◌}
 use Rattle.std.proofs.lemmas.Option.{slice_get_read}
-use Rattle.std.proofs.lemmas.List.{length-map}
+use Rattle.std.proofs.lemmas.List.{length-map, length-set}
 use Rattle.list_laws.proofs.Lists.{get_once, get_here, get_other}
 use Rattle.query_node.specs.States.{BiState}
 use Rattle.biconvey.specs.RanksOverBanks.{AfterBiRank, sides_of}
@@ -17,8 +17,8 @@ turn_node-requires g c =
     let at : slice_get ns r ≡ Some n = slice_get_read ns (length ns) r n refl low c.index_mut.ensures.value in
     (search rules, (search rules, (c.requires.number, (c.requires.banks, (c.requires.on_bank.1 r, w.each r n at)))))
 
-pub returns-clause-others : goal.returns-clause-others
-returns-clause-others g c = λ k apart. get_other c.args.all.now.items c.args.number k c.turn_node.new.node apart
+pub returns-clause-only : goal.returns-clause-only
+returns-clause-only g c = record { all = length-set c.args.all.now.items c.args.number c.turn_node.new.node; others = λ k apart. get_other c.args.all.now.items c.args.number k c.turn_node.new.node apart }
 
 pub returns-clause-turned : goal.returns-clause-turned
 returns-clause-turned g c = λ n n' was now.

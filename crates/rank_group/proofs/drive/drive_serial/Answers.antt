@@ -17,14 +17,8 @@ run_all-requires g c = (
   search rules,
   (
     search rules,
-    (
-      subst (λ (b : Bank). IsOrder (ranks b.dims) c.args.order.now) (sym c.in_ok-bank.ensures.made) c.requires.order,
-      (
-        c.in_ok-bank.ensures.lawful,
-        run_needs g.Q.Program.rules g.met.Q.Program.laws g.row.CAP c.args.grid.now c.args.slots (manner_of c.args.via c.args.steady) c.args.progs c.requires.run.begins.0 c.requires.run.begins.1 c.requires.run.begins.2 c.requires.run.begins.3 c.in_ok-all.all.items c.in_ok-all.ensures.fresh c.requires.fits.cap_is.some
-            c.in_ok-bank.bank c.in_ok-bank.ensures.made c.in_ok-bank.ensures.lawful,
-      ),
-    ),
+    run_needs g.Q.Program.rules g.met.Q.Program.laws g.row.CAP c.args.grid.now c.args.slots (manner_of c.args.via c.args.steady) c.args.progs c.requires.run.begins.0 c.requires.run.begins.1 c.requires.run.begins.2 c.requires.run.begins.3 c.in_ok-all.all.items c.in_ok-all.ensures.fresh c.requires.fits.cap_is.some
+        c.in_ok-bank.bank c.in_ok-bank.ensures.made c.in_ok-bank.ensures.lawful c.args.order.now (subst (λ (b : Bank). IsOrder (ranks b.dims) c.args.order.now) (sym c.in_ok-bank.ensures.made) c.requires.order),
   ),
 )
 
@@ -52,8 +46,8 @@ pub returns-clause-finished : goal.returns-clause-finished
 returns-clause-finished g c =
     let w = world_after g.Q.Program.rules g.met.Q.Program.laws g.row.CAP c.args.grid.now c.args.slots (manner_of c.args.via c.args.steady) c.args.progs c.requires.run.begins.0 c.requires.run.begins.1 c.requires.run.begins.2 c.requires.run.begins.3 c.in_ok-all.all.items c.in_ok-all.ensures.fresh c.requires.fits.cap_is.some
     c.in_ok-bank.bank c.in_ok-bank.ensures.made c.in_ok-bank.ensures.lawful c.run_all.new.all.items c.in_ok-bank-2.bank c.in_ok-bank-2.ensures.on_bank in
-    let ed = c.in_ok-bank-2.ensures.bank.same_dims ∙ ap (λ (b : Bank). b.dims) c.in_ok-bank.ensures.made in
-    let es = c.in_ok-bank-2.ensures.bank.same_slots ∙ ap (λ (b : Bank). b.slots) c.in_ok-bank.ensures.made in
+    let ed = c.in_ok-bank-2.ensures.turns.bank.same_dims ∙ ap (λ (b : Bank). b.dims) c.in_ok-bank.ensures.made in
+    let es = c.in_ok-bank-2.ensures.turns.bank.same_slots ∙ ap (λ (b : Bank). b.slots) c.in_ok-bank.ensures.made in
     record {
       ended = have_ended g.Q.Program.rules g.met.Q.Program.laws c.closes_laws.ensures g.row.CAP c.args.grid.now c.args.slots (manner_of c.args.via c.args.steady) c.args.progs w.0 c.run_all.new.all.items (sent_of c.in_ok-bank-2.bank) (got_of c.in_ok-bank-2.bank) w.1.ranked (c.in_ok-bank-2.ensures.over) c.requires.run.begins.0 c.requires.run.begins.1 c.requires.run.begins.3.rounds c.requires.run.begins.2 c.requires.run.begins.3.has_rounds c.in_ok-progs.progs c.in_ok-progs.ensures.progs;
       rounds = (
@@ -72,9 +66,9 @@ returns-clause-swept g c =
     let made = c.in_ok-bank.ensures.made in
     let w = world_after g.Q.Program.rules g.met.Q.Program.laws g.row.CAP c.args.grid.now c.args.slots (manner_of c.args.via c.args.steady) c.args.progs c.requires.run.begins.0 c.requires.run.begins.1 c.requires.run.begins.2 c.requires.run.begins.3 first c.in_ok-all.ensures.fresh c.requires.fits.cap_is.some
     c.in_ok-bank.bank made c.in_ok-bank.ensures.lawful c.run_all.new.all.items c.in_ok-bank-2.bank c.in_ok-bank-2.ensures.on_bank in
-    let ed = c.in_ok-bank-2.ensures.bank.same_dims ∙ ap (λ (b : Bank). b.dims) made in
-    let es = c.in_ok-bank-2.ensures.bank.same_slots ∙ ap (λ (b : Bank). b.slots) made in
-    let more = subst (λ (b : Bank). all_progress b.dims c.run_all.new.all.items + c.args.steps.now ≤ all_progress b.dims first + c.run_all.new.steps) made c.in_ok-bank-2.ensures.fewest in
+    let ed = c.in_ok-bank-2.ensures.turns.bank.same_dims ∙ ap (λ (b : Bank). b.dims) made in
+    let es = c.in_ok-bank-2.ensures.turns.bank.same_slots ∙ ap (λ (b : Bank). b.slots) made in
+    let more = subst (λ (b : Bank). all_progress b.dims c.run_all.new.all.items + c.args.steps.now ≤ all_progress b.dims first + c.run_all.new.steps) made c.in_ok-bank-2.ensures.turns.fewest in
     record {
       order = record {
         sweeps = swept.0;
@@ -97,7 +91,7 @@ returns-clause-swept g c =
       posted = λ round is l below.
           let rounds = c.in_ok-add.ensures.added ∙ ap (λ xs. xs ++ Plain c.close.result ∷ []) c.new-rounds.ensures in
           let same : Plain c.close.result ≡ round = only_one (Plain c.close.result) round (sym rounds ∙ is) in
-          let notified = c.in_ok-bank-2.ensures.posted l (subst (λ d. l < links d) (sym (ap (λ (b : Bank). b.dims) made)) below) in
+          let notified = c.in_ok-bank-2.ensures.turns.posted l (subst (λ d. l < links d) (sym (ap (λ (b : Bank). b.dims) made)) below) in
           let none : length (sent_of c.in_ok-bank.bank l) ≡ 0 = ap (λ (b : Bank). length (sent_of b l)) made ∙ none_first c.args.grid.now c.args.slots l in
           let all : length (logs_of (round_inside round).sent l) ≡ length (sent_of c.in_ok-bank-2.bank l) = ap (λ x. length (logs_of (round_inside x).sent l)) (sym same) ∙ ap length (all_sent g.row.CAP c.in_ok-bank-2.bank c.close.result l c.close.ensures.round) in
           omega (arith, notified, none, all);

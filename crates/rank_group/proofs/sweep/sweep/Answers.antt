@@ -15,7 +15,7 @@ pub loop-i-init : goal.loop-i-init
 loop-i-init g c =
     record {
       sweeping = record {
-        is_bank = c.requires.lawful;
+        is_bank = c.requires.sweeps.lawful;
         same_dims = refl;
         same_slots = refl;
         most_steps = omega arith;
@@ -35,9 +35,8 @@ loop-i-init g c =
 pub turn_one-requires : goal.turn_one-requires
 turn_one-requires g c =
     let v = c.loop-i.invariant.sweeping in
-    let q = c.requires.on_bank in
     let low : c.loop-i.i < length c.args.order.now = c.loop-i-test.true in
-    let number = all_get (λ r. r < ranks c.args.bank.dims) c.args.order.now c.loop-i.i (get_or c.args.order.now c.loop-i.i 0) c.requires.order.below (order_at c.args.order.now c.loop-i.i low) in (
+    let number = all_get (λ r. r < ranks c.args.bank.dims) c.args.order.now c.loop-i.i (get_or c.args.order.now c.loop-i.i 0) c.requires.sweeps.order.below (order_at c.args.order.now c.loop-i.i low) in (
       search rules,
       (
         search rules,
@@ -45,7 +44,7 @@ turn_one-requires g c =
           subst (λ d. get_or c.args.order.now c.loop-i.i 0 < ranks d) (sym v.same_dims) number,
           (
             c.requires.law,
-            on_bank_at g.Q.Program.rules g.row.CAP c.args.order.now c.args.all.now.items c.args.bank c.args.steps.now c.loop-i.i c.loop-i.all.items c.loop-i.bank c.loop-i.steps v q.0 q.1 q.2 q.3 q.4 q.5,
+            on_bank_at g.Q.Program.rules g.row.CAP c.args.order.now c.args.all.now.items c.args.bank c.args.steps.now c.loop-i.i c.loop-i.all.items c.loop-i.bank c.loop-i.steps v c.requires.sweeps.turns,
           ),
         ),
       ),
@@ -56,17 +55,17 @@ loop-i-preserved g c =
     let v = c.loop-i.invariant.sweeping in
     let low : c.loop-i.i < length c.args.order.now = c.loop-i-test.true in
     let at = order_at c.args.order.now c.loop-i.i low in
-    let number = all_get (λ r. r < ranks c.args.bank.dims) c.args.order.now c.loop-i.i (get_or c.args.order.now c.loop-i.i 0) c.requires.order.below at in
-    let w = (on_bank_at g.Q.Program.rules g.row.CAP c.args.order.now c.args.all.now.items c.args.bank c.args.steps.now c.loop-i.i c.loop-i.all.items c.loop-i.bank c.loop-i.steps v c.requires.on_bank.0 c.requires.on_bank.1 c.requires.on_bank.2 c.requires.on_bank.3 c.requires.on_bank.4 c.requires.on_bank.5).5 in
+    let number = all_get (λ r. r < ranks c.args.bank.dims) c.args.order.now c.loop-i.i (get_or c.args.order.now c.loop-i.i 0) c.requires.sweeps.order.below at in
+    let w = (on_bank_at g.Q.Program.rules g.row.CAP c.args.order.now c.args.all.now.items c.args.bank c.args.steps.now c.loop-i.i c.loop-i.all.items c.loop-i.bank c.loop-i.steps v c.requires.sweeps.turns).on_bank in
     let sweeping = sweeping_more g.Q.Program.rules g.met.Q.Program.laws c.requires.law g.row.CAP c.args.order.now c.args.all.now.items c.args.bank c.args.steps.now c.loop-i.i (get_or c.args.order.now c.loop-i.i 0) c.loop-i.all.items c.turn_one.new.all.items c.loop-i.bank c.in_ok-bank.bank c.loop-i.steps c.turn_one.new.steps
     v at (subst (λ d. get_or c.args.order.now c.loop-i.i 0 < ranks d) (sym v.same_dims) number) c.in_ok-bank.ensures.bank.lawful c.in_ok-bank.ensures.bank.same_dims c.in_ok-bank.ensures.bank.same_slots c.turn_one.ensures.most_steps
-    c.turn_one.ensures.fewest_steps (λ n was on. c.in_ok-bank.ensures.steps n was ∙ ap (λ b. c.loop-i.steps + cond b 0 1) on) w.ranked.all c.turn_one.ensures.size c.turn_one.ensures.others c.in_ok-bank.ensures.turned in
+    c.turn_one.ensures.fewest_steps (λ n was on. c.in_ok-bank.ensures.turned.counted n was ∙ ap (λ b. c.loop-i.steps + cond b 0 1) on) w.ranked.all c.turn_one.ensures.only.all c.turn_one.ensures.only.others c.in_ok-bank.ensures.turned.turned in
     let R = g.Q.Program.rules in
     let first : Scene g.row.Q.Denot = record { ranks = c.args.all.now.items; sent = sent_of c.args.bank; got = got_of c.args.bank; turns = c.args.steps.now } in
     let before : Scene g.row.Q.Denot = record { ranks = c.loop-i.all.items; sent = sent_of c.loop-i.bank; got = got_of c.loop-i.bank; turns = c.loop-i.steps } in
     let after : Scene g.row.Q.Denot = record { ranks = c.turn_one.new.all.items; sent = sent_of c.in_ok-bank.bank; got = got_of c.in_ok-bank.bank; turns = c.turn_one.new.steps } in
     let r = get_or c.args.order.now c.loop-i.i 0 in
-    let one : IsTurnOf R c.loop-i.bank.dims g.row.CAP c.loop-i.bank.slots r before after = record { all = c.turn_one.ensures.size; others = c.turn_one.ensures.others; turned = c.in_ok-bank.ensures.turned; counted = c.in_ok-bank.ensures.steps } in
+    let one : IsTurnOf R c.loop-i.bank.dims g.row.CAP c.loop-i.bank.slots r before after = c.in_ok-bank.ensures.turned in
     let here : IsTurnOf R c.args.bank.dims g.row.CAP c.args.bank.slots r before after =
     subst (λ d. IsTurnOf R d g.row.CAP c.args.bank.slots r before after) v.same_dims (subst (λ k. IsTurnOf R c.loop-i.bank.dims g.row.CAP k r before after) v.same_slots one) in
     record {
@@ -85,7 +84,7 @@ pub returns-clause-some_step : goal.returns-clause-some_step
 returns-clause-some_step g c = λ r x at on.
     let v = c.loop-i.invariant.sweeping in
     let end : c.loop-i.i ≡ length c.args.order.now = omega (arith, c.loop-i-test.false, c.loop-i.auto.i-end) in
-    some_turn (ranks c.args.bank.dims) c.args.order.now c.args.all.now.items c.loop-i.all.items c.args.steps.now c.loop-i.steps c.requires.order c.requires.on_bank.5.ranked.all v.size
+    some_turn (ranks c.args.bank.dims) c.args.order.now c.args.all.now.items c.loop-i.all.items c.args.steps.now c.loop-i.steps c.requires.sweeps.order c.requires.sweeps.turns.on_bank.ranked.all v.size
     (subst (λ i. (c.args.steps.now < c.loop-i.steps) ⊎ NoneTurned c.args.order.now i c.args.all.now.items c.loop-i.all.items) end v.turns) r x at on
 
 pub returns-clause-order : goal.returns-clause-order
@@ -95,3 +94,8 @@ returns-clause-order g c =
     let last : Scene g.row.Q.Denot = record { ranks = c.loop-i.all.items; sent = sent_of c.loop-i.bank; got = got_of c.loop-i.bank; turns = c.loop-i.steps } in
     subst (λ rs. TurnsOf g.Q.Program.rules c.args.bank.dims g.row.CAP c.args.bank.slots rs first last) (take-length c.args.order.now)
     (subst (λ i. TurnsOf g.Q.Program.rules c.args.bank.dims g.row.CAP c.args.bank.slots (take i c.args.order.now) first last) end c.loop-i.invariant.turns)
+
+pub returns-clause-turns : goal.returns-clause-turns
+returns-clause-turns g c =
+    let v = c.loop-i.invariant.sweeping in
+    record { bank = record { lawful = v.is_bank; same_dims = v.same_dims; same_slots = v.same_slots }; fewest = v.completed; posted = v.posted }

@@ -16,7 +16,7 @@ turn_over-requires g c =
     let few = w.way.few n.1 in
     let here = going_progress i.rank n.0 in
     let below = c.await_turn.ensures in
-    (search rules, (refl, (n.0, (omega (arith, few, here, below), (w.manner, w.h, w.way.runs n.1)))))
+    (search rules, (refl, record { going = n.0; few = omega (arith, few, here, below); manner = w.manner; h = w.h; rank = w.way.runs n.1 }))
 
 pub returns-after-got_on-clause-ran : goal.returns-after-got_on-clause-ran
 returns-after-got_on-clause-ran g c =

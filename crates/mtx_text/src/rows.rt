@@ -9,8 +9,8 @@ use std::alloc::{AllocError, Global};
 /// How many rows a triple there may be at most if a pass over all rows pays.
 const ROWS_PER_TRIPLE: usize = 8;
 
-/// The triples of all lists. They are in order if each list is, and row `i` is in list number `i
-/// mod n` of `n` alone.
+/// The triples of all lists. Lists in order are merged if row `i` is in list number `i mod n` of
+/// `n` alone, and there aren't many more rows than triples.
 pub(crate) fn rows_together(alloc: Global, lists: Vec<&[Triple]>) -> Result<Vec<Triple>, AllocError>
     ensures { IfOk result (λ all. IsPermutation (flat_map (λ list. list.now) lists.entry.items) all.items) }
 {

@@ -5,4 +5,4 @@ use Rattle.transport_tests.proofs.hop_tests.carry.Goals as goal
 
 pub returns-clause-fair : goal.returns-clause-fair
 returns-clause-fair g c e same =
-    all_get (λ x. IsFair c.args.from.now.dims (hop_at c.args.from.now.dims c.args.link) x.tag) _ 0 e c.lend_out-parcel.ensures.fair (cc)
+    all_get (λ x. IsFair c.args.from.now.dims (hop_at c.args.from.now.dims c.args.link) x.tag) _ 0 e c.lend_out-parcel.ensures.sound.1 (cc)

@@ -8,6 +8,7 @@ use Rattle.bale_items.specs.declared.Item.{Item}
 use Rattle.list_laws.proofs.Lists.{all_head, all_tail}
 use Rattle.elastic.specs.Spelling.{IsLetter, further, letter_head, next_items, spelling, length_in, letter_from, letters_within, letters_of}
 use Rattle.elastic.specs.Mails.{is_whole, letter_of}
+use Rattle.elastic.specs.code.Begun.{begun_items}
 use Rattle.elastic.specs.Theorem.{SpellingsAreRead, FrontsAreRead}
 use Rattle.elastic.proofs.Pads.{letter_back}
 
@@ -17,11 +18,6 @@ read_on begun [] = []
 read_on begun (x ∷ xs) =
     cond (is_whole (begun ++ x ∷ [])) (letter_of (begun ++ x ∷ []) ∷ read_on (cond (is_whole (begun ++ x ∷ [])) [] (begun ++ x ∷ [])) xs)
     (read_on (cond (is_whole (begun ++ x ∷ [])) [] (begun ++ x ∷ [])) xs)
-
--- and the letter that is begun then
-abbrev pub left_over : List Item → List Item → List Item
-left_over begun [] = begun
-left_over begun (x ∷ xs) = left_over (cond (is_whole (begun ++ x ∷ [])) [] (begun ++ x ∷ [])) xs
 
 -- a step where the letter is whole, and where it isn't
 step_whole : (begun : List Item) (x : Item) (xs : List Item) → is_whole (begun ++ x ∷ []) ≡ true → read_on begun (x ∷ xs) ≡ letter_of (begun ++ x ∷ []) ∷ read_on [] xs
@@ -96,10 +92,22 @@ read_part true l all some rest e = ap (λ m. l ∷ m) e
 read_part false l all some rest e = e
 
 -- reading goes on where it stopped
-pub read_parts : (begun xs zs : List Item) → read_on begun (xs ++ zs) ≡ read_on begun xs ++ read_on (left_over begun xs) zs
+pub read_parts : (begun xs zs : List Item) → read_on begun (xs ++ zs) ≡ read_on begun xs ++ read_on (begun_items begun xs) zs
 read_parts begun [] zs = refl
 read_parts begun (x ∷ xs) zs =
     read_part (is_whole (begun ++ x ∷ [])) (letter_of (begun ++ x ∷ [])) _ _ _ (read_parts (cond (is_whole (begun ++ x ∷ [])) [] (begun ++ x ∷ [])) xs zs)
+
+-- one more item, and what is begun then
+pub left_more : (begun xs : List Item) (x : Item)
+    → begun_items begun (xs ++ x ∷ []) ≡ cond (is_whole (begun_items begun xs ++ x ∷ [])) [] (begun_items begun xs ++ x ∷ [])
+left_more begun [] x = refl
+left_more begun (y ∷ xs) x = left_more (cond (is_whole (begun ++ y ∷ [])) [] (begun ++ y ∷ [])) xs x
+
+pub letters_more : (xs : List Item) (x : Item)
+    → letters_of (xs ++ x ∷ []) ≡ letters_of xs ++ cond (is_whole (begun_items [] xs ++ x ∷ [])) (letter_of (begun_items [] xs ++ x ∷ []) ∷ []) []
+letters_more xs x =
+    sym (read_all (xs ++ x ∷ [])) ∙ read_parts [] xs (x ∷ [])
+    ∙ ap (λ m. m ++ read_on (begun_items [] xs) (x ∷ [])) (read_all xs)
 
 -- ---- A spelling is read as its letter
 
@@ -138,8 +146,8 @@ spellings_are_read ls a = sym (read_all (flat_map spelling ls)) ∙ read_spellin
 pub fronts_are_read : FrontsAreRead
 fronts_are_read front whole b =
     record {
-      rest = read_on (left_over [] front) b.rest;
+      rest = read_on (begun_items [] front) b.rest;
       is =
           sym (read_all whole) ∙ ap (read_on []) b.is ∙ read_parts [] front b.rest
-          ∙ ap (λ m. m ++ read_on (left_over [] front) b.rest) (read_all front);
+          ∙ ap (λ m. m ++ read_on (begun_items [] front) b.rest) (read_all front);
     }

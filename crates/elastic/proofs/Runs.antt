@@ -21,7 +21,8 @@ use Rattle.elastic.specs.LetterRuns.{letters_to_of, letters_by, absorb_letters, 
 use Rattle.elastic.specs.Mails.{MailState, mailing, mail_rules, spelling_of, is_whole, letter_of, with_next_item, item_absorbed}
 use Rattle.elastic.specs.laws.MailLaws.{mail_laws, mailing_valid, sender_low}
 use Rattle.elastic.specs.Theorem.{EachLetterOnce, MailersRunLetters}
-use Rattle.elastic.proofs.Letters.{read_on, left_over, read_all, spellings_are_read}
+use Rattle.elastic.specs.code.Begun.{begun_items}
+use Rattle.elastic.proofs.Letters.{read_on, read_all, spellings_are_read}
 
 -- ---- A sender's items
 
@@ -32,7 +33,7 @@ maybe_first R s f l ls false = refl
 -- what a mailer is after items of one sender
 record After {S : Type 0} (R : LetterRules S) (t u : MailState S) (f : ℕ) (items : List Item) : Type 0 where
   inner : u.inner ≡ absorb_letters R t.inner f (read_on (get_or t.begun f []) items)
-  begun : u.begun ≡ set t.begun f (left_over (get_or t.begun f []) items)
+  begun : u.begun ≡ set t.begun f (begun_items (get_or t.begun f []) items)
 
 after_all : {S : Type 0} (R : LetterRules S) (t : MailState S) (f : ℕ) (items : List Item) → f < length t.begun → After R t (absorb_all (mail_rules R) t f items) f items
 after_all R t f [] low = record { inner = refl; begun = sym (set-get_or t.begun f []) }
@@ -46,7 +47,7 @@ after_all {S} R t f (x ∷ xs) low =
       inner =
           rest.inner ∙ ap (λ b. absorb_letters R u.inner f (read_on b xs)) here
           ∙ maybe_first R t.inner f (letter_of items) (read_on left xs) (is_whole items);
-      begun = rest.begun ∙ ap (λ b. set u.begun f (left_over b xs)) here ∙ set-set t.begun f left (left_over left xs);
+      begun = rest.begun ∙ ap (λ b. set u.begun f (begun_items b xs)) here ∙ set-set t.begun f left (begun_items left xs);
     }
 
 abbrev no_items : List Item
@@ -79,9 +80,9 @@ after_upto {S} R s lists (suc n) low =
       begun =
           λ g l.
           ap (λ b. get_or b g []) after.begun
-          ∙ get_or-set_other t.begun n g (left_over (get_or t.begun n []) (lists n)) [] (λ e. absurd (omega arith))
+          ∙ get_or-set_other t.begun n g (begun_items (get_or t.begun n []) (lists n)) [] (λ e. absurd (omega arith))
           ∙ before.begun g (omega arith);
-      len = ap length after.begun ∙ length-set t.begun n (left_over (get_or t.begun n []) (lists n)) ∙ before.len;
+      len = ap length after.begun ∙ length-set t.begun n (begun_items (get_or t.begun n []) (lists n)) ∙ before.len;
     }
 
 pub each_letter_once : {S : Type 0} (R : LetterRules S) → LetterLaws R → EachLetterOnce R
@@ -98,7 +99,7 @@ one_more true x to es xs e = ap (λ l. x ∷ l) e
 one_more false x to es xs e = e
 
 -- the items of one letter that are for rank d
-one_letter : (d to : ℕ) (items : List Item) → items_of d (map (λ x. (to, x)) items) ≡ cond (to == d) items []
+pub one_letter : (d to : ℕ) (items : List Item) → items_of d (map (λ x. (to, x)) items) ≡ cond (to == d) items []
 one_letter d to [] = elim (cases_eq to d) [ inl e ↦ ap (λ b. cond b [] []) (sym (eq-eqb to d e)) | inr n ↦ ap (λ b. cond b [] []) (sym (ne_eqb to d n)) ]
 one_letter d to (x ∷ xs) = one_more (to == d) x to (filter (λ (e : ℕ × Item). e.0 == d) (map (λ x. (to, x)) xs)) xs (one_letter d to xs)
 

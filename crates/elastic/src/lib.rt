@@ -11,6 +11,7 @@
 //! |---|---|
 //! | [`LetterProgram`] | one rank's part of a computation in rounds, in which letters are sent |
 //! | [`Mailer`] | a program over a letter program: [`Mailer::new`], [`Mailer::inner`] |
+//! | [`spell`], [`take_from`], [`none_begun`], [`forget_all`] | spells a letter; reads letters from items, by what each sender has begun |
 //! | [`letters_of_spellings`] | a theorem: a list of spellings spells the letters, and a prefix of it a prefix of them |
 //! | [`letters_once`] | a theorem: after each absorb the letter program has absorbed each whole letter, in its sender's order, once |
 //! | [`mailers_run_letters`] | a theorem: mailers compute what their letter programs do |
@@ -28,4 +29,6 @@ mod theorems;
 
 pub use letter_program::LetterProgram;
 pub use mailer::Mailer;
+pub use reading::{forget_all, none_begun, take_from};
+pub use spelling::spell;
 pub use theorems::{letters_of_spellings, letters_once, mailers_run_letters};

@@ -1,12 +1,20 @@
 //! A program that carries the letters of a letter program.
 
+<<<<<<< HEAD
+ghost use Rattle.std.specs.Prelude.{◌≡◌, ◌<◌, ◌^◌, OnOk, OnErr, IfOk, length};
+=======
 ghost use Rattle.std.specs.Prelude.{◌≡◌, ◌<◌, ◌^◌, [], ◌∷◌, true, OnOk, OnErr, IfOk, map, length, replicate};
+>>>>>>> origin/main
 ghost use Rattle.elastic.specs.Spelling.{IsLetter};
 ghost use Rattle.elastic.specs.LetterLaws.{StillSends};
 ghost use Rattle.elastic.specs.Mails.{mailing, is_whole, letter_of};
 
 use crate::letter_program::LetterProgram;
+<<<<<<< HEAD
+use crate::reading::{forget_all, none_begun, take_from};
+=======
 use crate::reading::{first_bytes, forget_all, is_alone, only_letter, take_from};
+>>>>>>> origin/main
 use crate::spelling::spelled;
 use bale_items::{Item, NoMemory};
 use round_program::Program;
@@ -165,15 +173,4 @@ fn end<Q: LetterProgram>(inner: &mut Q, votes: u64) -> Result<bool, NoMemory>
     let ended = inner.end_round(votes);
     inner.known();
     ended
-}
-
-/// An empty list for each sender.
-fn none_begun(alloc: Global, ranks: u32) -> Result<Vec<Vec<Item>>, NoMemory>
-    ensures { IfOk result (λ v. map (λ l. l.items) v.items ≡ replicate ranks []) }
-{
-    let mut begun = Vec::new(alloc);
-    for _sender in 0..ranks {
-        begun.push(Vec::new(alloc))?;
-    }
-    Ok(begun)
 }

@@ -1,12 +1,13 @@
 //! Letters from the items that came.
 
-ghost use Rattle.std.specs.Prelude.{◌≡◌, ◌<◌, ◌++◌, ◌∷◌, [], true, IfOk, OnOk, cond, length, map, replicate, slice_set};
+ghost use Rattle.std.specs.Prelude.{◌≡◌, ◌<◌, ◌++◌, ◌∷◌, [], true, IfOk, OnOk, OnErr, cond, length, map, replicate, slice_set};
 ghost use Rattle.std.specs.List.{flat_map};
 ghost use Rattle.std.specs.Int.{w64, to_le_bytes};
 ghost use Rattle.elastic.specs.Spelling.{further, bytes_in, letter_from};
 ghost use Rattle.elastic.specs.Mails.{is_whole, letter_of, with_next_item, begun_after};
 
 use bale_items::{Item, NoMemory};
+use std::alloc::Global;
 
 /// Whether items, no more than one letter's, are a whole letter.
 fn is_whole(items: &[Item]) -> bool
@@ -24,6 +25,21 @@ fn further(len: u64) -> u64
     ensures { result ≡ further len }
 {
     (len.saturating_sub(16) + 23) / 24
+}
+
+/// What senders have begun before their first item: an empty list for each.
+///
+/// # Errors
+///
+/// `NoMemory` if there was none for the lists.
+pub fn none_begun(alloc: Global, ranks: u32) -> Result<Vec<Vec<Item>>, NoMemory>
+    ensures { IfOk result (λ v. map (λ l. l.items) v.items ≡ replicate ranks []) }
+{
+    let mut begun = Vec::new(alloc);
+    for _sender in 0..ranks {
+        begun.push(Vec::new(alloc))?;
+    }
+    Ok(begun)
 }
 
 /// Whether an item that comes from the rank `from` is a letter alone: nothing is begun before it,
@@ -61,8 +77,12 @@ pub(crate) fn only_letter(bytes: &[u8; 16], item: Item) -> &[u8]
 }
 
 /// Takes an item in from the rank `from`, by what all senders have begun, and answers whether its
-/// letter is whole now; then `letter` is that letter. After `NoMemory` it may hold anything.
-pub(crate) fn take_from(
+/// letter is whole now; then `letter` is that letter.
+///
+/// # Errors
+///
+/// `NoMemory`: what the senders have begun is as before, and `letter` may hold anything.
+pub fn take_from(
     begun: &mut Vec<Vec<Item>>,
     letter: &mut Vec<u8>,
     from: usize,
@@ -75,6 +95,7 @@ pub(crate) fn take_from(
         ≡ begun_after (map (λ l. l.items) begun.old.items) from item) }
     ensures letter { IfOk result (λ whole. whole ≡ true → letter.new.items
         ≡ letter_of (with_next_item (map (λ l. l.items) begun.old.items) from item)) }
+    ensures unchanged { OnErr result (map (λ l. l.items) begun.new.items ≡ map (λ l. l.items) begun.old.items) }
     ensures senders { length begun.new.items ≡ length begun.old.items }
 {
     take_in(&mut begun[from], letter, item)
@@ -86,6 +107,7 @@ fn take_in(begun: &mut Vec<Item>, letter: &mut Vec<u8>, item: Item) -> Result<bo
     ensures begun { OnOk result (begun.new.items ≡ cond (is_whole (begun.old.items ++ item ∷ [])) []
         (begun.old.items ++ item ∷ [])) }
     ensures letter { IfOk result (λ whole. whole ≡ true → letter.new.items ≡ letter_of (begun.old.items ++ item ∷ [])) }
+    ensures unchanged { OnErr result (begun.new.items ≡ begun.old.items) }
 {
     // A short letter is whole with its first item: then nothing is begun.
     if begun.is_empty() && is_whole(&[item]) {
@@ -96,13 +118,20 @@ fn take_in(begun: &mut Vec<Item>, letter: &mut Vec<u8>, item: Item) -> Result<bo
     if !is_whole(begun) {
         return Ok(false);
     }
-    read_letter(letter, begun)?;
-    begun.clear();
-    Ok(true)
+    match read_letter(letter, begun) {
+        Ok(()) => {
+            begun.clear();
+            Ok(true)
+        }
+        Err(NoMemory) => {
+            begun.pop();
+            Err(NoMemory)
+        }
+    }
 }
 
 /// Forgets what all senders have begun.
-pub(crate) fn forget_all(begun: &mut Vec<Vec<Item>>)
+pub fn forget_all(begun: &mut Vec<Vec<Item>>)
     ensures { map (λ l. l.items) begun.new.items ≡ replicate (length begun.old.items) [] }
 {
     for sender in 0..begun.len() {

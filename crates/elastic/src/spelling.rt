@@ -27,8 +27,12 @@ pub(crate) fn spelled<Q: LetterProgram>(alloc: Global, q: &Q) -> Result<Vec<(u32
     Ok(outgoing)
 }
 
-/// Appends the spelling of a letter.
-pub(crate) fn spell(outgoing: &mut Vec<(u32, Item)>, to: u32, letter: &[u8]) -> Result<(), NoMemory>
+/// Appends the spelling of a letter, each item with the rank that the letter goes to.
+///
+/// # Errors
+///
+/// `NoMemory`: `outgoing` may hold anything.
+pub fn spell(outgoing: &mut Vec<(u32, Item)>, to: u32, letter: &[u8]) -> Result<(), NoMemory>
     ensures { OnOk result (outgoing.new.items ≡ outgoing.old.items ++ map (λ x. (to, x)) (spelling letter.now)) }
 {
     outgoing.push((to, first_item(letter)))?;

@@ -1,20 +1,12 @@
 //! A program that carries the letters of a letter program.
 
-<<<<<<< HEAD
-ghost use Rattle.std.specs.Prelude.{◌≡◌, ◌<◌, ◌^◌, OnOk, OnErr, IfOk, length};
-=======
-ghost use Rattle.std.specs.Prelude.{◌≡◌, ◌<◌, ◌^◌, [], ◌∷◌, true, OnOk, OnErr, IfOk, map, length, replicate};
->>>>>>> origin/main
+ghost use Rattle.std.specs.Prelude.{◌≡◌, ◌<◌, ◌^◌, [], ◌∷◌, true, OnOk, OnErr, IfOk, length};
 ghost use Rattle.elastic.specs.Spelling.{IsLetter};
 ghost use Rattle.elastic.specs.LetterLaws.{StillSends};
 ghost use Rattle.elastic.specs.Mails.{mailing, is_whole, letter_of};
 
 use crate::letter_program::LetterProgram;
-<<<<<<< HEAD
-use crate::reading::{forget_all, none_begun, take_from};
-=======
-use crate::reading::{first_bytes, forget_all, is_alone, only_letter, take_from};
->>>>>>> origin/main
+use crate::reading::{first_bytes, forget_all, is_alone, none_begun, only_letter, take_from};
 use crate::spelling::spelled;
 use bale_items::{Item, NoMemory};
 use round_program::Program;

@@ -3,14 +3,14 @@ use Rattle.std.specs.Prelude.{◌≡◌, ℕ, ◌<◌, ◌≤◌, true, List, []
 use Rattle.bale_items.specs.declared.item.Item.{Item}
 use Rattle.route_tensor.specs.Grid.{ranks, IsGrid}
 use Rattle.route_tensor.specs.Link.{links}
-use Rattle.route_tensor.specs.Ends.{sender_at}
+use Rattle.route_tensor.specs.Ends.{hop_at, sender_at}
 use Rattle.port_bank.specs.Logs.{Logs}
 use Rattle.port_bank.specs.Flow.{hop_link}
 use Rattle.hop_core.specs.declared.phase.Phase.TheVariants.{Cleanup, Complete}
-use Rattle.hop_core.specs.State.{State, all_closed, phase_of, lowest_unread, pull_from, pulled_from}
+use Rattle.hop_core.specs.State.{State, all_closed, phase_of, with_pushed, lowest_unread, pull_from, pulled_from}
 use Rattle.port_bank.specs.Machine.{Step, IsOwnStep}
-use Rattle.port_bank.specs.Machine.Step.{Pull}
-use Rattle.convey.specs.Buffers.{buffers_of, out_of}
+use Rattle.port_bank.specs.Machine.Step.{Push, Pull, Idle}
+use Rattle.convey.specs.Buffers.{buffers_of, out_of, in_of}
 use Rattle.convey.specs.Agreement.{Agrees}
 use Rattle.convey.specs.Law.{IsSound}
 use Rattle.convey.specs.Parts.{part_of}
@@ -60,6 +60,25 @@ pub record GivesNext (st : State) (from : ℕ) (item : Item) : Type 0 where
 -- How many entries are in the open parcel toward a rank.
 abbrev pub open_count_toward : State → ℕ → ℕ
 open_count_toward st to = length (out_of st (hop_link st.dims st.rank to 1)).parcel.untaken
+
+-- A push puts the item into the open parcel toward its rank, which has room.
+pub record PutsItem (cap to : ℕ) (item : Item) (old new : State) : Type 0 where
+  pub room : open_count_toward old to < cap
+  pub state : new ≡ with_pushed item to old
+  pub step : IsStepOf (Push to item) old new
+
+-- A push finds the open parcel toward its rank full.
+pub record FindsNoRoom (cap to : ℕ) (old new : State) : Type 0 where
+  pub full : open_count_toward old to ≡ cap
+  pub state : new ≡ record old { pulled = None }
+  pub step : IsStepOf Idle old new
+
+-- A pull finds every link of the last hop without an unread item.
+pub record FindsNoItem (old new : State) : Type 0 where
+  pub none_unread : (l : ℕ) → l < links old.dims → hop_at old.dims l ≡ length old.dims
+      → (in_of old l).parcel.untaken ≡ []
+  pub state : new ≡ record old { pulled = None }
+  pub step : IsStepOf Idle old new
 
 -- No open parcel holds more than so many entries.
 abbrev pub HoldsAtMost : ℕ → State → Type 0

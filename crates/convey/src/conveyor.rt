@@ -13,7 +13,7 @@ ghost use Rattle.std.specs.List.{All};
 ghost use Rattle.port_bank.specs.Machine.Step.{Push, Pull, Unpull, Reset, Idle};
 ghost use Rattle.convey.specs.Buffers.{in_of};
 ghost use Rattle.convey.specs.Advance.{HasSettled, MayAdvance, AdvancesAtPort, AdvancesInFull, AdvanceStops};
-ghost use Rattle.convey.specs.Conveyors.{ConveyorInvariant, AgreesWith, IsStepOf, KeepsAgreement, GivesNext, open_count_toward};
+ghost use Rattle.convey.specs.Conveyors.{ConveyorInvariant, AgreesWith, IsStepOf, KeepsAgreement, GivesNext, PutsItem, FindsNoRoom, FindsNoItem};
 ghost use Rattle.convey.specs.Progress.{progress_of};
 ghost use Rattle.item_buffer.specs.Capacity.{IsCap};
 ghost use Rattle.hop_core.specs.Standing.{IsState};
@@ -122,14 +122,10 @@ impl<const CAP: usize, const HOPS: usize> Conveyor<CAP, HOPS> {
         requires working { self.old.phase ≡ Phase.Working }
         requires not_done { self.old.done ≡ false }
         requires to { to < ranks self.old.dims }
-        ensures room { result ≡ Pushed.Accepted → open_count_toward self.old to < CAP }
-        ensures accepted { result ≡ Pushed.Accepted → self.new ≡ with_pushed item to self.old }
-        ensures full { result ≡ Pushed.Full → open_count_toward self.old to ≡ CAP }
-        ensures unchanged { result ≡ Pushed.Full → self.new ≡ record self.old { pulled = None } }
+        ensures accepted { result ≡ Pushed.Accepted → PutsItem CAP to item self.old self.new }
+        ensures full { result ≡ Pushed.Full → FindsNoRoom CAP to self.old self.new }
         ensures same { self.new ≡ record self.old { outs = self.new.outs; pulled = None } }
         ensures kept { KeepsAgreement self.old self.new }
-        ensures step_accepted { result ≡ Pushed.Accepted → IsStepOf (Push to item) self.old self.new }
-        ensures step_full { result ≡ Pushed.Full → IsStepOf Idle self.old self.new }
     {
         self.state.known();
         self.state.push(item, to)
@@ -142,12 +138,9 @@ impl<const CAP: usize, const HOPS: usize> Conveyor<CAP, HOPS> {
         ensures value { result ≡ pull_from self.old (lowest_unread self.old) }
         ensures state { self.new ≡ pulled_from self.old (lowest_unread self.old) }
         ensures sender { IfSome result (λ p. p.0 < ranks self.old.dims) }
-        ensures unchanged { result ≡ None → self.new ≡ record self.old { pulled = None } }
-        ensures none_unread { result ≡ None → (l : ℕ) → l < links self.old.dims
-            → hop_at self.old.dims l ≡ length self.old.dims → (in_of self.old l).parcel.untaken ≡ [] }
+        ensures item { IfSome result (λ p. IsStepOf (Pull p.0 p.1) self.old self.new) }
+        ensures none { result ≡ None → FindsNoItem self.old self.new }
         ensures kept { KeepsAgreement self.old self.new }
-        ensures step_item { IfSome result (λ p. IsStepOf (Pull p.0 p.1) self.old self.new) }
-        ensures step_none { result ≡ None → IsStepOf Idle self.old self.new }
     {
         self.state.known();
         self.state.pull()

@@ -138,3 +138,20 @@ after_relay dims r cap (suc n) i ls =
 -- What a relay from hop h to the next leaves of them.
 abbrev pub relayed_hop : List ℕ → ℕ → ℕ → ℕ → Links → Links
 relayed_hop dims r cap h ls = after_relay dims r cap (dim dims h) (links_before dims h) ls
+
+-- A relay from hop h to the next, by which n entries were passed on.
+-- held: of each pair of ranks that passes through, the rank holds the same items in the same order.
+-- adds, takes: it appends to open parcels of the next hop, and reads on in inboxes of hop h.
+-- stopped: nothing more can be passed on.
+-- count: what waits no longer was passed on.
+-- in_turn: the links in have their turns in ascending order, and nothing of a parcel changes but
+-- its entries and what was taken.
+pub record RelaysHop (dims : List ℕ) (r cap h : ℕ) (old new : Links) (n : ℕ) : Type 0 where
+  pub held : (s d : ℕ) → PassesThrough dims r s d h
+      → held_by dims new.outs new.ins s d h ≡ held_by dims old.outs old.ins s d h
+  pub adds : AddsToHop dims (h + 1) old.outs new.outs
+  pub takes : TakesFromHop dims h old.ins new.ins
+  pub stopped : (i : ℕ) → i < sum dims → hop_to dims i ≡ h
+      → IsStopped dims cap h new.outs (slice_index_or new.ins i no_in)
+  pub count : n + waiting new.ins ≡ waiting old.ins
+  pub in_turn : new ≡ relayed_hop dims r cap h old

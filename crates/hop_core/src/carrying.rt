@@ -80,9 +80,8 @@ impl<const CAP: usize, const HOPS: usize> RankState<CAP, HOPS> {
               epoch = self.old.epoch;
             } }
         ensures borrowed { result.state.ghost_name ≡ self.entry.ghost_name }
-        ensures number { result.number ≡ number }
-        ensures lent { result.lent.value ≡ parcel.new }
-        ensures marked { result.last ≡ parcel.new.last }
+        ensures outgoing { (result.number ≡ number) × (result.lent.value ≡ parcel.new)
+            × (result.last ≡ parcel.new.last) }
         ensures taken { IsTakenOut result.state.now number parcel.new }
         ensures state { result.state.now ≡ record self.old {
           outs = slice_set self.old.outs number (record { parcel = blank self.old.epoch; closed = false });

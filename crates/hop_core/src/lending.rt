@@ -46,8 +46,8 @@ impl<const CAP: usize, const HOPS: usize> RankState<CAP, HOPS> {
           last = at_end self.old.dims self.old.ins self.old.done (hop_at self.old.dims link);
           epoch = self.old.epoch;
         } }
-        ensures fresh { IsFresh result }
-        ensures fair { All (λ e. IsFair self.old.dims (hop_at self.old.dims link) e.tag) result.untaken }
+        ensures sound { IsFresh result
+            × All (λ e. IsFair self.old.dims (hop_at self.old.dims link) e.tag) result.untaken }
         ensures lent { IsLentToSend self.new (out_index self.old.dims link) }
         ensures state { self.new ≡ record self.old {
           outs = slice_set self.old.outs (out_index self.old.dims link)

@@ -5,8 +5,7 @@ ghost use Rattle.std.specs.List.{All};
 ghost use Rattle.route_tensor.specs.Neighbour.{hop_to, neighbour};
 ghost use Rattle.route_tensor.specs.Tag.{IsFair, sender_of};
 ghost use Rattle.hop_core.specs.State.{in_at, lowest_unread, pull_from, pulled_from, pulls, after_unpull};
-ghost use Rattle.hop_core.specs.Relay.{held, AddsToHop, TakesFromHop, IsStopped, waiting, relayed_hop};
-ghost use Rattle.route_tensor.specs.Pair.{PassesThrough};
+ghost use Rattle.hop_core.specs.Relay.{RelaysHop};
 ghost use Rattle.hop_core.specs.declared.phase.Phase.{Phase};
 
 use crate::in_links::{first_unread, hop_finished};
@@ -22,23 +21,10 @@ impl<const CAP: usize, const HOPS: usize> RankState<CAP, HOPS> {
     pub fn relay(&mut self, h: u32) -> u64
         requires first { 1 ≤ h }
         requires last { h < length self.old.dims }
-
-        // Of each pair of ranks that passes through, the rank holds the same items in the same
-        // order.
-        ensures held { (s d : ℕ) → PassesThrough self.old.dims self.old.rank s d h
-            → held self.new s d h ≡ held self.old s d h }
-        ensures adds { AddsToHop self.old.dims (h + 1) self.old.outs self.new.outs }
-        ensures takes { TakesFromHop self.old.dims h self.old.ins self.new.ins }
-        ensures stopped { (i : ℕ) → i < sum self.old.dims → hop_to self.old.dims i ≡ h
-            → IsStopped self.old.dims self.old.cap h self.new.outs (in_at self.new i) }
-        ensures count { result + waiting self.new.ins ≡ waiting self.old.ins }
+        ensures relays { RelaysHop self.old.dims self.old.rank self.old.cap h
+            (record { outs = self.old.outs; ins = self.old.ins })
+            (record { outs = self.new.outs; ins = self.new.ins }) result }
         ensures rest { self.new ≡ record self.old { outs = self.new.outs; ins = self.new.ins; pulled = None } }
-
-        // The links in have their turns in ascending order, and nothing of a parcel changes but its
-        // entries and what was taken.
-        ensures in_turn { record { outs = self.new.outs; ins = self.new.ins }
-            ≡ relayed_hop self.old.dims self.old.rank self.old.cap h
-            (record { outs = self.old.outs; ins = self.old.ins }) }
     {
         self.pulled = None;
         let count = relay_hop(&self.routes, &mut self.outs, &mut self.ins, h);

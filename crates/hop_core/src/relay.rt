@@ -6,8 +6,7 @@ ghost use Rattle.list_laws.specs.Lists.{EachAt};
 ghost use Rattle.route_tensor.specs.Neighbour.{hop_to};
 ghost use Rattle.hop_core.specs.Link.{no_out, no_in, is_finished, read_on};
 ghost use Rattle.hop_core.specs.Standing.{IsOut, IsIn};
-ghost use Rattle.hop_core.specs.Relay.{MayPassOn, PassesOn, held_by, AddsToHop, TakesFromHop, IsStopped, waiting, outs_after_relay, passed_count, relayed_hop};
-ghost use Rattle.route_tensor.specs.Pair.{PassesThrough};
+ghost use Rattle.hop_core.specs.Relay.{MayPassOn, PassesOn, RelaysHop, AddsToHop, IsStopped, outs_after_relay, passed_count};
 ghost use Rattle.hop_core.specs.State.{ins_of_hop};
 ghost use Rattle.std.specs.List.{list_all};
 
@@ -111,16 +110,9 @@ pub fn relay_hop<const CAP: usize>(
         → (slice_index_or outs.old.items o no_out).closed ≡ false }
     ensures each_out { EachAt (λ o out. IsOut routes.now.dims CAP (hop_to routes.now.dims o) out) outs.new.items }
     ensures each_in { EachAt (λ i x. IsIn routes.now.dims CAP (hop_to routes.now.dims i) x) ins.new.items }
-    ensures held { (s d : ℕ) → PassesThrough routes.now.dims routes.now.rank s d h
-        → held_by routes.now.dims outs.new.items ins.new.items s d h
-        ≡ held_by routes.now.dims outs.old.items ins.old.items s d h }
-    ensures adds { AddsToHop routes.now.dims (h + 1) outs.old.items outs.new.items }
-    ensures takes { TakesFromHop routes.now.dims h ins.old.items ins.new.items }
-    ensures stopped { (i : ℕ) → i < sum routes.now.dims → hop_to routes.now.dims i ≡ h
-        → IsStopped routes.now.dims CAP h outs.new.items (slice_index_or ins.new.items i no_in) }
-    ensures count { result + waiting ins.new.items ≡ waiting ins.old.items }
-    ensures in_turn { record { outs = outs.new.items; ins = ins.new.items }
-        ≡ relayed_hop routes.now.dims routes.now.rank CAP h (record { outs = outs.old.items; ins = ins.old.items }) }
+    ensures relays { RelaysHop routes.now.dims routes.now.rank CAP h
+        (record { outs = outs.old.items; ins = ins.old.items })
+        (record { outs = outs.new.items; ins = ins.new.items }) result }
 {
     let mut count = 0;
     let from = routes.first_of(h);

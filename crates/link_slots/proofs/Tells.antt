@@ -1,5 +1,5 @@
 -- What the bank's table allows a rank's seat, as its plays are told.
-use Rattle.std.proofs.Common.{◌≡◌, ◌≢◌, ℕ, ◌+◌, ◌*◌, ◌^◌, ◌%◌, ◌<◌, Bool, true, false, eqb, List, [], ◌∷◌, ◌++◌, length, get_or, set, sym, refl, ap, ◌∙◌, subst, arith, eqb-true, eq-eqb, ne_eqb}
+use Rattle.std.proofs.Common.{◌≡◌, ◌≢◌, ℕ, ◌+◌, ◌*◌, ◌^◌, ◌%◌, ◌<◌, Bool, true, false, eqb, List, [], ◌∷◌, ◌++◌, length, get_or, set, sym, refl, ap, ◌∙◌, subst, arith, eqb-true, eq-eqb}
 use Rattle.std.proofs.lemmas.List.{set-get_or}
 use Rattle.std.proofs.lemmas.Nat.Bits.{bit_at-pow_same, bit_at-pow_other}
 use Rattle.std.specs.Int.{bit_at}
@@ -19,7 +19,7 @@ use Rattle.link_slots.specs.View.{own_logs}
 use Rattle.link_slots.specs.Wiring.{Wiring, slot_of, posted_word, released_word, bell_word}
 use Rattle.link_slots.specs.StepEffects.{LookedFirst}
 use Rattle.link_slots.specs.Shape.{Shape, IsShape, wiring, IsBlank, MayFollow, KeepsLaw}
-use Rattle.link_slots.specs.WordSteps.{TableView, IsLawful, HoldsSeat, room_found, posted, looked_in, released, spare_brought, parcel_brought, rung, heard, room_told, post_told, look_told, release_told, spare_told, parcel_told, ring_look_told, ring_told, hear_look_told, hear_told}
+use Rattle.link_slots.specs.WordSteps.{TableView, IsLawful, HoldsSeat, room_found, posted, looked_in, released, spare_brought, parcel_brought, rung, heard, room_told, post_told, look_told, release_told, spare_told, parcel_told, ring_look_told, ring_told, hear_told}
 use Rattle.link_slots.proofs.Moves as moves
 use Rattle.link_slots.proofs.Listening as listening
 use Rattle.link_slots.proofs.Bells.{bit_again}
@@ -129,17 +129,6 @@ module _ (cap : ℕ) (shape : Shape) (is : IsShape shape) (count : ℕ) (as_many
       (λ in' e f. let same : l ≡ q = (wired shape is).one_bit l q inside in' (omega arith) (same_power (w.bit l) (w.bit q) f) in subst (λ (z : ℕ). rung cap shape z m m') same t))
       (listening.ring IsBlank Good Law shape w (wired shape is) id l m.0 m.1 manned.speaks inside mine manned.holds))
 
-  pub look_before_hear : (m : M) (word b : ℕ) → word ≡ 16 * (2 * (wiring shape).links + b) → (wiring shape).bell l ≡ b → HoldsSeat shape m → l < links shape.dims → reader_at shape.dims l ≡ m.0.pick
-      → Allows (IsLawful cap shape) count id m word (λ n. n) (hear_look_told cap (step count word 0 0 none) m)
-  look_before_hear m word b at rings manned inside mine =
-      let w : Wiring = wiring shape in
-      subst (λ (z : ℕ). Allows (IsLawful cap shape) count id m z (λ n. n) (hear_look_told cap (step count z 0 0 none) m)) (sym at)
-      (may m (16 * (2 * w.links + b)) (λ n. n) (λ n m'. LookedFirst (eqb n 0) (heard cap shape b m n) m m') (hear_look_told cap (step count (16 * (2 * w.links + b)) 0 0 none) m)
-      (λ n m' t q. subst (λ (z : Shape). 16 * (2 * w.links + b) ≡ 16 * (2 * (wiring z).links + q) → LookedFirst (eqb n 0) (heard cap z q m n) m m') (sym manned.of)
-      (λ e. let same : b ≡ q = omega arith in subst (λ (z : ℕ). LookedFirst (eqb n 0) (heard cap shape z m n) m m') same t))
-      (looks_first (IsLawful cap shape) (shape.slots * links shape.dims) id (16 * (2 * w.links + b)) m (λ _. 0) (heard cap shape b m) (λ n. eqb n 0) (λ n e. sym (eqb-true n 0 e))
-      (listening.hear IsBlank Good Law shape w (wired shape is) id l b m.0 m.1 manned.speaks inside mine rings manned.holds)))
-
   pub hear : (m : M) (word b : ℕ) → word ≡ 16 * (2 * (wiring shape).links + b) → (wiring shape).bell l ≡ b → HoldsSeat shape m → l < links shape.dims → reader_at shape.dims l ≡ m.0.pick
       → Allows (IsLawful cap shape) count id m word (λ _. 0) (hear_told cap (step count word 0 0 none) m)
   hear m word b at rings manned inside mine =
@@ -176,19 +165,8 @@ module _ (cap : ℕ) (shape : Shape) (l : ℕ) (m : Me Contents TableView) (word
   pub rung_after_look : bit_and n mask ≡ 0 → (k : ℕ) (m'' : Me Contents TableView) → ring_told cap (step count word mask 0 none) m' k m'' → rung cap shape l m m''
   rung_after_look unset k m'' = subst (λ (z : Me Contents TableView). ring_told cap (step count word mask 0 none) z k m'' → rung cap shape l m m'') (sym (not_yet_rung unset)) (rung_is cap shape l m word mask count k m'' manned inside at bit)
 
--- what a hear of the doorbell b with a look before it tells: where the look finds no bit set, it is
--- the hear
-module _ (cap : ℕ) (shape : Shape) (b : ℕ) (m : Me Contents TableView) (word count n : ℕ) (m' : Me Contents TableView) (manned : HoldsSeat shape m) (at : word ≡ 16 * (2 * (wiring shape).links + b))
-    (told : hear_look_told cap (step count word 0 0 none) m n m') where
-  found_is : LookedFirst (eqb n 0) (heard cap shape b m n) m m'
-  found_is = subst (λ (z : Shape). word ≡ 16 * (2 * (wiring z).links + b) → LookedFirst (eqb n 0) (heard cap z b m n) m m') manned.of (told b) at
-
-  pub heard_by_look : n ≡ 0 → heard cap shape b m 0 m'
-  heard_by_look unset = subst (λ (z : ℕ). heard cap shape b m z m') unset (subst (λ (z : Bool). LookedFirst z (heard cap shape b m n) m m') (eq-eqb n 0 unset) found_is)
-
-  pub not_yet_heard : n ≢ 0 → m' ≡ m
-  not_yet_heard set = subst (λ (z : Bool). LookedFirst z (heard cap shape b m n) m m') (ne_eqb n 0 set) found_is
-
-  pub heard_after_look : n ≢ 0 → (k : ℕ) (m'' : Me Contents TableView) → hear_told cap (step count word 0 0 none) m' k m'' → heard cap shape b m k m''
-  heard_after_look set k m'' = subst (λ (z : Me Contents TableView). hear_told cap (step count word 0 0 none) z k m'' → heard cap shape b m k m'') (sym (not_yet_heard set))
-      (λ t. subst (λ (z : Shape). word ≡ 16 * (2 * (wiring z).links + b) → heard cap z b m k m'') manned.of (t b) at)
+-- what a hear of the doorbell b tells, as code reads the word
+pub heard_is : (cap : ℕ) (shape : Shape) (b : ℕ) (m : Me Contents TableView) (word count n : ℕ) (m' : Me Contents TableView) → HoldsSeat shape m → word ≡ 16 * (2 * (wiring shape).links + b)
+    → hear_told cap (step count word 0 0 none) m n m' → heard cap shape b m n m'
+heard_is cap shape b m word count n m' manned at told =
+    subst (λ (z : Shape). word ≡ 16 * (2 * (wiring z).links + b) → heard cap z b m n m') manned.of (told b) at

@@ -106,10 +106,6 @@ module _ (cap : ℕ) (st : Step Contents) (m : Me Contents TableView) where
   ring_told n m' = (l : ℕ) → l < (wiring m.0.shape).links → st.word ≡ bell_word (wiring m.0.shape) l
       → st.first ≡ 2 ^ (wiring m.0.shape).bit l → rung cap m.0.shape l m m'
 
-  abbrev pub hear_look_told : ℕ → Me Contents TableView → Type 0
-  hear_look_told n m' = (b : ℕ) → st.word ≡ 16 * (2 * (wiring m.0.shape).links + b)
-      → LookedFirst (eqb n 0) (heard cap m.0.shape b m n) m m'
-
   abbrev pub hear_told : ℕ → Me Contents TableView → Type 0
   hear_told n m' = (b : ℕ) → st.word ≡ 16 * (2 * (wiring m.0.shape).links + b) → heard cap m.0.shape b m n m'
 

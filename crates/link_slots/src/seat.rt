@@ -81,13 +81,13 @@ impl<const CAP: usize> SlotSeat<CAP> {
               (out_of self.new.lists link);
         } }
         ensures long { link < length self.old.lists.outs }
-        ensures emptied { result ≡ Posted.Sent → parcel.new ≡ blank parcel.old.epoch }
+        ensures parcel { (result ≡ Posted.Sent → parcel.new ≡ blank parcel.old.epoch)
+            × (result ≡ Posted.NoRoom → parcel.new ≡ parcel.old) }
         ensures room_is { ((out_of self.new.lists link).room ≡ 0)
             ⊎ (self.old.shape.slots ≤ (out_of self.new.lists link).room) }
         ensures within { length (out_of self.old.lists link).sent ≤ (out_of self.old.lists link).room }
         ensures link { HasPosted self.old.shape.slots (out_of self.old.lists link) (out_of self.new.lists link)
             parcel.old result }
-        ensures kept { result ≡ Posted.NoRoom → parcel.new ≡ parcel.old }
     {
         parcel.known();
         let epoch = parcel.epoch();

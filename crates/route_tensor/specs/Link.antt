@@ -40,3 +40,15 @@ pub record IsOnRoute (dims : List ℕ) (s d h a b : ℕ) : Type 0 where
   pub destination : d < ranks dims
   pub from : a ≡ place dims s d (h - 1)
   pub to : b ≡ place dims s d h
+
+-- The rank r is where an entry from s to d is after h hops: it has d's coordinates up to h and s's
+-- after that.
+-- start, end: before the first hop it is s, and after the last one d.
+-- link: the hop that led there is a link.
+pub record IsPlace (dims : List ℕ) (s d h r : ℕ) : Type 0 where
+  pub rank : r < ranks dims
+  pub taken : (i : ℕ) → 1 ≤ i → i ≤ h → coord dims r i ≡ coord dims d i
+  pub left : (i : ℕ) → h < i → i ≤ length dims → coord dims r i ≡ coord dims s i
+  pub start : h ≡ 0 → r ≡ s
+  pub end : h ≡ length dims → r ≡ d
+  pub link : 1 ≤ h → IsLink dims h (place dims s d (h - 1)) r

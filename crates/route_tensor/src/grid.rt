@@ -9,7 +9,7 @@ ghost use Rattle.std.specs.Result.{result_err};
 ghost use Rattle.route_tensor.specs.Grid.{ranks, dim, coord, place, IsGrid};
 ghost use Rattle.route_tensor.specs.GridNumbers.{dims_kept};
 ghost use Rattle.route_tensor.specs.Refusal.{refusal};
-ghost use Rattle.route_tensor.specs.Link.{links, IsLink};
+ghost use Rattle.route_tensor.specs.Link.{links, IsLink, IsPlace};
 
 use crate::by_hops::MOST_HOPS;
 use std::marker::Model;
@@ -154,13 +154,8 @@ impl Grid {
         requires destination { d < ranks self.now }
         requires hop { h ≤ length self.now }
         ensures value { result ≡ place self.now s d h }
-        ensures rank { result < ranks self.now }
+        ensures place { IsPlace self.now s d h result }
         ensures grid { IsGrid self.now }
-        ensures taken { (i : ℕ) → 1 ≤ i → i ≤ h → coord self.now result i ≡ coord self.now d i }
-        ensures left { (i : ℕ) → h < i → i ≤ length self.now → coord self.now result i ≡ coord self.now s i }
-        ensures start { h ≡ 0 → result ≡ s }
-        ensures end { h ≡ length self.now → result ≡ d }
-        ensures link { 1 ≤ h → IsLink self.now h (place self.now s d (h - 1)) result }
     {
         let stride = self.stride(h);
         s - s % stride + d % stride

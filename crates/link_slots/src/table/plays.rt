@@ -1,5 +1,5 @@
 //! What each kind of step tells the seat that makes it.
-ghost use Rattle.link_slots.specs.WordSteps.{room_told, post_told, look_told, release_told, spare_told, parcel_told, ring_look_told, ring_told, hear_look_told, hear_told, pick_told};
+ghost use Rattle.link_slots.specs.WordSteps.{room_told, post_told, look_told, release_told, spare_told, parcel_told, ring_look_told, ring_told, hear_told, pick_told};
 ghost use Rattle.link_slots.specs.View.{without_pick, pick_alone, emptied, gathered, spent};
 ghost use Rattle.link_slots.specs.Shape.{no_shape};
 
@@ -56,13 +56,6 @@ pub(crate) struct Ring;
 
 impl<const CAP: usize> Play<Slot<CAP>, Knows> for Ring {
     ghost then = { ring_told CAP };
-}
-
-/// A look at the doorbell, which is the hear if no bit is set.
-pub(crate) struct LookBeforeHear;
-
-impl<const CAP: usize> Play<Slot<CAP>, Knows> for LookBeforeHear {
-    ghost then = { hear_look_told CAP };
 }
 
 pub(crate) struct Hear;

@@ -15,8 +15,7 @@ ghost use Rattle.link_slots.specs.Shape.{wiring, IsBlank, MayFollow, KeepsLaw};
 ghost use Rattle.link_slots.specs.WordSteps.{room_found, posted, looked_in, released, spare_brought, parcel_brought, rung, heard, IsAtOut, StaysSeated, IsAtIn};
 
 use crate::table::plays::{
-    BringParcel, BringSpare, Hear, LookBeforeHear, LookBeforeRing, LookForRoom, LookIn, Post,
-    Release, Ring,
+    BringParcel, BringSpare, Hear, LookBeforeRing, LookForRoom, LookIn, Post, Release, Ring,
 };
 use crate::table::rule::{Place, Top};
 use item_buffer::Parcel;
@@ -110,7 +109,7 @@ pub(crate) fn ring<const CAP: usize>(
 }
 
 /// Empties the doorbell of the link's hop, and answers the bits that were set. It marks their
-/// links. It looks first: if no bit is set, nothing is written.
+/// links.
 pub(crate) fn hear<const CAP: usize>(
     top: &Top<CAP>,
     place: &mut Place<CAP>,
@@ -123,9 +122,6 @@ pub(crate) fn hear<const CAP: usize>(
     ensures heard { place.new.me.0 ≡ with_logs place.old.me.0
         (after_hear (wiring top.now.key) ((wiring top.now.key).bell link) result (own_logs place.old.me.0)) }
 {
-    if top.load::<LookBeforeHear>(place, word) == 0 {
-        return 0;
-    }
     top.swap::<Hear>(place, word, 0)
 }
 

@@ -65,8 +65,8 @@ returns-in-Ok-Sent-clause-leaves g c =
     let e = c.post.ensures.posts in
     let was : c.post.result ≡ Ok Sent = c.in-Ok-Sent.is ∙ ap Ok c.in-Ok-Sent.field-0-is in
     let over = sym c.take_out-outgoing.ensures.borrowed in
-    let new = sent_from st c.take_out-outgoing.result.state.now c.state-1.given.0 c.args.number c.take_out-outgoing.result.number c.args.link _ _ n c.take_out-outgoing.ensures.number c.take_out-outgoing.ensures.state (c.state-1.given.1 over ∙ c.sent.ensures) in
-    let closes = ap (λ p. p.last) c.take_out-outgoing.ensures.lent in
+    let new = sent_from st c.take_out-outgoing.result.state.now c.state-1.given.0 c.args.number c.take_out-outgoing.result.number c.args.link _ _ n c.take_out-outgoing.ensures.outgoing.0 c.take_out-outgoing.ensures.state (c.state-1.given.1 over ∙ c.sent.ensures) in
+    let closes = ap (λ p. p.last) c.take_out-outgoing.ensures.outgoing.1 in
     let more = ap (λ logs. logs c.args.link) (e.sent was) ∙ added-here (g.P.Port.view c.args.port.now).sent c.args.link q in
     let one = (served_one _ _ st _ c.args.link _ q _ _ _ _ s c.requires.ready c.requires.link c.requires.starts_here t.due t.entries t.last e.same_ins.got new refl closes (e.sent was)) in
     record {
@@ -92,7 +92,7 @@ returns-in-Ok-NoRoom-clause-leaves g c =
     let e = c.post.ensures.posts in
     let no = not_sent _ (c.in-Ok-NoRoom.is ∙ ap Ok c.in-Ok-NoRoom.field-0-is) in
     let over = sym c.take_out-outgoing.ensures.borrowed in
-    let new = reopened st c.take_out-outgoing.result.state.now c.state-in-Ok-NoRoom-1.given.0 c.args.number c.take_out-outgoing.result.number c.args.link _ _ n c.take_out-outgoing.ensures.number c.take_out-outgoing.ensures.state (c.state-in-Ok-NoRoom-1.given.1 over ∙ c.put_back.ensures.state) in
+    let new = reopened st c.take_out-outgoing.result.state.now c.state-in-Ok-NoRoom-1.given.0 c.args.number c.take_out-outgoing.result.number c.args.link _ _ n c.take_out-outgoing.ensures.outgoing.0 c.take_out-outgoing.ensures.state (c.state-in-Ok-NoRoom-1.given.1 over ∙ c.put_back.ensures.state) in
     let keeps = ap (λ p. p.untaken) (e.kept no) ∙ t.entries in
     let none = (served_none _ _ st _ c.args.link _ q _ _ _ _ s c.requires.ready c.requires.link c.requires.starts_here t.due t.entries t.last e.same_ins.got new keeps refl (e.not_sent no)) in
     record {
@@ -115,7 +115,7 @@ returns-in-Err-clause-leaves g c =
     let e = c.post.ensures.posts in
     let no = failed _ _ c.in-Err.is in
     let over = sym c.take_out-outgoing.ensures.borrowed in
-    let new = reopened st c.take_out-outgoing.result.state.now c.state-in-Err-1.given.0 c.args.number c.take_out-outgoing.result.number c.args.link _ _ n c.take_out-outgoing.ensures.number c.take_out-outgoing.ensures.state (c.state-in-Err-1.given.1 over ∙ c.put_back-in-Err.ensures.state) in
+    let new = reopened st c.take_out-outgoing.result.state.now c.state-in-Err-1.given.0 c.args.number c.take_out-outgoing.result.number c.args.link _ _ n c.take_out-outgoing.ensures.outgoing.0 c.take_out-outgoing.ensures.state (c.state-in-Err-1.given.1 over ∙ c.put_back-in-Err.ensures.state) in
     let keeps = ap (λ p. p.untaken) (e.kept no) ∙ t.entries in
     let none = (served_none _ _ st _ c.args.link _ q _ _ _ _ s c.requires.ready c.requires.link c.requires.starts_here t.due t.entries t.last e.same_ins.got new keeps refl (e.not_sent no)) in
     record {
@@ -141,8 +141,8 @@ returns-in-Ok-Sent-clause-out g c =
     let e = c.post.ensures.posts in
     let was : c.post.result ≡ Ok Sent = c.in-Ok-Sent.is ∙ ap Ok c.in-Ok-Sent.field-0-is in
     let over = sym c.take_out-outgoing.ensures.borrowed in
-    let new = sent_from st c.take_out-outgoing.result.state.now c.state-1.given.0 c.args.number c.take_out-outgoing.result.number c.args.link _ _ n c.take_out-outgoing.ensures.number c.take_out-outgoing.ensures.state (c.state-1.given.1 over ∙ c.sent.ensures) in
-    let closes = ap (λ p. p.last) c.take_out-outgoing.ensures.lent in
+    let new = sent_from st c.take_out-outgoing.result.state.now c.state-1.given.0 c.args.number c.take_out-outgoing.result.number c.args.link _ _ n c.take_out-outgoing.ensures.outgoing.0 c.take_out-outgoing.ensures.state (c.state-1.given.1 over ∙ c.sent.ensures) in
+    let closes = ap (λ p. p.last) c.take_out-outgoing.ensures.outgoing.1 in
     (served_one _ _ st _ c.args.link _ q _ _ _ _ s c.requires.ready c.requires.link c.requires.starts_here t.due t.entries t.last e.same_ins.got new refl closes (e.sent was)).out
 
 pub returns-in-Ok-Sent-clause-served : goal.returns-in-Ok-Sent-clause-served
@@ -156,8 +156,8 @@ returns-in-Ok-Sent-clause-served g c =
     let e = c.post.ensures.posts in
     let was : c.post.result ≡ Ok Sent = c.in-Ok-Sent.is ∙ ap Ok c.in-Ok-Sent.field-0-is in
     let over = sym c.take_out-outgoing.ensures.borrowed in
-    let new = sent_from st c.take_out-outgoing.result.state.now c.state-1.given.0 c.args.number c.take_out-outgoing.result.number c.args.link _ _ n c.take_out-outgoing.ensures.number c.take_out-outgoing.ensures.state (c.state-1.given.1 over ∙ c.sent.ensures) in
-    let closes = ap (λ p. p.last) c.take_out-outgoing.ensures.lent in
+    let new = sent_from st c.take_out-outgoing.result.state.now c.state-1.given.0 c.args.number c.take_out-outgoing.result.number c.args.link _ _ n c.take_out-outgoing.ensures.outgoing.0 c.take_out-outgoing.ensures.state (c.state-1.given.1 over ∙ c.sent.ensures) in
+    let closes = ap (λ p. p.last) c.take_out-outgoing.ensures.outgoing.1 in
     let no = no_longer_due _ _ st _ c.args.link _ q _ (g.P.Port.view c.args.port.now).sent _ _ s c.requires.ready c.requires.link c.requires.starts_here t.due t.entries t.last e.same_ins.got new refl closes in
     record { looked = λ d. absurd (no d); crowded = λ d. absurd (no d) }
 
@@ -172,8 +172,8 @@ returns-in-Ok-Sent-clause-waits g c =
     let e = c.post.ensures.posts in
     let was : c.post.result ≡ Ok Sent = c.in-Ok-Sent.is ∙ ap Ok c.in-Ok-Sent.field-0-is in
     let over = sym c.take_out-outgoing.ensures.borrowed in
-    let new = sent_from st c.take_out-outgoing.result.state.now c.state-1.given.0 c.args.number c.take_out-outgoing.result.number c.args.link _ _ n c.take_out-outgoing.ensures.number c.take_out-outgoing.ensures.state (c.state-1.given.1 over ∙ c.sent.ensures) in
-    let closes = ap (λ p. p.last) c.take_out-outgoing.ensures.lent in
+    let new = sent_from st c.take_out-outgoing.result.state.now c.state-1.given.0 c.args.number c.take_out-outgoing.result.number c.args.link _ _ n c.take_out-outgoing.ensures.outgoing.0 c.take_out-outgoing.ensures.state (c.state-1.given.1 over ∙ c.sent.ensures) in
+    let closes = ap (λ p. p.last) c.take_out-outgoing.ensures.outgoing.1 in
     let more = ap (λ logs. logs c.args.link) (e.sent was) ∙ added-here (g.P.Port.view c.args.port.now).sent c.args.link q in
     λ same. absurd (grew _ _ (sym more ∙ same))
 
@@ -188,7 +188,7 @@ returns-in-Ok-NoRoom-clause-out g c =
     let e = c.post.ensures.posts in
     let no = not_sent _ (c.in-Ok-NoRoom.is ∙ ap Ok c.in-Ok-NoRoom.field-0-is) in
     let over = sym c.take_out-outgoing.ensures.borrowed in
-    let new = reopened st c.take_out-outgoing.result.state.now c.state-in-Ok-NoRoom-1.given.0 c.args.number c.take_out-outgoing.result.number c.args.link _ _ n c.take_out-outgoing.ensures.number c.take_out-outgoing.ensures.state (c.state-in-Ok-NoRoom-1.given.1 over ∙ c.put_back.ensures.state) in
+    let new = reopened st c.take_out-outgoing.result.state.now c.state-in-Ok-NoRoom-1.given.0 c.args.number c.take_out-outgoing.result.number c.args.link _ _ n c.take_out-outgoing.ensures.outgoing.0 c.take_out-outgoing.ensures.state (c.state-in-Ok-NoRoom-1.given.1 over ∙ c.put_back.ensures.state) in
     let keeps = ap (λ p. p.untaken) (e.kept no) ∙ t.entries in
     (served_none _ _ st _ c.args.link _ q _ _ _ _ s c.requires.ready c.requires.link c.requires.starts_here t.due t.entries t.last e.same_ins.got new keeps refl (e.not_sent no)).out
 
@@ -203,7 +203,7 @@ returns-in-Ok-NoRoom-clause-waits g c =
     let e = c.post.ensures.posts in
     let no = not_sent _ (c.in-Ok-NoRoom.is ∙ ap Ok c.in-Ok-NoRoom.field-0-is) in
     let over = sym c.take_out-outgoing.ensures.borrowed in
-    let new = reopened st c.take_out-outgoing.result.state.now c.state-in-Ok-NoRoom-1.given.0 c.args.number c.take_out-outgoing.result.number c.args.link _ _ n c.take_out-outgoing.ensures.number c.take_out-outgoing.ensures.state (c.state-in-Ok-NoRoom-1.given.1 over ∙ c.put_back.ensures.state) in
+    let new = reopened st c.take_out-outgoing.result.state.now c.state-in-Ok-NoRoom-1.given.0 c.args.number c.take_out-outgoing.result.number c.args.link _ _ n c.take_out-outgoing.ensures.outgoing.0 c.take_out-outgoing.ensures.state (c.state-in-Ok-NoRoom-1.given.1 over ∙ c.put_back.ensures.state) in
     let keeps = ap (λ p. p.untaken) (e.kept no) ∙ t.entries in
     λ same. still_waits _ _ st _ c.args.link _ q _ (g.P.Port.view c.args.port.now).sent _ _ s c.requires.ready c.requires.link c.requires.starts_here t.due t.entries t.last e.same_ins.got new keeps
 
@@ -218,7 +218,7 @@ returns-in-Err-clause-out g c =
     let e = c.post.ensures.posts in
     let no = failed _ _ c.in-Err.is in
     let over = sym c.take_out-outgoing.ensures.borrowed in
-    let new = reopened st c.take_out-outgoing.result.state.now c.state-in-Err-1.given.0 c.args.number c.take_out-outgoing.result.number c.args.link _ _ n c.take_out-outgoing.ensures.number c.take_out-outgoing.ensures.state (c.state-in-Err-1.given.1 over ∙ c.put_back-in-Err.ensures.state) in
+    let new = reopened st c.take_out-outgoing.result.state.now c.state-in-Err-1.given.0 c.args.number c.take_out-outgoing.result.number c.args.link _ _ n c.take_out-outgoing.ensures.outgoing.0 c.take_out-outgoing.ensures.state (c.state-in-Err-1.given.1 over ∙ c.put_back-in-Err.ensures.state) in
     let keeps = ap (λ p. p.untaken) (e.kept no) ∙ t.entries in
     (served_none _ _ st _ c.args.link _ q _ _ _ _ s c.requires.ready c.requires.link c.requires.starts_here t.due t.entries t.last e.same_ins.got new keeps refl (e.not_sent no)).out
 
@@ -233,7 +233,7 @@ returns-in-Err-clause-waits g c =
     let e = c.post.ensures.posts in
     let no = failed _ _ c.in-Err.is in
     let over = sym c.take_out-outgoing.ensures.borrowed in
-    let new = reopened st c.take_out-outgoing.result.state.now c.state-in-Err-1.given.0 c.args.number c.take_out-outgoing.result.number c.args.link _ _ n c.take_out-outgoing.ensures.number c.take_out-outgoing.ensures.state (c.state-in-Err-1.given.1 over ∙ c.put_back-in-Err.ensures.state) in
+    let new = reopened st c.take_out-outgoing.result.state.now c.state-in-Err-1.given.0 c.args.number c.take_out-outgoing.result.number c.args.link _ _ n c.take_out-outgoing.ensures.outgoing.0 c.take_out-outgoing.ensures.state (c.state-in-Err-1.given.1 over ∙ c.put_back-in-Err.ensures.state) in
     let keeps = ap (λ p. p.untaken) (e.kept no) ∙ t.entries in
     λ same. still_waits _ _ st _ c.args.link _ q _ (g.P.Port.view c.args.port.now).sent _ _ s c.requires.ready c.requires.link c.requires.starts_here t.due t.entries t.last e.same_ins.got new keeps
 
@@ -321,7 +321,7 @@ returns-in-Ok-NoRoom-clause-calls g c =
     let e = c.post.ensures.posts in
     let no = not_sent _ (c.in-Ok-NoRoom.is ∙ ap Ok c.in-Ok-NoRoom.field-0-is) in
     let over = sym c.take_out-outgoing.ensures.borrowed in
-    let new = reopened st c.take_out-outgoing.result.state.now c.state-in-Ok-NoRoom-1.given.0 c.args.number c.take_out-outgoing.result.number c.args.link _ _ n c.take_out-outgoing.ensures.number c.take_out-outgoing.ensures.state (c.state-in-Ok-NoRoom-1.given.1 over ∙ c.put_back.ensures.state) in
+    let new = reopened st c.take_out-outgoing.result.state.now c.state-in-Ok-NoRoom-1.given.0 c.args.number c.take_out-outgoing.result.number c.args.link _ _ n c.take_out-outgoing.ensures.outgoing.0 c.take_out-outgoing.ensures.state (c.state-in-Ok-NoRoom-1.given.1 over ∙ c.put_back.ensures.state) in
     let keeps = ap (λ p. p.untaken) (e.kept no) ∙ t.entries in
     let due = still_due _ _ st _ c.args.link _ q _ (g.P.Port.view c.args.port.now).sent _ _ s c.requires.ready c.requires.link c.requires.starts_here t.due t.entries t.last e.same_ins.got new keeps refl in
     let log = (g.P.Port.view c.args.port.now).sent c.args.link in
@@ -338,7 +338,7 @@ returns-in-Err-clause-still_due g c =
     let e = c.post.ensures.posts in
     let no = failed _ _ c.in-Err.is in
     let over = sym c.take_out-outgoing.ensures.borrowed in
-    let new = reopened st c.take_out-outgoing.result.state.now c.state-in-Err-1.given.0 c.args.number c.take_out-outgoing.result.number c.args.link _ _ n c.take_out-outgoing.ensures.number c.take_out-outgoing.ensures.state (c.state-in-Err-1.given.1 over ∙ c.put_back-in-Err.ensures.state) in
+    let new = reopened st c.take_out-outgoing.result.state.now c.state-in-Err-1.given.0 c.args.number c.take_out-outgoing.result.number c.args.link _ _ n c.take_out-outgoing.ensures.outgoing.0 c.take_out-outgoing.ensures.state (c.state-in-Err-1.given.1 over ∙ c.put_back-in-Err.ensures.state) in
     let keeps = ap (λ p. p.untaken) (e.kept no) ∙ t.entries in
     λ err. still_due _ _ st _ c.args.link _ q _ (g.P.Port.view c.args.port.now).sent _ _ s c.requires.ready c.requires.link c.requires.starts_here t.due t.entries t.last e.same_ins.got new keeps refl
 

@@ -3,8 +3,6 @@ use Rattle.route_tensor.specs.Link.{links}
 use Rattle.route_tensor.specs.Ends.{hop_at}
 use Rattle.hop_core.specs.State.{State}
 use Rattle.hop_core.specs.Standing.{IsState}
-use Rattle.hop_core.specs.Relay.{held}
-use Rattle.route_tensor.specs.Pair.{PassesThrough}
 use Rattle.convey.specs.Buffers.{out_of, in_of}
 use Rattle.convey.specs.Due.{IsBlocked}
 use Rattle.convey.specs.AdvanceSteps.{PassedOn}
@@ -18,9 +16,8 @@ returns-clause-passed g c =
     let e = c.relay.ensures in
     let new : State = c.relay.new.self in
     let t = subst IsState e.rest c.known-2.ensures.standing in
-    let keeps = subst (λ (n : State). (x y : ℕ) → PassesThrough st.dims st.rank x y c.args.h → held n x y c.args.h ≡ held st x y c.args.h) e.rest e.held in
     λ dims rank sent got r. subst (λ n. PassedOn dims rank st n sent got) (sym e.rest)
-    (relayed_one st new.outs new.ins c.args.h c.known.ensures.standing c.requires.first c.requires.last e.adds e.takes t keeps dims rank sent got r)
+    (relayed_one st new.outs new.ins c.args.h c.known.ensures.standing c.requires.first c.requires.last e.relays.adds e.relays.takes t e.relays.held dims rank sent got r)
 
 pub returns-clause-stopped : goal.returns-clause-stopped
 returns-clause-stopped g c =
@@ -29,7 +26,7 @@ returns-clause-stopped g c =
     let new : State = c.relay.new.self in
     let t = subst IsState e.rest c.known-2.ensures.standing in
     subst (λ (n : State). (l : ℕ) → l < links n.dims → hop_at n.dims l ≡ c.args.h → IsBlocked n l) (sym e.rest)
-    (blocked_here st new.outs new.ins c.args.h c.requires.first c.requires.last t e.stopped)
+    (blocked_here st new.outs new.ins c.args.h c.requires.first c.requires.last t e.relays.stopped)
 
 pub returns-clause-ins : goal.returns-clause-ins
 returns-clause-ins g c =
@@ -37,7 +34,7 @@ returns-clause-ins g c =
     let e = c.relay.ensures in
     let new : State = c.relay.new.self in
     subst (λ (n : State). (l : ℕ) → l < links n.dims → hop_at n.dims l ≢ c.args.h → in_of n l ≡ in_of st l) (sym e.rest)
-    (same_ins st new.ins c.args.h c.known.ensures.standing e.takes)
+    (same_ins st new.ins c.args.h c.known.ensures.standing e.relays.takes)
 
 pub returns-clause-outs : goal.returns-clause-outs
 returns-clause-outs g c =
@@ -45,4 +42,4 @@ returns-clause-outs g c =
     let e = c.relay.ensures in
     let new : State = c.relay.new.self in
     subst (λ (n : State). (l : ℕ) → l < links n.dims → hop_at n.dims l ≢ c.args.h + 1 → out_of n l ≡ out_of st l) (sym e.rest)
-    (same_outs st new.outs (c.args.h + 1) c.known.ensures.standing e.adds)
+    (same_outs st new.outs (c.args.h + 1) c.known.ensures.standing e.relays.adds)

@@ -66,12 +66,15 @@ loop-i-preserved g c =
           c.index_mut.ensures.value c.relay_link-count.ensures.outs c.relay_link-count.ensures.ins;
     }
 
-pub returns-clause-stopped : goal.returns-clause-stopped
-returns-clause-stopped g c =
+pub returns-clause-relays : goal.returns-clause-relays
+returns-clause-relays g c =
     let e : links_before c.args.routes.now.dims (c.args.h + 1) ≤ c.loop-i.i = omega (arith, c.first_of-i-end.ensures.value, c.loop-i-test.false) in
-    all_stopped _ _ _ _ _ _ _ _ _ _ c.requires.first (omega (arith, c.requires.last)) e c.loop-i.invariant.relaying
-
-pub returns-clause-in_turn : goal.returns-clause-in_turn
-returns-clause-in_turn g c =
-    let e : links_before c.args.routes.now.dims (c.args.h + 1) ≤ c.loop-i.i = omega (arith, c.first_of-i-end.ensures.value, c.loop-i-test.false) in
-    in_turn_end _ _ _ _ _ _ _ _ _ c.loop-i.invariant.in_turn (hop_end_past c.args.routes.now.dims c.args.h c.loop-i.i c.requires.first (omega (arith, c.requires.last)) e)
+    let done = c.loop-i.invariant.relaying in
+    record {
+      held = done.held;
+      adds = done.adds;
+      takes = done.takes;
+      stopped = all_stopped _ _ _ _ _ _ _ _ _ _ c.requires.first (omega (arith, c.requires.last)) e done;
+      count = done.count;
+      in_turn = in_turn_end _ _ _ _ _ _ _ _ _ c.loop-i.invariant.in_turn (hop_end_past c.args.routes.now.dims c.args.h c.loop-i.i c.requires.first (omega (arith, c.requires.last)) e);
+    }

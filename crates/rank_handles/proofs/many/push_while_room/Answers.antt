@@ -32,7 +32,7 @@ pub loop-count-preserved : goal.loop-count-preserved
 loop-count-preserved g c =
     let n : ℕ = c.loop-count.count in let items = c.args.items.now in let to : List ℕ = c.args.to.now in let a : State = c.args.conveyor.now in let d : State = c.push.new.self in
     let inside : n < length items = c.loop-count-test.true in let same : length to ≡ length items = c.requires.same in let at : n < length to = omega (arith, inside, same) in
-    let more = run_more (steps_of Push n items to) (Push (get_or to n 0) c.item_from-item.result) a c.loop-count.conveyor d c.loop-count.invariant.1 (c.push.ensures.step_accepted c.in-Accepted.is) c.push.ensures.kept
+    let more = run_more (steps_of Push n items to) (Push (get_or to n 0) c.item_from-item.result) a c.loop-count.conveyor d c.loop-count.invariant.1 (c.push.ensures.accepted c.in-Accepted.is).step c.push.ensures.kept
     (push_same c.loop-count.conveyor d c.push.ensures.same) in (
       omega (arith, inside),
       subst (λ (l : List Step). RunOf l a d) (ap (λ (i : Item). steps_of Push n items to ++ Push (get_or to n 0) i ∷ []) c.item_from-item.ensures ∙ sym (steps_plus Push n items to (record { a = 0; b = 0; c = 0 }) 0 inside at)) more,
@@ -42,4 +42,4 @@ pub returns-in-Full-clause-pushed : goal.returns-in-Full-clause-pushed
 returns-in-Full-clause-pushed g c =
     let n : ℕ = c.loop-count.count in
     run_stopped (steps_of Push n c.args.items.now c.args.to.now) n (length c.args.items.now) c.args.conveyor.now c.loop-count.conveyor c.push.new.self c.loop-count-test.true c.loop-count.invariant.1
-    (c.push.ensures.step_full c.in-Full.is) c.push.ensures.kept (push_same c.loop-count.conveyor c.push.new.self c.push.ensures.same)
+    (c.push.ensures.full c.in-Full.is).step c.push.ensures.kept (push_same c.loop-count.conveyor c.push.new.self c.push.ensures.same)

@@ -39,32 +39,6 @@ returns-clause-sender g c =
     let v : c.pull.result ≡ pull_from now o = c.pull.ensures.value ∙ ap give c.self.view_is in
     if_some c.pull.result (λ p. p.0 < ranks now.dims) (λ p r. pulled_sender now o s refl p (sym v ∙ r))
 
-pub returns-clause-unchanged : goal.returns-clause-unchanged
-returns-clause-unchanged g c =
-    let now : State = c.args.self.now in
-    let s : IsState now = subst IsState c.self.view_is c.known.ensures.standing in
-    let o : Option ℕ = lowest_unread now in
-    let state : State → State = λ t. pulled_from t (lowest_unread t) in
-    let give : State → Option (ℕ × Item) = λ t. pull_from t (lowest_unread t) in
-    let e : c.pull.new.self ≡ pulled_from now o = c.pull.ensures.state ∙ ap state c.self.view_is in
-    let v : c.pull.result ≡ pull_from now o = c.pull.ensures.value ∙ ap give c.self.view_is in
-    let gone : c.pull.result ≡ None → o ≡ None = λ r. pulled_none now o s refl (sym v ∙ r) in
-    let calm : c.pull.result ≡ None → c.pull.new.self ≡ record now { pulled = None } = λ r. e ∙ ap (pulled_from now) (gone r) in
-    calm
-
-pub returns-clause-none_unread : goal.returns-clause-none_unread
-returns-clause-none_unread g c =
-    let now : State = c.args.self.now in
-    let s : IsState now = subst IsState c.self.view_is c.known.ensures.standing in
-    let o : Option ℕ = lowest_unread now in
-    let state : State → State = λ t. pulled_from t (lowest_unread t) in
-    let give : State → Option (ℕ × Item) = λ t. pull_from t (lowest_unread t) in
-    let e : c.pull.new.self ≡ pulled_from now o = c.pull.ensures.state ∙ ap state c.self.view_is in
-    let v : c.pull.result ≡ pull_from now o = c.pull.ensures.value ∙ ap give c.self.view_is in
-    let gone : c.pull.result ≡ None → o ≡ None = λ r. pulled_none now o s refl (sym v ∙ r) in
-    let calm : c.pull.result ≡ None → c.pull.new.self ≡ record now { pulled = None } = λ r. e ∙ ap (pulled_from now) (gone r) in
-    λ r. none_unread now s (gone r)
-
 pub returns-clause-kept : goal.returns-clause-kept
 returns-clause-kept g c =
     let now : State = c.args.self.now in
@@ -76,8 +50,8 @@ returns-clause-kept g c =
     let v : c.pull.result ≡ pull_from now o = c.pull.ensures.value ∙ ap give c.self.view_is in
     λ sent got a. subst (λ t. Agrees (buffers_of t) sent got) (sym e) (pulled_kept now o s refl sent got a)
 
-pub returns-clause-step_item : goal.returns-clause-step_item
-returns-clause-step_item g c =
+pub returns-clause-item : goal.returns-clause-item
+returns-clause-item g c =
     let now : State = c.args.self.now in
     let s : IsState now = subst IsState c.self.view_is c.known.ensures.standing in
     let o : Option ℕ = lowest_unread now in
@@ -88,8 +62,8 @@ returns-clause-step_item g c =
     if_some c.pull.result (λ p. IsStepOf (Pull p.0 p.1) now c.pull.new.self) (λ p r sent got a.
     subst (λ t. IsOwnStep (Pull p.0 p.1) (part_of (buffers_of now) sent got) (part_of (buffers_of t) sent got)) (sym e) (pulled_item now o s refl p (sym v ∙ r) sent got a))
 
-pub returns-clause-step_none : goal.returns-clause-step_none
-returns-clause-step_none g c =
+pub returns-clause-none : goal.returns-clause-none
+returns-clause-none g c =
     let now : State = c.args.self.now in
     let s : IsState now = subst IsState c.self.view_is c.known.ensures.standing in
     let o : Option ℕ = lowest_unread now in
@@ -99,4 +73,8 @@ returns-clause-step_none g c =
     let v : c.pull.result ≡ pull_from now o = c.pull.ensures.value ∙ ap give c.self.view_is in
     let gone : c.pull.result ≡ None → o ≡ None = λ r. pulled_none now o s refl (sym v ∙ r) in
     let calm : c.pull.result ≡ None → c.pull.new.self ≡ record now { pulled = None } = λ r. e ∙ ap (pulled_from now) (gone r) in
-    λ r sent got a. subst (λ t. IsOwnStep Idle (part_of (buffers_of now) sent got) (part_of (buffers_of t) sent got)) (sym (calm r)) (idle_step now sent got)
+    λ r. record {
+      none_unread = none_unread now s (gone r);
+      state = calm r;
+      step = λ sent got a. subst (λ t. IsOwnStep Idle (part_of (buffers_of now) sent got) (part_of (buffers_of t) sent got)) (sym (calm r)) (idle_step now sent got);
+    }

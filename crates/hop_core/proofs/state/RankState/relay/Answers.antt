@@ -17,6 +17,6 @@ invariant_of-self g c =
     let r = c.relay_hop-count.ensures in
     let last : c.args.h < length c.self.inside.routes.dims = subst (λ (v : State). c.args.h < length v.dims) (sym c.self.view_is) c.requires.last in (
       c.self.invariant.0,
-      relay_kept _ _ _ _ _ _ _ _ _ c.self.invariant.1 c.requires.first last r.each_out r.each_in r.adds r.takes
+      relay_kept _ _ _ _ _ _ _ _ _ c.self.invariant.1 c.requires.first last r.each_out r.each_in r.relays.adds r.relays.takes
           (c.hop_finished.ensures ∙ ap (λ xs. list_all is_finished (ins_of_hop c.self.inside.routes.dims xs c.args.h)) c.deref.ensures.value),
     )

@@ -1,7 +1,7 @@
 use Rattle.port_bank.specs.Flow.{IsPrefix}
 use mathlib.Core.Option.{some}
 use lib.ListN.{get_elem?}
-use Rattle.std.proofs.Common.{take, ◌≤◌, rules, arith, ◌≡◌, ◌-◌, ◌<◌, ℕ, suc, refl, sym, ap, subst, ◌∙◌, length, false}
+use Rattle.std.proofs.Common.{take, ◌≤◌, rules, arith, ◌≡◌, ◌-◌, ◌<◌, ℕ, suc, refl, sym, ap, subst, ◌∙◌, length}
 use Rattle.item_buffer.specs.Contents.{Contents}
 use Rattle.route_tensor.specs.Ends.{hop_at}
 use Rattle.link_slots.specs.Logs.{InLog, Lists, out_of, in_of, with_in, taken_more, listens}

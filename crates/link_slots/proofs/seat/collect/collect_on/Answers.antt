@@ -1,4 +1,4 @@
-use Rattle.std.proofs.Common.{take_all, rules, arith, ◌≡◌, ◌-◌, ℕ, refl, sym, ap, ◌∙◌, length, false, eqb}
+use Rattle.std.proofs.Common.{take_all, rules, arith, ◌≡◌, ℕ, refl, sym, ap, ◌∙◌, length, false, eqb}
 use Rattle.item_buffer.specs.Contents.{Contents}
 use Rattle.link_slots.specs.Logs.{InLog, in_of}
 use Rattle.link_slots.specs.View.{own_logs}

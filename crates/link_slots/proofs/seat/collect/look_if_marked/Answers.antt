@@ -1,4 +1,4 @@
-use Rattle.std.proofs.Common.{arith, ◌≡◌, ◌+◌, ◌-◌, ◌^◌, ℕ, suc, refl, sym, ap, subst, ◌∙◌, true, false, eqb, eq-eqb, min}
+use Rattle.std.proofs.Common.{arith, ◌≡◌, ℕ, suc, refl, sym, ap, subst, ◌∙◌, true, false, eqb, eq-eqb}
 use Rattle.std.specs.Int.Bits.{bit_xor}
 use Rattle.item_buffer.specs.Contents.{Contents}
 use Rattle.route_tensor.specs.Ends.{hop_at}
@@ -6,7 +6,6 @@ use Rattle.link_slots.specs.Logs.{InLog, Lists, in_of, with_in}
 use Rattle.link_slots.specs.View.{own_logs, with_logs}
 use Rattle.link_slots.specs.Shape.{Shape, wiring}
 use Rattle.link_slots.specs.WordSteps.{TableView}
-use Rattle.list_laws.specs.Counts.{saturated_count}
 use Rattle.link_slots.specs.Counts.{IsInEnd, IsHeard, KeepsOtherLinks}
 use Rattle.link_slots.proofs.Moves.{own_with}
 use Rattle.link_slots.proofs.HeldSeats.{in_after, same_in}

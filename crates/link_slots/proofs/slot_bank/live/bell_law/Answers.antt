@@ -1,4 +1,4 @@
-use Rattle.std.proofs.Common.{arith, ◌≡◌, ℕ, ap, inr, ⊎_elim}
+use Rattle.std.proofs.Common.{arith, ap, ⊎_elim}
 use Rattle.item_buffer.specs.Contents.{Contents}
 use Rattle.route_tensor.specs.Ends.{sender_at, reader_at}
 use Rattle.link_slots.specs.Logs.{OutLog, out_of, in_of}

@@ -1,7 +1,6 @@
-use Rattle.std.proofs.Common.{arith, ◌≡◌, ◌+◌, ℕ, length, ap, ⊎_elim}
+use Rattle.std.proofs.Common.{arith, ap, ⊎_elim}
 use Rattle.item_buffer.specs.Contents.{Contents}
-use Rattle.route_tensor.specs.Ends.{sender_at, reader_at}
-use Rattle.link_slots.specs.Logs.{InLog, out_of, in_of}
+use Rattle.link_slots.specs.Logs.{InLog}
 use Rattle.link_slots.proofs.slot_bank.live.room_law.Goals as goal
 
 pub returns-clause-full : goal.returns-clause-full

@@ -18,7 +18,7 @@ returns-in_default g c =
     let old = c.self.inside.conveyor in let new = c.pull.new.self in let seat = seat_in c.self.inside.seat in let l = lowest_unread old in let is = c.pull.ensures.state in
     let begun : old.phase ≢ Dormant = λ e. c.in_default.not-Dormant (c.phase.ensures.value ∙ e) in
     let both = subst (λ (r : Result (ℕ × Item) Answer). IfOk r (λ p. Moved (Pull p.0 p.1) old.phase (at seat old) (at seat new)) × (r ≡ Err Nothing → Moved Idle old.phase (at seat old) (at seat new))) (sym c.some_item.ensures)
-    (pull_moved seat old new c.pull.result c.self.invariant.at_bank.agrees c.pull.ensures.step_item c.pull.ensures.step_none
+    (pull_moved seat old new c.pull.result c.self.invariant.at_bank.agrees c.pull.ensures.item (λ n. (c.pull.ensures.none n).step)
     (ap (λ (z : State). z.phase) is ∙ pulled_phase old l) (ap (λ (z : State). z.rank) is ∙ pulled_rank old l) (ap (λ (z : State). z.dims) is ∙ pulled_dims old l)) in
     let seen = subst (λ (z : Seated). IfOk c.some_item.result (λ p. Moved (Pull p.0 p.1) z.state.phase z (at seat new)) × (c.some_item.result ≡ Err Nothing → Moved Idle z.state.phase z (at seat new))) c.self.view_is both in
     let value = c.some_item.ensures ∙ (ap item_or_nothing c.pull.ensures.value ∙ (begun_pull old.phase (item_or_nothing (pull_from old l)) begun ∙ ap pull_result c.self.view_is)) in
@@ -27,7 +27,7 @@ returns-in_default g c =
       pulls = pulls_begun c.args.self.now (at seat new) c.some_item.result value (λ e. never_not_begun c.pull.result (sym c.some_item.ensures ∙ e)) (ap (λ (z : Seated). z.seat) c.self.view_is) seen.0 seen.1
           (subst (λ (z : Seated). IfOk c.some_item.result (λ p. p.0 < ranks z.state.dims)) c.self.view_is
           (subst (λ (r : Result (ℕ × Item) Answer). IfOk r (λ p. p.0 < ranks old.dims)) (sym c.some_item.ensures) (sender_ok (ranks old.dims) c.pull.result c.pull.ensures.sender)))
-          (λ e. ap (λ (z : State). pull_result (at seat z)) (c.pull.ensures.unchanged (none_given c.pull.result (sym c.some_item.ensures ∙ e))) ∙ (ap pull_result c.self.view_is ∙ (sym value ∙ e)));
+          (λ e. ap (λ (z : State). pull_result (at seat z)) (c.pull.ensures.none (none_given c.pull.result (sym c.some_item.ensures ∙ e))).state ∙ (ap pull_result c.self.view_is ∙ (sym value ∙ e)));
     }
 
 pub invariant_of-self : goal.invariant_of-self

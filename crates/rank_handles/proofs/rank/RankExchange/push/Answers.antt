@@ -21,9 +21,9 @@ returns-after-push-clause-pushes g c =
     let phase : st.phase ≡ Working = ap (λ (z : State). z.phase) same ∙ working in
     let rank = lt-ltb to (ranks old.dims) (omega (arith, c.if-to-self.false, c.self.invariant.count_is)) in
     subst (λ (z : Seated). Pushes item to z (at seat st)) c.self.view_is (elim c.match-push.branch [
-      | in-Accepted w ↦ pushes_good item to (at seat old) (at seat st) (push_good (at seat old) to working rank (omega (arith, c.push.ensures.room w.in-Accepted.is, c.phase.ensures.stands.cap_is))) refl
-          (moved seat old st (Push to item) Working agrees (c.push.ensures.step_accepted w.in-Accepted.is) phase (ap (λ (z : State). z.rank) same) (ap (λ (z : State). z.dims) same))
-      | in-Full w ↦ pushes_full item to (at seat old) (at seat st) (push_full (at seat old) to working rank (omega (arith, c.push.ensures.full w.in-Full.is, c.phase.ensures.stands.cap_is)))
-          (ap (λ (z : State). push_answer (at seat z) to) (c.push.ensures.unchanged w.in-Full.is) ∙ push_full (at seat old) to working rank (omega (arith, c.push.ensures.full w.in-Full.is, c.phase.ensures.stands.cap_is))) refl
-          (moved seat old st Idle Working agrees (c.push.ensures.step_full w.in-Full.is) phase (ap (λ (z : State). z.rank) same) (ap (λ (z : State). z.dims) same))
+      | in-Accepted w ↦ pushes_good item to (at seat old) (at seat st) (push_good (at seat old) to working rank (omega (arith, (c.push.ensures.accepted w.in-Accepted.is).room, c.phase.ensures.stands.cap_is))) refl
+          (moved seat old st (Push to item) Working agrees (c.push.ensures.accepted w.in-Accepted.is).step phase (ap (λ (z : State). z.rank) same) (ap (λ (z : State). z.dims) same))
+      | in-Full w ↦ pushes_full item to (at seat old) (at seat st) (push_full (at seat old) to working rank (omega (arith, (c.push.ensures.full w.in-Full.is).full, c.phase.ensures.stands.cap_is)))
+          (ap (λ (z : State). push_answer (at seat z) to) (c.push.ensures.full w.in-Full.is).state ∙ push_full (at seat old) to working rank (omega (arith, (c.push.ensures.full w.in-Full.is).full, c.phase.ensures.stands.cap_is))) refl
+          (moved seat old st Idle Working agrees (c.push.ensures.full w.in-Full.is).step phase (ap (λ (z : State). z.rank) same) (ap (λ (z : State). z.dims) same))
     ])

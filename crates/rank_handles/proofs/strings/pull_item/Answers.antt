@@ -9,7 +9,7 @@ use Rattle.rank_handles.proofs.strings.pull_item.Goals as goal
 pub returns-in_err-from-clause-pulled : goal.returns-in_err-from-clause-pulled
 returns-in_err-from-clause-pulled c =
     let e = err_from_is_err_and c.from_residual.result c.from_residual.ensures.1 in
-    subst (λ (r : Result (Option ℕ) Answer). ItemPulled r c.args.letter.now.items c.args.rank.now c.pull.new.self) (sym (e.1.0 ∙ ap Err e.1.1))
+    subst (λ (r : Result (Option ℕ) Answer). ItemPulled r c.args.letter.now.items c.args.rank.now c.pull.new.self) (sym (e.1 ∙ ap Err e.2))
     (item_none c.args.letter.now.items _ c.args.rank.now c.pull.new.self c.in_err-from.field-0.0 c.requires.begun c.requires.read (sym c.in_err-from.ensures.value) c.pull.ensures.pulls).0
 
 pub returns-in_err-from-clause-read : goal.returns-in_err-from-clause-read

@@ -1,6 +1,6 @@
 -- Pulling items, and the strings that they make whole.
 use Rattle.std.proofs.Common.{◌≡◌, ◌≢◌, ℕ, ◌+◌, ◌-◌, ◌<◌, ◌≤◌, ◌==◌, ◌&&◌, Bool, true, false, not, cond, nat_lt, List, [], ◌∷◌, ◌++◌, length, take, Option, Some, None, Result, Ok, Err, arith, refl, sym, ap, ◌∙◌, subst, inl, inr}
-use Rattle.std.specs.Prelude.{is_some, if◌then◌else◌}
+use Rattle.std.specs.Prelude.{is_some, is_ok, if◌then◌else◌}
 use Rattle.std.specs.Option.{option_map}
 use Rattle.std.proofs.lemmas.Bool.{cases_eq, eq-eqb, ne_eqb}
 use Rattle.std.proofs.lemmas.List.{length-append, length-set, length-take}
@@ -19,11 +19,12 @@ use Rattle.hop_core.specs.State.{State}
 use Rattle.convey.specs.Buffers.{back_of}
 use Rattle.elastic.specs.Mails.{is_whole, letter_of, with_next_item, begun_after}
 use Rattle.rank_handles.specs.declared.answer.Answer.{Answer}
-use Rattle.rank_handles.specs.declared.answer.Answer.TheVariants.{Good, Nothing, NoMemory}
+use Rattle.rank_handles.specs.declared.answer.Answer.TheVariants.{Good, Nothing, NoMemory, NotBegun}
 use Rattle.rank_handles.specs.Seated.{Seated, Moved, part}
 use Rattle.rank_handles.specs.Answers.{pull_result, unpull_answer}
 use Rattle.rank_handles.specs.Calls.{Pulls, Unpulls}
-use Rattle.rank_handles.specs.Strings.{strings_of, with_string}
+use Rattle.rank_handles.specs.Strings.{ElasticState, strings_of, with_string}
+use Rattle.rank_handles.specs.StringCalls.{PullsString}
 use Rattle.rank_handles.specs.ElasticKept.{AreStrings, KeepsBegun, IsElastic, came_from, unpulled, OnlyPulled, NoString, OneString, StringPulled}
 use Rattle.rank_handles.proofs.StringLists.{pushed_same, read_whole, read_part, begun_as_pulled, BegunAs, put_back}
 use Rattle.rank_handles.proofs.StringWalks.{walked_none, walked_one, walked_both, ahead_walked, step_is, phase_after, read_same, undone_same}
@@ -235,4 +236,54 @@ elastic_read p begun begun' a b only kept read = record {
     whole = λ r. subst AreStrings (λ i. sym (pushed_same (part a) (part b) p only.epoch only.pushed) i (sym only.epoch i) r) (kept.sent.whole r);
   };
   read = read;
+}
+
+pub only_of : (r : Result ℕ Answer) (l : List ℕ) (a b : Seated) → StringPulled r l a b → OnlyPulled a b
+only_of (Ok f) l a b p = p.given.only
+only_of (Err e) l a b p = p.none.only
+
+-- as calls on an elastic rank tell it
+pub strings_pulled : (r : Result ℕ Answer) (p : List (ℕ × Item)) (s : Option (List ℕ)) (l : List ℕ) (a b : Seated) → a.state.phase ≢ Dormant → StringPulled r l a b
+    → PullsString r (record { rank = a; pending = p; string = s }) (record { rank = b; pending = p; string = if is_ok r then Some l else None })
+unfolding PullsString
+strings_pulled (Ok f) p s l a b begun pulled = let only = pulled.given.only in record {
+  not_begun = λ e. absurd (begun e);
+  given = λ _. record {
+    walked = only.walked;
+    given = l;
+    string = refl;
+    from_is = pulled.given.strings;
+    toward = ap strings_of (pushed_same (part a) (part b) p only.epoch only.pushed);
+    phase = only.phase;
+    pending = refl;
+  };
+  none = λ _. tt;
+  errors = λ _. tt;
+  nothing = λ e. absurd cc;
+}
+strings_pulled (Err e) p s l a b begun pulled = let only = pulled.none.only in record {
+  not_begun = λ e. absurd (begun e);
+  given = λ _. tt;
+  none = λ _. record {
+    walked = only.walked;
+    string = refl;
+    same = record {
+      toward = ap strings_of (pushed_same (part a) (part b) p only.epoch only.pushed);
+      from = pulled.none.strings;
+    };
+    phase = only.phase;
+    pending = refl;
+  };
+  errors = λ _. pulled.errors;
+  nothing = pulled.nothing;
+}
+
+pub none_begun_yet : (s : ElasticState) → s.rank.state.phase ≡ Dormant → PullsString (Err NotBegun) s s
+unfolding PullsString
+none_begun_yet s dormant = record {
+  not_begun = λ _. (refl, refl);
+  given = λ begun. absurd (begun dormant);
+  none = λ begun. absurd (begun dormant);
+  errors = λ begun. absurd (begun dormant);
+  nothing = λ e. absurd cc;
 }

@@ -1,5 +1,6 @@
 -- Pushing what is pending, and a string.
 use Rattle.std.proofs.Common.{◌≡◌, ◌≢◌, ℕ, ◌-◌, not, List, [], ◌∷◌, map, Option, refl, sym, ap, ◌∙◌, subst, inl, inr}
+use Rattle.std.specs.List.{All}
 use Rattle.bale_items.specs.declared.item.Item.{Item}
 use Rattle.port_bank.specs.Machine.{Part}
 use Rattle.port_bank.specs.Machine.Step.{Push, Idle}
@@ -9,12 +10,12 @@ use Rattle.rank_handles.specs.declared.answer.Answer.TheVariants.{Good, Full}
 use Rattle.rank_handles.specs.Seated.{Seated, part}
 use Rattle.rank_handles.specs.Answers.{push_answer}
 use Rattle.rank_handles.specs.Calls.{Pushes}
-use Rattle.rank_handles.specs.Strings.{pushed_with, strings_of}
-use Rattle.rank_handles.specs.StringCalls.{PushesString}
+use Rattle.rank_handles.specs.Strings.{ElasticState, pushed_with, strings_of}
+use Rattle.rank_handles.specs.StringCalls.{PushesString, string_answer}
 use Rattle.rank_handles.specs.ElasticKept.{AreStrings, IsSent, IsElastic, PendingMoved, PendingPushed}
 use Rattle.rank_handles.proofs.StringLists.{pushed_one, strings_pending, whole_pending}
 use Rattle.rank_handles.proofs.StringWalks.{walked_none, walked_one, walked_both, ahead_walked, step_is, phase_after, read_same, undone_same}
-use Rattle.rank_handles.proofs.StringAnswers.{good_working, full_working, is_full}
+use Rattle.rank_handles.proofs.StringAnswers.{good_working, full_working, is_full, string_fits}
 
 pub pending_none : (pending : List (ℕ × Item)) (a : Seated) → PendingMoved pending a pending a
 pending_none pending a = record { walked = walked_none a; phase = refl; done = refl; epoch = refl; pulled = refl; same = refl }
@@ -144,3 +145,31 @@ string_pushed to l q string begun a b working is kept pushed = record {
   phase = pushed.moved.phase ∙ working;
   string = refl;
 }
+
+-- ---- A push that is answered Good, if there is memory
+
+module _ (to : ℕ) (l : List ℕ) (begun : List (List Item)) (s : ElasticState) (good : string_answer s l to ≡ Good) (kept : IsElastic s.rank s.pending begun) where
+  pub nothing_pending : s.pending ≡ []
+  nothing_pending = (string_fits s l to good).1.1
+
+  kept_none : IsElastic s.rank [] begun
+  kept_none = subst (λ (p : List (ℕ × Item)). IsElastic s.rank p begun) nothing_pending kept
+
+  -- without memory
+  pub refused_kept : (q : List (ℕ × Item)) → q ≡ [] → IsElastic s.rank q begun
+  refused_kept q none = subst (λ (p : List (ℕ × Item)). IsElastic s.rank p begun) (sym none) kept_none
+
+  pub refused_same : (q : List (ℕ × Item)) → q ≡ [] → ◌≡◌ {A = ElasticState} (record { rank = s.rank; pending = q; string = s.string }) s
+  refused_same q none = λ i. record { rank = s.rank; pending = (none ∙ sym nothing_pending) i; string = s.string }
+
+  -- with memory
+  module _ (q : List (ℕ × Item)) (b : Seated) (bytes : All (λ x. x < 256) l) (pushed : PendingPushed (map (λ x. (to, x)) (spelling l)) s.rank q b) where
+    is_letter : IsLetter l
+    is_letter = record { short = (string_fits s l to good).1.0; bytes = bytes }
+
+    pub good_kept : IsElastic b q begun
+    good_kept = string_kept to l q begun s.rank b (string_fits s l to good).0 is_letter kept_none pushed
+
+    pub good_pushed : PushesString l to s (record { rank = b; pending = q; string = s.string })
+    good_pushed = subst (λ (p : List (ℕ × Item)). PushesString l to (record { rank = s.rank; pending = p; string = s.string }) (record { rank = b; pending = q; string = s.string })) (sym nothing_pending)
+        (string_pushed to l q s.string begun s.rank b (string_fits s l to good).0 is_letter kept_none pushed)

@@ -114,7 +114,7 @@ module _ (p q : List (ℕ × Item)) (begun : List (List Item)) (done d : Bool) (
         };
         ahead = ahead_walked b c walked before.ahead;
         sent = record {
-          working = idle_none no;
+          working = idle_none bad;
           whole = λ r. subst AreStrings (λ i. sym (pushed_same (part b) (part c) q (epoch_same bad) (lists_same bad)) i (sym (epoch_same bad) i) r) (before.sent.whole r);
         };
         read = read_same b c begun walked.dims (epoch_same bad) (taken_same bad) before.read;

@@ -1,5 +1,5 @@
 -- An epoch of an elastic rank begins, or ends.
-use Rattle.std.proofs.Common.{◌≡◌, ℕ, zero, suc, ◌+◌, ◌-◌, ◌<◌, false, not, List, [], length, get_or, replicate, Option, arith, refl, sym, ap, ◌∙◌, subst, inl, inr}
+use Rattle.std.proofs.Common.{◌≡◌, ◌≢◌, ℕ, zero, suc, ◌+◌, ◌-◌, ◌<◌, false, not, List, [], length, get_or, replicate, Option, arith, refl, sym, ap, ◌∙◌, subst, inl, inr}
 use Rattle.std.proofs.lemmas.List.{length-replicate}
 use Rattle.bale_items.specs.declared.item.Item.{Item}
 use Rattle.route_tensor.specs.Grid.{ranks}
@@ -91,6 +91,10 @@ elastic_reset p begun begun' a b resets kept good none =
             ∙ sym (ap (begun_items []) ((λ i. (is i).pulled (epoch i) r) ∙ (kept.ahead ((part a).epoch + 1) r later).1));
       };
     }
+
+pub elastic_unreset : (p : List (ℕ × Item)) (begun : List (List Item)) (a b : Seated) → Resets a b → reset_answer a ≢ Good → IsElastic a p begun → IsElastic b p begun
+unfolding Resets
+elastic_unreset p begun a b resets bad kept = subst (λ (s : Seated). IsElastic s p begun) (sym (resets.misuse bad)) kept
 
 pub strings_reset : (p : List (ℕ × Item)) (s : Option (List ℕ)) (begun : List (List Item)) (a b : Seated) → IsElastic a p begun → Resets a b → ResetsStrings (record { rank = a; pending = p; string = s }) (record { rank = b; pending = p; string = s })
 unfolding Resets ResetsStrings

@@ -23,7 +23,7 @@ use Rattle.rank_handles.specs.ElasticKept.{AreStrings, IsUntouched, IsUndone, Is
 use Rattle.rank_handles.proofs.StringLists.{replicate_or, nothing_either, none_at, no_strings}
 
 module _ (dims : List ℕ) (rank cap : ℕ) (steady : Bool) where
-  fresh : State
+  abbrev fresh : State
   fresh = new_state dims rank cap steady
 
   fresh_waiting : (l : ℕ) → (out_of fresh l).parcel.untaken ≡ []

@@ -4,7 +4,7 @@
 //! room in the open buffers is kept here, and pushed before anything else by the advances that
 //! follow. Of each sender the items of the string that it has begun are kept until the last one
 //! comes.
-ghost use Rattle.std.specs.Prelude.{◌≡◌, ◌≢◌, [], map, replicate, Some, None};
+ghost use Rattle.std.specs.Prelude.{◌≡◌, ◌≢◌, true, false, [], map, replicate, Some, None};
 ghost use Rattle.std.specs.Option.{option_map};
 ghost use Rattle.route_tensor.specs.Grid.{ranks};
 ghost use Rattle.rank_handles.specs.Seated.{part};
@@ -164,13 +164,23 @@ impl ElasticRank {
     pub fn pull(&mut self) -> Result<u32, Answer>
         ensures { PullsString result self.old self.new }
     {
-        match self.rank.phase() {
-            None | Some(Phase::Dormant) => return Err(Answer::NotBegun),
-            Some(_) => (),
+        if !self.has_begun() {
+            return Err(Answer::NotBegun);
         }
         let pulled = pull_string(&mut self.rank, &mut self.begun, &mut self.letter);
         self.gave = pulled.is_ok();
         pulled
+    }
+
+    /// Whether an epoch has begun.
+    fn has_begun(&self) -> bool
+        ensures begun { result ≡ true → self.now.rank.state.phase ≢ Phase.Dormant }
+        ensures dormant { result ≡ false → self.now.rank.state.phase ≡ Phase.Dormant }
+    {
+        match self.rank.phase() {
+            None | Some(Phase::Dormant) => false,
+            Some(_) => true,
+        }
     }
 
     /// Pushes what is pending, advances the exchange, and tells how far the rank is. As long as

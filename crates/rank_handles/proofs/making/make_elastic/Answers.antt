@@ -1,5 +1,7 @@
-use Rattle.std.proofs.Common.{◌≡◌, ℕ, List, [], replicate, sym, ap, ◌∙◌, subst}
-use Rattle.rank_handles.specs.Handles.{HasNewElastic}
+use Rattle.std.proofs.Common.{◌≡◌, ℕ, List, [], Some, replicate, sym, ap, ◌∙◌, subst}
+use Rattle.rank_handles.specs.declared.part.Part.{Part}
+use Rattle.rank_handles.specs.Strings.{ElasticState}
+use Rattle.rank_handles.specs.Handles.{group_in, HasNewElastic}
 use Rattle.rank_handles.proofs.StringStarts.{new_fresh, new_undone, new_ranks, new_elastic}
 use Rattle.rank_handles.proofs.making.make_elastic.Goals as goal
 
@@ -16,4 +18,7 @@ new-requires-in-Ok-new_rank-clause-begun c =
 
 pub returns-in-Ok-new_rank-clause-made : goal.returns-in-Ok-new_rank-clause-made
 unfolding HasNewElastic
-returns-in-Ok-new_rank-clause-made c = ?
+returns-in-Ok-new_rank-clause-made c =
+    let group = c.in-Group.group in let made : ElasticState = c.new-in-Ok-new_rank.result in
+    subst (λ (p : Part). HasNewElastic (group_in (Some p)) c.args.rank (Some made)) (sym c.in-Group.is)
+    (subst (λ (e : ElasticState). HasNewElastic (Some group) c.args.rank (Some e)) (sym c.new-in-Ok-new_rank.ensures) (new_elastic group c.args.rank c.in-Ok-new_rank.made c.in-Ok-new_rank.ensures.made))

@@ -17,8 +17,8 @@ moved xs ys n m a b same pushed = subst (λ (zs : List (ℕ × Item)). PendingPu
 then_told : (done none d : Bool) → done ≡ true → d ≡ none → d ≡ (done && none)
 then_told done none d is told = told ∙ ap (λ (t : Bool). t && none) (sym is)
 
-else_told : (done none d : Bool) → done ≡ false → d ≡ false → d ≡ (done && none)
-else_told done none d is told = told ∙ ap (λ (t : Bool). t && none) (sym is)
+else_told : (done none d : Bool) → done ≡ false → d ≡ done → d ≡ (done && none)
+else_told done none d is told = told ∙ is ∙ ap (λ (t : Bool). t && none) (sym is)
 
 pub invariant_of-self : goal.invariant_of-self
 invariant_of-self c =

@@ -6,17 +6,10 @@ use Rattle.rank_handles.specs.Seated.{Seated}
 use Rattle.rank_handles.specs.Strings.{ElasticState}
 use Rattle.rank_handles.specs.StringCalls.{PullsString}
 use Rattle.rank_handles.proofs.StringPulls.{only_of, elastic_read, strings_pulled, none_begun_yet}
-use Rattle.rank_handles.proofs.elastic_rank.ElasticRank.pull.Goals.{in-None-1, in-Some+in-Dormant-1}
 use Rattle.rank_handles.proofs.elastic_rank.ElasticRank.pull.Goals as goal
 
-pub returns-in-None : goal.returns-in-None
-returns-in-None c =
-    let x = c.self.inside in
-    let dormant : x.rank.state.phase ≡ Dormant = elim c.in-None-1.branch [
-      | in-None-1 w ↦ let h = w in ?
-      | in-Some+in-Dormant-1 w ↦ let h = w in ?
-    ] in
-    none_begun_yet c.args.self.now (ap (λ (z : ElasticState). z.rank.state.phase) (sym c.self.view_is) ∙ dormant)
+pub returns-then-not-has_begun : goal.returns-then-not-has_begun
+returns-then-not-has_begun c = none_begun_yet c.args.self.now (c.has_begun.ensures.dormant c.if-not-has_begun.true)
 
 pub invariant_of-self : goal.invariant_of-self
 invariant_of-self c =
@@ -26,9 +19,9 @@ invariant_of-self c =
 
 pub returns : goal.returns
 returns c =
-    let x = c.self.inside in let pulled = c.pull_string-pulled in let h = c.in-Some in
+    let x = c.self.inside in let pulled = c.pull_string-pulled in
     let p = drop x.pushed x.spelled.items in let l : List ℕ = pulled.new.letter.items in let b : Seated = pulled.new.rank in
-    let begun : x.rank.state.phase ≢ Dormant = ? in
+    let begun : x.rank.state.phase ≢ Dormant = λ e. c.has_begun.ensures.begun c.if-not-has_begun.false (ap (λ (z : ElasticState). z.rank.state.phase) (sym c.self.view_is) ∙ e) in
     let string : Option (List ℕ) = if x.gave then Some x.letter.items else None in
     subst (λ (g : Bool). PullsString pulled.result c.args.self.now (record { rank = b; pending = p; string = if g then Some l else None })) (sym c.is_ok-self-inside.ensures.value)
     (subst (λ (z : ElasticState). PullsString pulled.result z (record { rank = b; pending = p; string = if is_ok pulled.result then Some l else None })) c.self.view_is

@@ -90,7 +90,6 @@ pull_err Endgame o a begun e = item_err o a e
 pull_err Cleanup o a begun e = item_err o a e
 pull_err Complete o a begun e = item_err o a e
 
-
 pub begins_dormant : (p : Phase) → begin_answer p ≡ Good → p ≡ Dormant
 begins_dormant Dormant e = refl
 begins_dormant Working e = absurd cc
@@ -142,7 +141,6 @@ none_nil q e = nil_from_length q (eqb-true (length q) 0 e)
 
 pub nil_none : (q : List (ℕ × Item)) → q ≡ [] → is_none_pending q ≡ true
 nil_none q e = ap is_none_pending e
-
 
 fits_case : (p : Phase) (rank long none : Bool) → while_working p (if not rank then NoSuchRank else if long then TooLong else if none then Good else Full) ≡ Good
     → (p ≡ Working) × ((rank ≡ true) × ((long ≡ false) × (none ≡ true)))

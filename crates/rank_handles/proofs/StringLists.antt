@@ -1,8 +1,8 @@
 -- Strings pushed, pending and pulled, by the exchange machine's lists.
-use Rattle.std.proofs.Common.{◌≡◌, ◌≢◌, ℕ, zero, suc, ◌+◌, ◌-◌, ◌<◌, ◌≤◌, ◌==◌, ◌&&◌, Bool, true, false, cond, List, [], ◌∷◌, ◌++◌, map, length, take, drop, get_or, set, replicate, All, Option, Some, None, arith, refl, sym, ap, ◌∙◌, subst, inl, inr}
+use Rattle.std.proofs.Common.{◌≡◌, ◌≢◌, ℕ, zero, suc, ◌+◌, ◌-◌, ◌<◌, ◌==◌, ◌&&◌, Bool, true, false, cond, List, [], ◌∷◌, ◌++◌, map, length, take, get_or, set, replicate, Option, Some, None, arith, refl, sym, ap, ◌∙◌, subst, inl, inr}
 use Rattle.std.specs.List.{flat_map, filter}
 use Rattle.std.proofs.lemmas.Bool.{cases_eq, eq-eqb, ne_eqb, eqb-true, and_parts}
-use Rattle.std.proofs.lemmas.List.{append_assoc, append-nil, length-append, length-set, take_at, get_or-set_same, get_or-set_other}
+use Rattle.std.proofs.lemmas.List.{append_assoc, append-nil, length-append, take_at, get_or-set_same, get_or-set_other}
 use Rattle.std.proofs.lemmas.List.Elements.{All-nil, All-cons, All-append}
 use Rattle.std.proofs.lemmas.Grind.{flat_map-append}
 use Rattle.bale_items.specs.declared.item.Item.{Item}
@@ -17,7 +17,7 @@ use Rattle.elastic.proofs.Letters.{left_more, letters_more, spellings_are_read}
 use Rattle.elastic.proofs.Runs.{one_letter}
 use Rattle.rank_handles.specs.Many.{after_all}
 use Rattle.rank_handles.specs.Strings.{pushed_with, strings_of, with_string}
-use Rattle.rank_handles.specs.ElasticKept.{AreStrings, IsAhead, IsUntouched}
+use Rattle.rank_handles.specs.ElasticKept.{AreStrings, IsAhead}
 
 eq_swap : (a b : ℕ) → (a == b) ≡ (b == a)
 eq_swap a b =

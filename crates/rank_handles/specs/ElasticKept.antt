@@ -1,5 +1,5 @@
 -- What is kept of an elastic rank, and what one of its pulls of an item leaves.
-use Rattle.std.specs.Prelude.{◌≡◌, ◌≢◌, ℕ, ◌+◌, ◌-◌, ◌<◌, List, [], ◌∷◌, length, slice_index_or, Option, Some, None}
+use Rattle.std.specs.Prelude.{◌≡◌, ◌≢◌, ℕ, ◌-◌, ◌<◌, List, [], length, slice_index_or, Option, Some, None}
 use Rattle.std.specs.Prelude.{◌⊎◌, Result, Ok, Err, IfOk, OnErr, IfErr, false}
 use Rattle.std.specs.List.{All, flat_map}
 use Rattle.bale_items.specs.declared.item.Item.{Item}

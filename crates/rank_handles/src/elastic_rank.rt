@@ -50,7 +50,11 @@ impl Model for ElasticRank {
 
     ghost use Rattle.rank_handles.specs.ElasticKept.{IsElastic};
 
-    ghost view = { λ r. record { rank = r.rank; pending = drop r.pushed r.spelled.items; string = if r.gave then Some r.letter.items else None } };
+    ghost view = { λ r. record {
+      rank = r.rank;
+      pending = drop r.pushed r.spelled.items;
+      string = if r.gave then Some r.letter.items else None;
+    } };
 
     ghost invariant = { λ r. IsElastic r.rank (drop r.pushed r.spelled.items) (map (λ l. l.items) r.begun.items) };
 }

@@ -1,4 +1,4 @@
-use Rattle.std.proofs.Common.{◌≡◌, ℕ, List, [], Some, replicate, sym, ap, ◌∙◌, subst}
+use Rattle.std.proofs.Common.{ℕ, [], Some, replicate, sym, ap, ◌∙◌, subst}
 use Rattle.rank_handles.specs.declared.part.Part.{Part}
 use Rattle.rank_handles.specs.Strings.{ElasticState}
 use Rattle.rank_handles.specs.Handles.{group_in, HasNewElastic}

@@ -1,5 +1,4 @@
-use Rattle.std.proofs.Common.{◌≢◌, map}
-use Rattle.hop_core.specs.declared.phase.Phase.TheVariants.{Dormant}
+use Rattle.std.proofs.Common.{map}
 use Rattle.rank_handles.specs.ElasticKept.{NoString, KeepsBegun, unpulled}
 use Rattle.rank_handles.proofs.strings.pull_string.Given as goal
 

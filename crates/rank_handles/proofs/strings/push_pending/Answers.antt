@@ -1,4 +1,4 @@
-use Rattle.std.proofs.Common.{◌≡◌, ◌+◌, ◌<◌, ◌≤◌, ℕ, [], ◌∷◌, List, length, drop, get_or, arith, refl, sym, ap, ◌∙◌}
+use Rattle.std.proofs.Common.{◌≡◌, ◌+◌, ◌<◌, ◌≤◌, ℕ, ◌∷◌, List, length, drop, get_or, arith, refl, sym, ap, ◌∙◌}
 use Rattle.std.proofs.lemmas.List.{drop_more, nil_from_length, length-drop}
 use Rattle.bale_items.specs.declared.item.Item.{Item}
 use Rattle.rank_handles.specs.Seated.{Seated}

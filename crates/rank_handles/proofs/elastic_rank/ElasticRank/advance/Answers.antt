@@ -1,4 +1,4 @@
-use Rattle.std.proofs.Common.{◌≡◌, ◌&&◌, ℕ, Bool, true, false, List, Option, Some, None, drop, map, refl, sym, ap, ◌∙◌, subst}
+use Rattle.std.proofs.Common.{◌≡◌, ◌&&◌, ℕ, Bool, true, false, List, Option, Some, None, drop, map, sym, ap, ◌∙◌, subst}
 use Rattle.std.specs.Prelude.{if◌then◌else◌}
 use Rattle.bale_items.specs.declared.item.Item.{Item}
 use Rattle.rank_handles.specs.Seated.{Seated}
@@ -43,7 +43,7 @@ returns-clause-answer c =
     ] in
     c.advance.ensures.answer
     ∙ advance_same (drop x.pushed xs) (drop push.result xs) (map (λ l. l.items) x.begun.items) c.args.done d x.rank push.new.rank c.advance.new.self c.self.invariant
-        (moved c.deref.result.now xs x.pushed push.result x.rank push.new.rank c.deref.ensures.value push.ensures) is c.advance.ensures.advances
+    (moved c.deref.result.now xs x.pushed push.result x.rank push.new.rank c.deref.ensures.value push.ensures) is c.advance.ensures.advances
     ∙ ap (λ (z : ElasticState). advance_answer z.rank c.args.done c.advance.new.self.state.phase) c.self.view_is
 
 pub returns-clause-advances : goal.returns-clause-advances

@@ -1,4 +1,4 @@
-use Rattle.std.proofs.Common.{◌≡◌, ℕ, List, Option, Some, None, drop, map, sym, subst}
+use Rattle.std.proofs.Common.{ℕ, List, Option, Some, None, drop, map, subst}
 use Rattle.std.specs.Prelude.{if◌then◌else◌}
 use Rattle.rank_handles.specs.Seated.{Seated}
 use Rattle.rank_handles.specs.Strings.{ElasticState}

@@ -1,4 +1,4 @@
-use Rattle.std.proofs.Common.{◌≡◌, ℕ, List, map, sym, subst}
+use Rattle.std.proofs.Common.{ℕ, List, map, sym, subst}
 use Rattle.bale_items.specs.declared.item.Item.{Item}
 use Rattle.rank_handles.specs.ElasticKept.{IsElastic}
 use Rattle.rank_handles.proofs.StringStarts.{elastic_new}

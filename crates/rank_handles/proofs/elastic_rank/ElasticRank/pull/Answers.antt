@@ -1,6 +1,5 @@
-use Rattle.std.proofs.Common.{◌≡◌, ◌≢◌, ℕ, Bool, List, Option, Some, None, drop, map, rules, sym, ap, ◌∙◌, subst}
+use Rattle.std.proofs.Common.{◌≢◌, ℕ, Bool, List, Option, Some, None, drop, map, sym, ap, ◌∙◌, subst}
 use Rattle.std.specs.Prelude.{is_ok, if◌then◌else◌}
-use Rattle.hop_core.specs.declared.phase.Phase.{Phase}
 use Rattle.hop_core.specs.declared.phase.Phase.TheVariants.{Dormant}
 use Rattle.rank_handles.specs.Seated.{Seated}
 use Rattle.rank_handles.specs.Strings.{ElasticState}

@@ -78,8 +78,14 @@
 
    bale_phase reports them as BALE_STATE_DORMANT to BALE_STATE_COMPLETE.
 
-   unpull, ranks, phase and statistics are no misuse in any state. Every call tests what it needs: misuse is
-   answered by a code below 0, and changes nothing.
+   unpull, ranks, phase and statistics are no misuse in any state. Every call tests what it needs:
+   misuse is answered by a code below 0, and changes nothing.
+
+   A rank is made for items, as above, or for strings: bale_elastic_new makes a bale_elastic, which
+   has the same states. Its calls are those with a name of their own, in this file below; epush is
+   no misuse where push is, epull and the other calls where pull and those of the same name are.
+   bale_elastic_advance(true) is answered BALE_MORE, and the rank stays WORKING, as long as a part of
+   the latest string has found no room in the buffers.
 
    What is proved. Each call's contract (crates/bale_c/src/group_calls.rt, rank_calls.rt) says
    exactly when each answer comes, and which step of the exchange machine the call made: a Push
@@ -137,8 +143,8 @@ extern "C" {
 /* What a call answers. From 0 up it is no misuse. */
 enum {
     BALE_OK = 0,       /* it is done */
-    BALE_FULL = 1,     /* push: the open buffer toward that rank is full; advance, and push again */
-    BALE_NONE = 2,     /* pull: nothing came that was not pulled; unpull: nothing to put back */
+    BALE_FULL = 1,     /* push, epush: there is no room now; advance, and push again */
+    BALE_NONE = 2,     /* pull, epull: nothing came that was not pulled; unpull: nothing to put back */
     BALE_MORE = 3,     /* advance: items may still be pushed, or buffers are still to be sent */
     BALE_NEAR = 4,     /* advance: all is sent; items are still to come or to be pulled */
     BALE_COMPLETE = 5, /* advance: the epoch is over for this rank */
@@ -155,7 +161,8 @@ enum {
     BALE_IN_USE = -9,       /* new: the handle that is to be made is live */
     BALE_TAKEN = -10,       /* rank_new: this rank of the group was made before */
     BALE_LAST_EPOCH = -11,  /* reset: 2^63 epochs are over, and no number is left for another */
-    BALE_NOT_LENT = -12     /* pulled: a view lends fewer items now */
+    BALE_NOT_LENT = -12,    /* pulled: a view lends fewer items now */
+    BALE_TOO_LONG = -13     /* epush: a string has at most 65,535 bytes */
 };
 
 /* The states of a rank, as bale_phase reports them. No state has the number of an answer. */
@@ -206,6 +213,18 @@ typedef struct {
     bool live;
     uint64_t unused[14]; /* so that the ranks of an array share no cache line */
 } bale_rank;
+
+typedef struct {
+    void *at;
+    bool live;
+    uint64_t unused[14];
+} bale_elastic;
+
+/* The bytes of a string that a rank lends. */
+typedef struct {
+    const uint8_t *bytes;
+    size_t nbytes;
+} bale_string;
 
 /* Makes a group: the memory that its ranks share, all of it at once.
 
@@ -324,6 +343,72 @@ int32_t bale_statistics(bale_rank *rank, bale_counts *statistics);
 int32_t bale_rank_free(bale_rank *rank);
 int32_t bale_group_free(bale_group *group);
 
+/* Strings of up to 65,535 bytes. A string is pushed as a whole or not at all, and pulled as a whole;
+   of one sender strings come in the order in which it pushed them. It travels as items: the first
+   has the length and 16 bytes, each further one 24 bytes.
+
+       bale_elastic rank = {0};
+       bale_elastic_new(&group, me, &rank);
+       bale_elastic_begin(&rank);
+       do {
+           while (sent < all && bale_epush(&rank, word[sent], length[sent], to[sent]) == BALE_OK)
+               sent++;
+           answer = bale_elastic_advance(&rank, sent == all);
+           while (bale_epull(&rank, &bytes, &nbytes, &from) == BALE_OK)
+               use(bytes, nbytes, from);
+       } while (answer != BALE_COMPLETE);
+
+   All ranks of a group are made for strings, or all for items. (If some are not, no call does
+   anything undefined: a rank for strings reads any items as strings, and drops at the end of an
+   epoch what is not whole.)
+
+   What is proved: with the strings that the items pushed toward a rank in this epoch spell, followed
+   by those still to be pushed, as the strings pushed toward it, and those that the items pulled of a
+   rank spell as the strings pulled of it, bale_epush that answers BALE_OK appends exactly this
+   string to those pushed toward that rank, and bale_epull that answers BALE_OK appends exactly what
+   bale_elastic_string lends to those pulled of that sender. No other answer and no other call changes
+   any of these lists. So at each step the strings pulled are a prefix of those pushed, and all of
+   them when the epoch is complete. One page: crates/rank_handles/specs/StringCalls.antt.
+
+   These two calls take memory, for the items of a string that are still to be pushed or have come;
+   it is kept for the next string. */
+
+/* Makes a rank of the group for strings, as bale_rank_new makes one for items.
+   BALE_OK; BALE_IN_USE where rank is live; BALE_GONE where group is empty; BALE_NO_RANK;
+   BALE_TAKEN; BALE_NO_MEMORY. */
+int32_t bale_elastic_new(bale_group *group, uint32_t number, bale_elastic *rank);
+
+/* Pushes a string toward a rank; WORKING stays. What finds no room in the buffers is kept, and
+   pushed by the advances that follow, before anything else.
+   BALE_OK; BALE_FULL while a part of the string before it is kept so, and nothing is pushed;
+   BALE_GONE; BALE_NOT_BEGUN; BALE_SAID_DONE; BALE_NO_RANK; BALE_TOO_LONG; BALE_NO_MEMORY. */
+int32_t bale_epush(bale_elastic *rank, const uint8_t *bytes, size_t nbytes, uint32_t to);
+
+/* Pulls the next string that came as a whole, with its sender, and lends its bytes until the next
+   call on this rank. They may be read, and not written. The state stays.
+   BALE_OK; BALE_NONE, BALE_GONE, BALE_NOT_BEGUN or BALE_NO_MEMORY, and nbytes is 0 and from as
+   before. After BALE_NO_MEMORY the call may be made again. */
+static inline int32_t bale_epull(bale_elastic *rank, const uint8_t **bytes, size_t *nbytes,
+                                 uint32_t *from);
+
+/* What bale_epull calls. bale_elastic_pull pulls a string, and bale_elastic_string lends the one
+   that the latest bale_elastic_pull gave. string begins as an address that can be read, with nbytes
+   0, and is as before unless the answer is BALE_OK. (What is lent is proved; that the rank is as
+   before is tested.)
+   bale_elastic_string: BALE_OK; BALE_NONE where the latest pull gave none; BALE_GONE. */
+int32_t bale_elastic_pull(bale_elastic *rank, uint32_t *from);
+int32_t bale_elastic_string(bale_elastic *rank, bale_string *string);
+
+/* As the calls on a rank for items: begin, advance, reset, ranks, phase and free. advance pushes first
+   what is kept of the latest string; as long as anything is kept it answers BALE_MORE, and the rank
+   does not yet count as done. */
+int32_t bale_elastic_begin(bale_elastic *rank);
+int32_t bale_elastic_advance(bale_elastic *rank, bool done);
+int32_t bale_elastic_reset(bale_elastic *rank);
+uint32_t bale_elastic_ranks(bale_elastic *rank);
+int32_t bale_elastic_phase(bale_elastic *rank);
+int32_t bale_elastic_free(bale_elastic *rank);
+
 /* The version of the library, as BALE_VERSION has it; " (unproved)" follows if c/build --unproved
    made the library. */
 const char *bale_version(void);
@@ -336,6 +421,18 @@ static inline int32_t bale_view(bale_rank *rank, const bale_entry **entries, siz
     *entries = lent.entries;
     *count = lent.count;
     *from = lent.from;
+    return answer;
+}
+
+static inline int32_t bale_epull(bale_elastic *rank, const uint8_t **bytes, size_t *nbytes,
+                                 uint32_t *from) {
+    static const uint8_t none = 0;
+    bale_string string = {&none, 0};
+    int32_t answer = bale_elastic_pull(rank, from);
+    if (answer == BALE_OK)
+        answer = bale_elastic_string(rank, &string);
+    *bytes = string.bytes;
+    *nbytes = string.nbytes;
     return answer;
 }
 
@@ -361,6 +458,7 @@ static inline const char *bale_text(int32_t answer) {
     case BALE_TAKEN: return "the rank was made before";
     case BALE_LAST_EPOCH: return "no number is left for another epoch";
     case BALE_NOT_LENT: return "a view lends fewer items";
+    case BALE_TOO_LONG: return "a string has more than 65,535 bytes";
     /* end of answers */
     default: return "no answer";
     }

@@ -391,13 +391,77 @@ static inline int32_t bale_ask_finish(bale_asker *asker) {
     return answer;
 }
 
-/* A rank of bale_run or bale_run_asking, with what its thread does. */
+/* Strings, as bale_epush and bale_epull have them. What a helper calls with each string that it
+   pulls, as it calls a bale_take; the bytes are there until it returns. */
+typedef void bale_etake(void *context, const uint8_t *bytes, size_t nbytes, uint32_t from);
+
+/* What each thread of bale_erun does: as a bale_work. */
+typedef void bale_ework(bale_elastic *rank, uint32_t me, void *context);
+
+/* Pulls all strings that have come, and calls take with each: how many there were, or below 0 what
+   is wrong. */
+static inline int64_t bale_edrain(bale_elastic *rank, bale_etake *take, void *context) {
+    const uint8_t *bytes;
+    size_t nbytes;
+    uint32_t from;
+    int64_t all = 0;
+    int32_t answer;
+    while ((answer = bale_epull(rank, &bytes, &nbytes, &from)) == BALE_OK) {
+        take(context, bytes, nbytes, from);
+        all++;
+    }
+    if (answer < 0)
+        BALE_FAILED("bale_edrain", answer);
+    return answer < 0 ? answer : all;
+}
+
+/* Advances once and drains, and gives the processor away if nothing had come: as
+   bale_elastic_advance. */
+static inline int32_t bale_eadvance_(bale_elastic *rank, bool done, bale_etake *take,
+                                     void *context) {
+    int32_t answer = bale_elastic_advance(rank, done);
+    int64_t count = answer < 0 ? 0 : bale_edrain(rank, take, context);
+    if (count == 0)
+        sched_yield();
+    return count < 0 ? (int32_t)count : answer;
+}
+
+/* Sends a string to a rank. While there is no room for it, it advances and drains.
+   BALE_OK, or what is wrong: as bale_epush. */
+static inline int32_t bale_esend(bale_elastic *rank, const void *bytes, size_t nbytes, uint32_t to,
+                                 bale_etake *take, void *context) {
+    int32_t answer;
+    while ((answer = bale_epush(rank, (const uint8_t *)bytes, nbytes, to)) == BALE_FULL)
+        if ((answer = bale_eadvance_(rank, false, take, context)) < 0)
+            return answer;
+    if (answer < 0)
+        BALE_FAILED("bale_esend", answer);
+    return answer;
+}
+
+/* Ends the epoch, as bale_finish.
+   BALE_OK, or what is wrong: as bale_elastic_advance and bale_elastic_reset. */
+static inline int32_t bale_efinish(bale_elastic *rank, bale_etake *take, void *context) {
+    int32_t answer;
+    do
+        answer = bale_eadvance_(rank, true, take, context);
+    while (answer >= 0 && answer != BALE_COMPLETE);
+    if (answer == BALE_COMPLETE)
+        answer = bale_elastic_reset(rank);
+    if (answer < 0)
+        BALE_FAILED("bale_efinish", answer);
+    return answer;
+}
+
+/* A rank of bale_run, bale_run_asking or bale_erun, with what its thread does. */
 typedef struct {
     bale_rank rank;
     bale_rank replies; /* of bale_run_asking */
+    bale_elastic elastic; /* of bale_erun */
     uint32_t me;
     bale_work *work;
     bale_ask_work *ask_work; /* in place of work, if it is not NULL */
+    bale_ework *ework;       /* the same */
     void *context;
     pthread_mutex_t *gate; /* held until all threads are there */
     const bool *all_there; /* whether they are; if not, no thread works */
@@ -414,6 +478,8 @@ static inline void *bale_thread_main_(void *arg) {
     pthread_mutex_unlock(my->gate);
     if (works && my->ask_work != NULL)
         my->ask_work(&asker, my->me, my->context);
+    else if (works && my->ework != NULL)
+        my->ework(&my->elastic, my->me, my->context);
     else if (works)
         my->work(&my->rank, my->me, my->context);
     return NULL;
@@ -441,10 +507,10 @@ static inline bool bale_threads_(bale_thread_ *threads, uint32_t count) {
     return all_there;
 }
 
-/* As bale_run_on and bale_run_asking_on: calls that one of both that is not NULL. */
+/* As bale_run_on, bale_run_asking_on and bale_erun_on: calls that one of them that is not NULL. */
 static inline int32_t bale_run_either_(const uint32_t *dims, size_t ndims, uint32_t buffer,
                                        uint32_t slots, bool steady, bale_work *work,
-                                       bale_ask_work *ask_work, void *context) {
+                                       bale_ask_work *ask_work, bale_ework *ework, void *context) {
     bale_thread_ threads[64];
     bale_group group, replies;
     memset(threads, 0, sizeof threads);
@@ -460,8 +526,10 @@ static inline int32_t bale_run_either_(const uint32_t *dims, size_t ndims, uint3
         threads[r].me = r;
         threads[r].work = work;
         threads[r].ask_work = ask_work;
+        threads[r].ework = ework;
         threads[r].context = context;
-        answer = bale_rank_new(&group, r, &threads[r].rank);
+        answer = ework != NULL ? bale_elastic_new(&group, r, &threads[r].elastic)
+                               : bale_rank_new(&group, r, &threads[r].rank);
         if (answer == BALE_OK && ask_work != NULL)
             answer = bale_rank_new(&replies, r, &threads[r].replies);
     }
@@ -470,6 +538,7 @@ static inline int32_t bale_run_either_(const uint32_t *dims, size_t ndims, uint3
     for (uint32_t r = 0; r < 64; r++) { /* An empty handle stays as it is. */
         bale_rank_free(&threads[r].rank);
         bale_rank_free(&threads[r].replies);
+        bale_elastic_free(&threads[r].elastic);
     }
     bale_group_free(&group);
     bale_group_free(&replies);
@@ -480,7 +549,7 @@ static inline int32_t bale_run_either_(const uint32_t *dims, size_t ndims, uint3
 static inline int32_t bale_run_on(const uint32_t *dims, size_t ndims, uint32_t buffer,
                                   uint32_t slots, bool steady, bale_work *work, void *context) {
     int32_t answer =
-        bale_run_either_(dims, ndims, buffer, slots, steady, work, NULL, context);
+        bale_run_either_(dims, ndims, buffer, slots, steady, work, NULL, NULL, context);
     if (answer < 0)
         BALE_FAILED("bale_run", answer);
     return answer;
@@ -491,9 +560,19 @@ static inline int32_t bale_run_asking_on(const uint32_t *dims, size_t ndims, uin
                                          uint32_t slots, bool steady, bale_ask_work *work,
                                          void *context) {
     int32_t answer =
-        bale_run_either_(dims, ndims, buffer, slots, steady, NULL, work, context);
+        bale_run_either_(dims, ndims, buffer, slots, steady, NULL, work, NULL, context);
     if (answer < 0)
         BALE_FAILED("bale_run_asking", answer);
+    return answer;
+}
+
+/* As bale_erun, with the grid, buffer, slots and steady of bale_group_new. */
+static inline int32_t bale_erun_on(const uint32_t *dims, size_t ndims, uint32_t buffer,
+                                   uint32_t slots, bool steady, bale_ework *work, void *context) {
+    int32_t answer =
+        bale_run_either_(dims, ndims, buffer, slots, steady, NULL, NULL, work, context);
+    if (answer < 0)
+        BALE_FAILED("bale_erun", answer);
     return answer;
 }
 
@@ -514,6 +593,11 @@ static inline int32_t bale_run(uint32_t ranks, bale_work *work, void *context) {
 /* As bale_run, for ranks that ask each other. */
 static inline int32_t bale_run_asking(uint32_t ranks, bale_ask_work *work, void *context) {
     return bale_run_asking_on(&ranks, 1, bale_buffer_(ranks), 2, false, work, context);
+}
+
+/* As bale_run, for ranks that send strings. */
+static inline int32_t bale_erun(uint32_t ranks, bale_ework *work, void *context) {
+    return bale_erun_on(&ranks, 1, bale_buffer_(ranks), 2, false, work, context);
 }
 
 #endif

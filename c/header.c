@@ -5,9 +5,11 @@
 
 #ifdef __cplusplus
 static_assert(sizeof(bale_item) == 24, "an item is three words");
+static_assert(sizeof(bale_elastic) == 128 && offsetof(bale_elastic, live) == 8, "so is one for strings");
 static_assert(sizeof(bale_rank) == 128 && offsetof(bale_rank, live) == 8, "a handle is a pointer and a byte, on lines of its own");
 #else
 _Static_assert(sizeof(bale_item) == 24, "an item is three words");
+_Static_assert(sizeof(bale_elastic) == 128 && offsetof(bale_elastic, live) == 8, "so is one for strings");
 _Static_assert(sizeof(bale_rank) == 128 && offsetof(bale_rank, live) == 8, "a handle is a pointer and a byte, on lines of its own");
 #endif
 
@@ -27,12 +29,12 @@ int main(void) {
     dims[0] = 1;
     memset(&group, 0, sizeof group);
     memset(&rank, 0, sizeof rank);
-    for (int32_t a = BALE_LAST_EPOCH; a <= BALE_COMPLETE; a++)
+    for (int32_t a = BALE_TOO_LONG; a <= BALE_COMPLETE; a++)
         if (strcmp(bale_text(a), "no answer") == 0)
             return 1;
     if (bale_group_new(dims, 1, 1, 1, true, &group) != BALE_OK || bale_rank_new(&group, 0, &rank) != BALE_OK)
         return 2;
-    for (int32_t a = BALE_LAST_EPOCH; a <= BALE_COMPLETE; a++)
+    for (int32_t a = BALE_TOO_LONG; a <= BALE_COMPLETE; a++)
         if (a == BALE_STATE_DORMANT || a == BALE_STATE_WORKING || a == BALE_STATE_ENDGAME || a == BALE_STATE_CLEANUP ||
             a == BALE_STATE_COMPLETE)
             return 8;

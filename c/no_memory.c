@@ -1,5 +1,5 @@
 /* Each allocation of each call failing in turn: the call answers that there is no memory, nothing has
-   changed, and it may be made again. No call but the two that make something asks for memory. */
+   changed, and it may be made again. No call on a rank for items asks for memory. */
 #include "bale.h"
 #include <stdio.h>
 #include <stdlib.h>
@@ -54,6 +54,64 @@ static void want(const char *what, int32_t answer, int32_t wanted) {
         fprintf(stderr, "no_memory: %s: %s\n", what, bale_text(answer));
         exit(1);
     }
+}
+
+/* Strings from rank 0 to rank 1, with each allocation of each push and pull failing in turn. */
+static long strings(void) {
+    static uint8_t string[65535];
+    static const size_t lengths[4] = {65535, 0, 100, 65534};
+    uint32_t dims[1] = {2}, from, sent = 0, came = 0;
+    bale_group group = {0};
+    bale_elastic ranks[2] = {{0}};
+    long refusals = 0, first;
+    int32_t answer, first_answer = BALE_MORE, second_answer = BALE_MORE;
+    left = -1;
+    want("bale_group_new", bale_group_new(dims, 1, 16, 2, false, &group), BALE_OK);
+    for (uint32_t r = 0; r < 2; r++) {
+        long before = taken;
+        for (first = 0;; first++, refusals++) {
+            left = first;
+            if ((answer = bale_elastic_new(&group, r, &ranks[r])) == BALE_OK)
+                break;
+            want("bale_elastic_new", answer, BALE_NO_MEMORY);
+            if (ranks[r].live || taken != before)
+                want("bale_elastic_new left something", -99, BALE_OK);
+        }
+        want("bale_elastic_begin", bale_elastic_begin(&ranks[r]), BALE_OK);
+    }
+    for (size_t k = 0; k < sizeof string; k++)
+        string[k] = (uint8_t)(k * 7 + k / 256);
+    while (first_answer != BALE_COMPLETE || second_answer != BALE_COMPLETE) {
+        const uint8_t *bytes;
+        size_t nbytes;
+        for (first = 0; sent < 4; first++, refusals++) {
+            left = first;
+            if ((answer = bale_epush(&ranks[0], string, lengths[sent], 1)) == BALE_OK)
+                sent++;
+            if (answer != BALE_NO_MEMORY)
+                break;
+        }
+        left = 0;
+        first_answer = bale_elastic_advance(&ranks[0], sent == 4);
+        second_answer = bale_elastic_advance(&ranks[1], true);
+        bale_epull(&ranks[0], &bytes, &nbytes, &from);
+        for (first = 0; (answer = bale_epull(&ranks[1], &bytes, &nbytes, &from)) != BALE_NONE; first++) {
+            if (answer == BALE_OK && (from != 0 || nbytes != lengths[came++] || memcmp(bytes, string, nbytes) != 0))
+                want("bale_epull gave another string", -99, BALE_OK);
+            if (answer != BALE_OK)
+                want("bale_epull", answer, BALE_NO_MEMORY);
+            refusals += answer == BALE_NO_MEMORY;
+            left = answer == BALE_OK ? 0 : first + 1;
+        }
+    }
+    if (came != 4)
+        want("a string was lost", -99, BALE_OK);
+    for (int r = 0; r < 2; r++) {
+        want("bale_elastic_reset", bale_elastic_reset(&ranks[r]), BALE_OK);
+        want("bale_elastic_free", bale_elastic_free(&ranks[r]), BALE_OK);
+    }
+    want("bale_group_free", bale_group_free(&group), BALE_OK);
+    return refusals;
 }
 
 int main(void) {
@@ -119,6 +177,7 @@ int main(void) {
         want("bale_rank_free", bale_rank_free(&ranks[r]), BALE_OK);
     }
     want("bale_group_free", bale_group_free(&group), BALE_OK);
+    refusals += strings();
     printf("no_memory: %ld refusals, %u items pulled after them, %ld blocks left\n", refusals, pulled, taken);
     return pulled != 1000 || taken != 0;
 }

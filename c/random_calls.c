@@ -1,12 +1,14 @@
 /* A caller that knows no rules: calls in any order, with any numbers, on live, empty and freed
    handles. Every call must answer by a code that bale.h names for it, what is pulled must be what
    was pushed, in each pair's order, and a complete epoch has lost nothing: the program keeps its
-   own account. random_calls [calls, 2,000,000 [seed, 1]] */
+   own account. A third of the calls are on ranks for strings, of which some have a rank for items
+   among them, that sends any items. random_calls [calls, 2,000,000 [seed, 1]] */
 #include "bale.h"
 #include <stdio.h>
 #include <stdlib.h>
+#include <string.h>
 
-enum { GROUPS = 2, MOST_RANKS = 6, MANY = 40 };
+enum { GROUPS = 2, MOST_RANKS = 6, MANY = 40, LONGEST = 65535 };
 
 static uint64_t seed = 1;
 
@@ -326,20 +328,223 @@ static void one_call(void) {
         fail("bale_ranks", bale_ranks(rank));
 }
 
+/* What the program knows of a group of ranks for strings, as of one for items. If it is mixed, its
+   rank 0 is one for items. */
+typedef struct {
+    bale_group handle;
+    bale_elastic ranks[MOST_RANKS];
+    bale_rank plain;
+    bool mixed;
+    uint32_t many;
+    uint64_t made;
+    uint64_t epoch[MOST_RANKS];
+    uint64_t pushed[MOST_RANKS][MOST_RANKS];
+    uint64_t pushed_before[MOST_RANKS][MOST_RANKS];
+    uint64_t pulled[MOST_RANKS][MOST_RANKS];
+} string_group;
+
+static string_group strings;
+static uint64_t string_bytes, strings_pulled;
+
+/* The string with this number that a rank pushes toward another in an epoch: its bytes, and how
+   many. */
+static size_t string_of(const string_group *g, uint32_t from, uint32_t to, uint64_t epoch, uint64_t number, uint8_t *bytes) {
+    uint64_t now = seed;
+    seed = (((g->made * 10 + from) * 10 + to) * 1000 + epoch) * 0x9e3779b97f4a7c15u + number;
+    uint32_t kind = below(200), first = below(256);
+    size_t nbytes = kind == 0 ? LONGEST - below(3) : kind < 10 ? below(3000) : kind < 60 ? below(20) : below(80);
+    for (size_t k = 0; k < nbytes; k++)
+        bytes[k] = (uint8_t)(first + k * (1 + kind));
+    seed = now;
+    return nbytes;
+}
+
+static void string_came(string_group *g, uint32_t me, const uint8_t *bytes, size_t nbytes, uint32_t from) {
+    static uint8_t wanted[LONGEST];
+    if (from >= g->many)
+        fail("a sender that is none", from);
+    if (g->mixed && from == 0)
+        return;
+    size_t length = string_of(g, from, me, g->epoch[me], g->pulled[me][from]++, wanted);
+    if (length != nbytes || memcmp(bytes, wanted, nbytes) != 0)
+        fail("another string than was pushed", (int64_t)nbytes);
+    string_bytes += nbytes;
+    strings_pulled++;
+}
+
+static void all_strings(const string_group *g, uint32_t me) {
+    for (uint32_t r = g->mixed; r < g->many; r++)
+        if (g->pulled[me][r] != (g->epoch[r] == g->epoch[me] ? g->pushed : g->pushed_before)[r][me])
+            fail("lost strings", r);
+}
+
+static void new_strings(string_group *g) {
+    uint32_t dims[2] = {1 + below(3), 1 + below(2)}, ndims = 1 + below(2);
+    bale_group_free(&g->handle);
+    bale_rank_free(&g->plain);
+    for (uint32_t r = 0; r < MOST_RANKS; r++)
+        bale_elastic_free(&g->ranks[r]);
+    uint64_t made = g->made;
+    *g = (string_group){0};
+    g->made = made + 1;
+    g->many = dims[0] * (ndims == 2 ? dims[1] : 1);
+    g->mixed = below(4) == 0;
+    if (bale_group_new(dims, ndims, 1u << below(8), 1u << below(4), below(2) == 1, &g->handle) != BALE_OK)
+        fail("bale_group_new of strings", 0);
+}
+
+/* Any call of the rank for items among those for strings. */
+static void plain_call(string_group *g) {
+    bale_item item = {((uint64_t)below(4) << 32) + below(below(2) == 0 ? 100 : 70000), below(9), below(9)};
+    uint32_t from;
+    switch (below(6)) {
+    case 0:
+        bale_rank_new(&g->handle, 0, &g->plain);
+        break;
+    case 1:
+        bale_begin(&g->plain);
+        break;
+    case 2:
+        if (bale_reset(&g->plain) == BALE_OK)
+            g->epoch[0]++;
+        break;
+    case 3:
+        bale_advance(&g->plain, below(20) == 0 || bale_phase(&g->plain) > BALE_STATE_WORKING);
+        break;
+    case 4:
+        bale_pull(&g->plain, &item, &from);
+        break;
+    default:
+        bale_push(&g->plain, &item, below(g->many));
+        break;
+    }
+}
+
+static void push_string(string_group *g, uint32_t me, uint32_t to, int32_t state) {
+    static uint8_t bytes[LONGEST + 1];
+    bool too_long = below(100) == 0;
+    size_t nbytes = too_long ? LONGEST + 1 : to < g->many ? string_of(g, me, to, g->epoch[me], g->pushed[me][to], bytes) : 3;
+    int32_t answer = bale_epush(&g->ranks[me], bytes, nbytes, to);
+    ONLY("bale_epush", answer, BALE_OK, BALE_FULL, BALE_NOT_BEGUN, BALE_SAID_DONE, BALE_NO_RANK, BALE_TOO_LONG, BALE_GONE);
+    bool works = state == BALE_STATE_WORKING && to < g->many;
+    if ((answer == BALE_OK || answer == BALE_FULL) != (works && !too_long) || (answer == BALE_TOO_LONG) != (works && too_long))
+        fail("bale_epush in another state", answer);
+    if (answer == BALE_OK)
+        g->pushed[me][to]++;
+}
+
+static void pull_string(string_group *g, uint32_t me, int32_t state) {
+    const uint8_t *bytes;
+    size_t nbytes;
+    uint32_t from = 77;
+    int32_t answer = bale_epull(&g->ranks[me], &bytes, &nbytes, &from);
+    ONLY("bale_epull", answer, BALE_OK, BALE_NONE, BALE_NOT_BEGUN, BALE_GONE);
+    if ((answer == BALE_OK || answer == BALE_NONE) != (state > BALE_STATE_DORMANT))
+        fail("bale_epull in another state", answer);
+    if (answer != BALE_OK && (nbytes != 0 || from != 77))
+        fail("bale_epull wrote", answer);
+    bale_string string = {bytes, 0};
+    int32_t lent = bale_elastic_string(&g->ranks[me], &string);
+    ONLY("bale_elastic_string", lent, BALE_OK, BALE_NONE, BALE_GONE);
+    if (answer == BALE_OK && (lent != BALE_OK || string.bytes != bytes || string.nbytes != nbytes))
+        fail("bale_elastic_string lends another", lent);
+    if (answer == BALE_NONE && lent != BALE_NONE)
+        fail("bale_elastic_string after no string", lent);
+    if (answer == BALE_OK)
+        string_came(g, me, bytes, nbytes, from);
+}
+
+/* Any call of a rank for strings. */
+static void rank_call(string_group *g, uint32_t me, uint32_t to) {
+    bale_elastic *rank = &g->ranks[me];
+    int32_t state = bale_elastic_phase(rank), answer;
+    switch (below(16)) {
+    case 0:
+        answer = bale_elastic_new(&g->handle, me, rank);
+        ONLY("bale_elastic_new", answer, BALE_OK, BALE_IN_USE);
+        if ((answer == BALE_OK) != (state == BALE_GONE))
+            fail("bale_elastic_new in another state", answer);
+        break;
+    case 1:
+        answer = bale_elastic_begin(rank);
+        ONLY("bale_elastic_begin", answer, BALE_OK, BALE_BEGUN, BALE_GONE);
+        if ((answer == BALE_OK) != (state == BALE_STATE_DORMANT))
+            fail("bale_elastic_begin in another state", answer);
+        break;
+    case 2:
+        answer = bale_elastic_reset(rank);
+        ONLY("bale_elastic_reset", answer, BALE_OK, BALE_NOT_COMPLETE, BALE_GONE);
+        if ((answer == BALE_OK) != (state == BALE_STATE_COMPLETE))
+            fail("bale_elastic_reset in another state", answer);
+        if (answer == BALE_OK) {
+            g->epoch[me]++;
+            for (uint32_t r = 0; r < MOST_RANKS; r++) {
+                g->pushed_before[me][r] = g->pushed[me][r];
+                g->pushed[me][r] = g->pulled[me][r] = 0;
+            }
+        }
+        break;
+    case 3:
+    case 4:
+    case 5:
+    case 6:
+    case 7: {
+        bool done = below(state == BALE_STATE_WORKING ? 40 : 2) == 0 || (state > BALE_STATE_WORKING && below(20) != 0);
+        answer = bale_elastic_advance(rank, done);
+        ONLY("bale_elastic_advance", answer, BALE_MORE, BALE_NEAR, BALE_COMPLETE, BALE_NOT_BEGUN, BALE_SAID_DONE, BALE_GONE);
+        if ((answer == BALE_SAID_DONE) != (state >= BALE_STATE_ENDGAME && !done))
+            fail("bale_elastic_advance in another state", answer);
+        if (answer == BALE_COMPLETE)
+            all_strings(g, me);
+        break;
+    }
+    case 8:
+    case 9:
+    case 10:
+    case 11:
+        pull_string(g, me, state);
+        break;
+    default:
+        push_string(g, me, to, state);
+        break;
+    }
+    if (bale_elastic_ranks(rank) != (rank->live ? g->many : 0))
+        fail("bale_elastic_ranks", bale_elastic_ranks(rank));
+}
+
+static void string_call(void) {
+    string_group *g = &strings;
+    if (g->many == 0 || below(60000) == 0)
+        new_strings(g);
+    uint32_t me = below(g->many), to = below(40) == 0 ? 9 : below(g->many);
+    if (g->mixed && me == 0)
+        plain_call(g);
+    else
+        rank_call(g, me, to);
+}
+
 int main(int argc, char **argv) {
     unsigned long calls = argc > 1 ? strtoul(argv[1], NULL, 10) : 2000000;
     if (argc > 2)
         seed = strtoull(argv[2], NULL, 10);
     for (unsigned long k = 0; k < calls; k++)
-        one_call();
+        if (k % 3 == 0)
+            string_call();
+        else
+            one_call();
     for (int g = 0; g < GROUPS; g++) {
         for (uint32_t r = 0; r < MOST_RANKS; r++)
             bale_rank_free(&groups[g].ranks[r]);
         bale_group_free(&groups[g].handle);
     }
+    new_strings(&strings);
+    bale_group_free(&strings.handle);
     printf("random_calls: %lu calls, of these answered:\n", calls);
-    for (int32_t a = -12; a <= 5; a++)
+    for (int32_t a = -13; a <= 5; a++)
         printf("  %3d %9llu  %s\n", a, (unsigned long long)answers[a + 16], bale_text(a));
+    printf("  strings pulled: %llu, of %llu bytes\n", (unsigned long long)strings_pulled, (unsigned long long)string_bytes);
+    if (strings_pulled == 0 && calls >= 1000000)
+        fail("no string was pulled", 0);
     if (answers[BALE_OK + 16] == 0 || answers[BALE_COMPLETE + 16] == 0)
         fail("no epoch was completed", 0);
     return 0;

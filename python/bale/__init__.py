@@ -25,17 +25,20 @@ Rank.push_many and Rank.pull_arrays, and without a copy by Rank.views; numpy is 
 else. Arguments are never converted silently: a fraction is a TypeError, a number out of range an
 OverflowError or a Misuse.
 
+Strings of bytes go between ranks of another kind, which Group.elastic makes.
+
 ctypes gives up the interpreter's lock while the library works, so ranks on threads run side by side
 within their calls, and only there.
 """
 
 from ._answers import Answer, Misuse, Phase, Progress
-from ._exchange import Group, Rank, Statistics, Stopped
+from ._exchange import Elastic, Group, Rank, Statistics, Stopped
 from ._library import Item, version
 from ._run import run
 
 __all__ = [
     "Answer",
+    "Elastic",
     "Group",
     "Item",
     "Misuse",

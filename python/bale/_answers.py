@@ -36,6 +36,7 @@ class Answer(enum.IntEnum):
     TAKEN = -10, "the rank was made before"
     LAST_EPOCH = -11, "no number is left for another epoch"
     NOT_LENT = -12, "a view lends fewer items"
+    TOO_LONG = -13, "a string has more than 65,535 bytes"
     # end of answers
 
 

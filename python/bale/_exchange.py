@@ -10,7 +10,7 @@ from typing import TYPE_CHECKING, Any, ClassVar, NamedTuple, TypeVar
 
 from ._answers import Answer, Misuse, Phase, Progress, checked
 from ._arguments import Block, items_block, ranks_block, truth, u32, whole, words
-from ._library import Counts, Entry, Handle, Item, Lent, calls
+from ._library import Counts, Entry, Handle, Item, Lent, String, calls
 
 if TYPE_CHECKING:
     from collections.abc import Iterator, Sequence
@@ -128,6 +128,11 @@ class Group(Owner):
         Misuse: NO_RANK, TAKEN, or GONE after close. TypeError if it is no whole number;
         MemoryError."""
         return Rank(self, number)
+
+    def elastic(self, number: SupportsIndex) -> Elastic:
+        """Makes the rank with this number as one for strings. All ranks of a group are made for
+        strings, or all for items. As rank."""
+        return Elastic(self, number)
 
     def ranks(self) -> list[Rank]:
         """Makes all ranks, in the order of their numbers. Misuse (TAKEN) if any was made before."""
@@ -330,6 +335,82 @@ class Rank(Owner):
         """Ends an epoch: from Phase.COMPLETE to DORMANT. Misuse: NOT_COMPLETE in any other state,
         or LAST_EPOCH after 2**63 epochs."""
         self._call(calls.reset)
+
+
+class Elastic(Owner):
+    """One rank's side of an exchange of strings of up to 65,535 bytes, made by Group.elastic.
+
+    A string is pushed as a whole or not at all, and pulled as a whole; of one sender strings come
+    in the order in which it pushed them. The states and calls are those of a Rank.
+    """
+
+    _free = calls.elastic_free
+
+    def __init__(self, group: Group, number: SupportsIndex) -> None:
+        super().__init__()
+        self._number = u32(number, "a rank", Answer.NO_RANK)
+        group._call(calls.elastic_new, self._number, self._handle)
+        self._ranks: int = calls.elastic_ranks(self._handle)
+
+    def __repr__(self) -> str:
+        return f"<bale.Elastic {self._number} of {self._ranks}>"
+
+    @property
+    def number(self) -> int:
+        """The number of this rank, counted from 0."""
+        return self._number
+
+    @property
+    def ranks(self) -> int:
+        """How many ranks the group has."""
+        return self._ranks
+
+    @property
+    def phase(self) -> Phase:
+        """The state of this rank."""
+        return Phase(self._call(calls.elastic_phase))
+
+    def begin(self) -> None:
+        """Begins an epoch: from Phase.DORMANT to WORKING. Misuse (BEGUN) in any other state."""
+        self._call(calls.elastic_begin)
+
+    def push(self, string: bytes, to: SupportsIndex) -> bool:
+        """Pushes a string toward the rank with the number `to`. What finds no room in the buffers
+        is kept, and pushed by the advances that follow; meanwhile a push is False, and pushes
+        nothing.
+
+        Misuse: NO_RANK, NOT_BEGUN, SAID_DONE or TOO_LONG. TypeError if string is no bytes;
+        MemoryError."""
+        if not isinstance(string, bytes):
+            raise TypeError(f"a string is bytes, not {type(string).__name__}")
+        rank = u32(to, "a rank", Answer.NO_RANK)
+        return self._call(calls.epush, string, len(string), rank) == Answer.OK
+
+    def pull(self) -> tuple[int, bytes] | None:
+        """Pulls the next string that came as a whole, as its sender and its bytes; None if there is
+        none now. Misuse: NOT_BEGUN. MemoryError, and nothing is lost."""
+        sender, none = ctypes.c_uint32(), Entry()
+        if self._call(calls.elastic_pull, sender) != Answer.OK:
+            return None
+        # What is lent begins with an address that can be read.
+        string = String(ctypes.addressof(none), 0)
+        self._call(calls.elastic_string, string)
+        return sender.value, ctypes.string_at(string.bytes, string.nbytes)
+
+    def drain(self) -> Iterator[tuple[int, bytes]]:
+        """Pulls, one at a time, the strings that are there now, as pull gives them."""
+        while (pulled := self.pull()) is not None:
+            yield pulled
+
+    def advance(self, done: bool = False) -> Progress:
+        """Pushes what is kept of the latest string, and advances, as Rank.advance. As long as
+        anything is kept, the rank does not yet count as done."""
+        return Progress(self._call(calls.elastic_advance, truth(done, "done")))
+
+    def reset(self) -> None:
+        """Ends an epoch: from Phase.COMPLETE to DORMANT. Misuse: NOT_COMPLETE in any other state,
+        or LAST_EPOCH after 2**63 epochs."""
+        self._call(calls.elastic_reset)
 
 
 def _places(most: SupportsIndex) -> int:

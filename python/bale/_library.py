@@ -31,6 +31,12 @@ class Lent(ctypes.Structure):
     ]
 
 
+class String(ctypes.Structure):
+    """The bytes of a string that a rank lends."""
+
+    _fields_ = [("bytes", ctypes.c_void_p), ("nbytes", ctypes.c_size_t)]
+
+
 class Counts(ctypes.Structure):
     """What a rank sent and received."""
 
@@ -73,6 +79,16 @@ _SIGNATURES: dict[str, tuple[Any, ...]] = {
     "ranks": (_u32, _handle),
     "statistics": (_i32, _handle, ctypes.POINTER(Counts)),
     "phase": (_i32, _handle),
+    "elastic_new": (_i32, _handle, _u32, _handle),
+    "elastic_begin": (_i32, _handle),
+    "epush": (_i32, _handle, ctypes.c_char_p, _size, _u32),
+    "elastic_pull": (_i32, _handle, _u32s),
+    "elastic_string": (_i32, _handle, ctypes.POINTER(String)),
+    "elastic_advance": (_i32, _handle, _bool),
+    "elastic_reset": (_i32, _handle),
+    "elastic_ranks": (_u32, _handle),
+    "elastic_phase": (_i32, _handle),
+    "elastic_free": (_i32, _handle),
     "rank_free": (_i32, _handle),
     "group_free": (_i32, _handle),
     "version": (ctypes.c_char_p,),

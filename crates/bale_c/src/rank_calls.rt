@@ -149,7 +149,7 @@ pub extern "C" fn bale_rank_free(alloc: Global, rank: &mut BaleRank) -> i32
 }
 
 /// The number by which C knows a phase.
-fn code_of_phase(phase: Option<Phase>) -> i32
+pub(crate) fn code_of_phase(phase: Option<Phase>) -> i32
     ensures { result ≡ phase_code phase }
 {
     match phase {

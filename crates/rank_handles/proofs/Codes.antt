@@ -1,7 +1,7 @@
 -- Answers by their codes.
 use Rattle.std.proofs.Common.{◌≡◌, refl}
 use Rattle.rank_handles.specs.declared.answer.Answer.{Answer}
-use Rattle.rank_handles.specs.declared.answer.Answer.TheVariants.{Good, Full, Nothing, More, Near, Complete, NoMemory, NotBegun, BegunAlready, DoneAlready, NoSuchRank, NotComplete, Gone, BadNumbers, InUse, RankTaken, NoMoreEpochs, NotLent}
+use Rattle.rank_handles.specs.declared.answer.Answer.TheVariants.{Good, Full, Nothing, More, Near, Complete, NoMemory, NotBegun, BegunAlready, DoneAlready, NoSuchRank, NotComplete, Gone, BadNumbers, InUse, RankTaken, NoMoreEpochs, NotLent, TooLong}
 use Rattle.rank_handles.specs.Codes.{code_of}
 
 -- only Good has its code
@@ -24,6 +24,7 @@ code_good InUse e = absurd cc
 code_good RankTaken e = absurd cc
 code_good NoMoreEpochs e = absurd cc
 code_good NotLent e = absurd cc
+code_good TooLong e = absurd cc
 
 -- and only NoMemory its own
 pub code_no_memory : (a : Answer) → code_of a ≡ code_of NoMemory → a ≡ NoMemory
@@ -45,3 +46,4 @@ code_no_memory InUse e = absurd cc
 code_no_memory RankTaken e = absurd cc
 code_no_memory NoMoreEpochs e = absurd cc
 code_no_memory NotLent e = absurd cc
+code_no_memory TooLong e = absurd cc

@@ -10,6 +10,7 @@ use Rattle.rank_handles.specs.contracts.rank.Rank as Rank
 use Rattle.rank_handles.specs.contracts.cases.HopsCase as HopsCase
 use Rattle.rank_handles.specs.contracts.cases.CapacityCase as CapacityCase
 use Rattle.rank_handles.specs.contracts.cases.AnyRank as AnyRank
+use Rattle.rank_handles.specs.contracts.elastic_rank.ElasticRank as ElasticRank
 use Rattle.rank_handles.specs.contracts.part.Part as Part
 
 rank_send : (C H : RattleType) → IsSend (Rank.the_row C H)
@@ -24,5 +25,8 @@ capacity_send = search (sendable, hops_send) depth 40
 any_rank_send : IsSend AnyRank.the_row
 any_rank_send = search (sendable, capacity_send) depth 40
 
+elastic_send : IsSend ElasticRank.the_row
+elastic_send = search (sendable, crosses, any_rank_send) depth 40
+
 pub part_send : IsSend Part.the_row
-part_send = search (sendable, any_rank_send, group_send) depth 40
+part_send = search (sendable, any_rank_send, elastic_send, group_send) depth 40

@@ -17,7 +17,7 @@ use Rattle.rank_handles.specs.declared.answer.Answer.{Answer}
 use Rattle.rank_handles.specs.declared.answer.Answer.TheVariants.{Good, Full, Nothing, NotBegun, DoneAlready, NoSuchRank, NoMoreEpochs}
 use Rattle.rank_handles.specs.Seated.{Seated, Moved, part}
 use Rattle.rank_handles.specs.Answers.{while_working, once_begun, when_complete, progress_answer, push_answer, pull_result, advance_answer, reset_answer, item_or_nothing, pull_once_begun}
-use Rattle.rank_handles.specs.Calls.{Pushes, Pulls, Unpulls, Advances, Resets}
+use Rattle.rank_handles.specs.Calls.{WorksUntilDone, Pushes, Pulls, Unpulls, Advances, Resets}
 use Rattle.rank_handles.specs.declared.statistics.BaleStatistics.{BaleStatistics}
 use Rattle.rank_handles.specs.RankAtBank.{seat_in, IsAtBank, IsSeatedHandle}
 
@@ -103,6 +103,15 @@ pub never_not_begun : (o : Option (ℕ × Item)) → item_or_nothing o ≡ Err N
 never_not_begun (Some p) e = absurd cc
 never_not_begun None e = absurd cc
 
+-- what an item's sender is, and that none was given
+pub sender_ok : (n : ℕ) (o : Option (ℕ × Item)) → IfSome o (λ p. p.0 < n) → IfOk (item_or_nothing o) (λ p. p.0 < n)
+sender_ok n (Some p) h = h
+sender_ok n None h = tt
+
+pub none_given : (o : Option (ℕ × Item)) → item_or_nothing o ≡ Err Nothing → o ≡ None
+none_given (Some p) e = absurd cc
+none_given None e = refl
+
 -- a pull, by whether it gave an item
 pub pull_moved : (seat : SeatView) (old new : State) (o : Option (ℕ × Item)) → AgreesWith old (posted_on seat) (collected_from seat)
     → IfSome o (λ p. IsStepOf (Pull p.0 p.1) old new) → (o ≡ None → IsStepOf Idle old new) → new.phase ≡ old.phase → new.rank ≡ old.rank → new.dims ≡ old.dims
@@ -124,26 +133,28 @@ working_not_done st is working = not_done st.done (not (all_closed st.outs)) (no
 -- what a call leaves, by what it answers
 pub pushes_good : (item : Item) (to : ℕ) (s t : Seated) → push_answer s to ≡ Good → t.seat ≡ s.seat → Moved (Push to item) Working s t → Pushes item to s t
 unfolding Pushes
-pushes_good item to s t good links moved = record { links = links; pushed = λ e. moved; full = λ e. absurd (let k : Good ≡ Full = sym good ∙ e in cc); misuse = λ not _. absurd (not good) }
+pushes_good item to s t good links moved = record { links = links; pushed = λ e. moved; full = λ e. absurd (let k : Good ≡ Full = sym good ∙ e in cc); still_full = λ e. absurd (let k : Good ≡ Full = sym good ∙ e in cc); misuse = λ not _. absurd (not good) }
 
-pub pushes_full : (item : Item) (to : ℕ) (s t : Seated) → push_answer s to ≡ Full → t.seat ≡ s.seat → Moved Idle Working s t → Pushes item to s t
+pub pushes_full : (item : Item) (to : ℕ) (s t : Seated) → push_answer s to ≡ Full → push_answer t to ≡ Full → t.seat ≡ s.seat → Moved Idle Working s t → Pushes item to s t
 unfolding Pushes
-pushes_full item to s t full links moved = record { links = links; pushed = λ e. absurd (let k : Full ≡ Good = sym full ∙ e in cc); full = λ e. moved; misuse = λ _ not. absurd (not full) }
+pushes_full item to s t full still links moved = record { links = links; pushed = λ e. absurd (let k : Full ≡ Good = sym full ∙ e in cc); full = λ e. moved; still_full = λ e. still; misuse = λ _ not. absurd (not full) }
 
 pub resets_good : (s t : Seated) → reset_answer s ≡ Good → t.seat ≡ s.seat → Moved Reset Dormant s t → Resets s t
 unfolding Resets
 resets_good s t good links moved = record { links = links; ended = λ e. moved; misuse = λ not. absurd (not good) }
 
 pub advances_on : (done : Bool) (s t : Seated) → advance_answer s done t.state.phase ≢ NotBegun → advance_answer s done t.state.phase ≢ DoneAlready
-    → Moved (advance_step s.state.done done (is_complete t.state.phase)) t.state.phase s t → t.state.done ≡ done → Advances done s t
+    → Moved (advance_step s.state.done done (is_complete t.state.phase)) t.state.phase s t → t.state.done ≡ done → WorksUntilDone done t → Advances done s t
 unfolding Advances
-advances_on done s t begun undone moved is = record { advanced = λ _ _. moved; done_is = λ _ _. is; not_begun = λ e. absurd (begun e); not_undone = λ e. absurd (undone e) }
+advances_on done s t begun undone moved is works = record { advanced = λ _ _. moved; done_is = λ _ _. is; works = λ _ _. works; not_begun = λ e. absurd (begun e); not_undone = λ e. absurd (undone e) }
 
 pub pulls_begun : (s t : Seated) (r : Result (ℕ × Item) Answer) → r ≡ pull_result s → (r ≡ Err NotBegun → ⊥) → t.seat ≡ s.seat → IfOk r (λ p. Moved (Pull p.0 p.1) s.state.phase s t)
-    → (r ≡ Err Nothing → Moved Idle s.state.phase s t) → Pulls s t
+    → (r ≡ Err Nothing → Moved Idle s.state.phase s t) → IfOk r (λ p. p.0 < ranks s.state.dims) → (r ≡ Err Nothing → pull_result t ≡ Err Nothing) → Pulls s t
 unfolding Pulls
-pulls_begun s t r is begun links pulled nothing = record {
+pulls_begun s t r is begun links pulled nothing sender still = record {
   links = links;
+  sender = subst (λ (q : Result (ℕ × Item) Answer). IfOk q (λ p. p.0 < ranks s.state.dims)) is sender;
+  still_none = λ e. still (is ∙ e);
   pulled = subst (λ (q : Result (ℕ × Item) Answer). IfOk q (λ p. Moved (Pull p.0 p.1) s.state.phase s t)) is pulled;
   nothing = λ e. nothing (is ∙ e);
   misuse = λ e. absurd (begun (is ∙ e));

@@ -4,7 +4,7 @@ use Rattle.rank_handles.specs.declared.answer.Answer.{Answer}
 use Rattle.rank_handles.specs.declared.answer.Answer.TheVariants.{Good, Full, Nothing, More, Near, Complete, NoMemory}
 use Rattle.rank_handles.specs.declared.answer.Answer.TheVariants.{NotBegun, BegunAlready, DoneAlready, NoSuchRank}
 use Rattle.rank_handles.specs.declared.answer.Answer.TheVariants.{NotComplete, Gone, BadNumbers, InUse, RankTaken}
-use Rattle.rank_handles.specs.declared.answer.Answer.TheVariants.{NoMoreEpochs, NotLent}
+use Rattle.rank_handles.specs.declared.answer.Answer.TheVariants.{NoMoreEpochs, NotLent, TooLong}
 use Rattle.hop_core.specs.declared.phase.Phase.{Phase}
 use Rattle.hop_core.specs.declared.phase.Phase.TheVariants as phase
 
@@ -28,6 +28,7 @@ code_of InUse = negsuc 8
 code_of RankTaken = negsuc 9
 code_of NoMoreEpochs = negsuc 10
 code_of NotLent = negsuc 11
+code_of TooLong = negsuc 12
 
 -- Of each phase: from 100 up, so that none is an answer's number.
 abbrev pub code_of_phase : Phase → ℤ

@@ -4,24 +4,35 @@ use Rattle.route_tensor.specs.Grid.{ranks}
 use Rattle.hop_core.specs.declared.phase.Phase.{Phase}
 use Rattle.hop_core.specs.declared.phase.Phase.TheVariants.{Dormant}
 use Rattle.rank_handles.specs.declared.part.Part.{Part}
-use Rattle.rank_handles.specs.declared.part.Part.TheVariants.{Empty, Group, Rank}
+use Rattle.rank_handles.specs.declared.part.Part.TheVariants.{Empty, Group, Rank, Elastic}
 use Rattle.rank_handles.specs.declared.answer.Answer.{Answer}
 use Rattle.rank_handles.specs.declared.answer.Answer.TheVariants.{Gone, InUse}
 use Rattle.rank_handles.specs.Grouped.{Grouped, IsNewGroup, IsNewRank, with_given, rank_answer, group_answer}
 use Rattle.rank_handles.specs.Seated.{Seated}
+use Rattle.rank_handles.specs.Strings.{ElasticState}
+use Rattle.rank_handles.specs.StringCalls.{NewElastic}
 
--- The rank, or the group, that a handle has.
+-- The rank, the elastic rank, or the group, that a handle has.
 abbrev pub rank_in : Option Part → Option Seated
 rank_in (Some (Rank r)) = Some r
 rank_in (Some (Group g)) = None
+rank_in (Some (Elastic e)) = None
 rank_in (Some Empty) = None
 rank_in None = None
 
 abbrev pub group_in : Option Part → Option Grouped
 group_in (Some (Group g)) = Some g
 group_in (Some (Rank r)) = None
+group_in (Some (Elastic e)) = None
 group_in (Some Empty) = None
 group_in None = None
+
+abbrev pub elastic_in : Option Part → Option ElasticState
+elastic_in (Some (Elastic e)) = Some e
+elastic_in (Some (Group g)) = None
+elastic_in (Some (Rank r)) = None
+elastic_in (Some Empty) = None
+elastic_in None = None
 
 -- What a call answers: Gone if there is none, and else by what is there.
 abbrev pub if_there : {T : Type 0} → Option T → (T → Answer) → Answer
@@ -47,7 +58,7 @@ phase_in (Some s) = s.state.phase
 abbrev pub new_group_answer : Option Grouped → List ℕ → ℕ → ℕ → Answer
 new_group_answer there dims cap slots = if is_some there then InUse else group_answer dims cap slots
 
-abbrev pub new_rank_answer : Option Grouped → Option Seated → ℕ → Answer
+abbrev pub new_rank_answer : {T : Type 0} → Option Grouped → Option T → ℕ → Answer
 new_rank_answer group there rank = if is_some there then InUse else if_there group (λ g. rank_answer g rank)
 
 -- A group of these numbers is there, which was just made.
@@ -60,6 +71,12 @@ unfoldable pub HasNewRank : Option Grouped → ℕ → Option Seated → Type 0
 HasNewRank None rank new = ⊥
 HasNewRank (Some g) rank None = ⊥
 HasNewRank (Some g) rank (Some s) = IsNewRank g rank s
+
+-- The same of an elastic rank: no string was pushed or pulled, and none is pending.
+unfoldable pub HasNewElastic : Option Grouped → ℕ → Option ElasticState → Type 0
+HasNewElastic None rank new = ⊥
+HasNewElastic (Some g) rank None = ⊥
+HasNewElastic (Some g) rank (Some s) = NewElastic g rank s
 
 -- The group once a rank of it was made.
 abbrev pub given_in : Option Grouped → ℕ → Option Grouped

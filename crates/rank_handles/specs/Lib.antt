@@ -14,3 +14,7 @@ pub mod Statistics
 pub mod Handles
 pub mod HandleView
 pub mod RankAtBank
+pub mod Strings
+pub mod StringCalls
+pub mod ElasticKept
+pub mod LendsElastic

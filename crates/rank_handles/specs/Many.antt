@@ -13,7 +13,7 @@ use Rattle.rank_handles.specs.declared.answer.Answer.{Answer}
 use Rattle.rank_handles.specs.declared.answer.Answer.TheVariants.{Good, Full, Nothing, More, Near, Complete, NoMemory}
 use Rattle.rank_handles.specs.declared.answer.Answer.TheVariants.{NotBegun, BegunAlready, DoneAlready, NoSuchRank}
 use Rattle.rank_handles.specs.declared.answer.Answer.TheVariants.{NotComplete, Gone, BadNumbers, InUse, RankTaken}
-use Rattle.rank_handles.specs.declared.answer.Answer.TheVariants.{NoMoreEpochs, NotLent}
+use Rattle.rank_handles.specs.declared.answer.Answer.TheVariants.{NoMoreEpochs, NotLent, TooLong}
 use Rattle.rank_handles.specs.Items.{item_of}
 use Rattle.rank_handles.specs.Codes.{code_of}
 use Rattle.rank_handles.specs.Answers.{while_working, once_begun, push_answer, pull_result}
@@ -90,6 +90,7 @@ number_or InUse n = Err InUse
 number_or RankTaken n = Err RankTaken
 number_or NoMoreEpochs n = Err NoMoreEpochs
 number_or NotLent n = Err NotLent
+number_or TooLong n = Err TooLong
 
 -- How many a call moved: none if something was wrong.
 abbrev pub moved_by : Result ℕ Answer → ℕ

@@ -41,6 +41,8 @@ pub enum Answer {
     NoMoreEpochs,
     /// Misuse: a view lends fewer items than are to be pulled.
     NotLent,
+    /// Misuse: a string has more than 65,535 bytes.
+    TooLong,
 }
 
 impl Answer {
@@ -67,6 +69,7 @@ impl Answer {
             Answer::RankTaken => -10,
             Answer::NoMoreEpochs => -11,
             Answer::NotLent => -12,
+            Answer::TooLong => -13,
         }
     }
 }

@@ -2,9 +2,10 @@
 ghost use Rattle.std.specs.Prelude.{◌≡◌, Some, None, Option, is_some, true};
 ghost use Rattle.std.specs.Borrow.{sem};
 ghost use Rattle.rank_handles.specs.declared.part.Part.{Part};
-ghost use Rattle.rank_handles.specs.Handles.{rank_in};
+ghost use Rattle.rank_handles.specs.Handles.{rank_in, elastic_in};
 
 use crate::cases::AnyRank;
+use crate::elastic_rank::ElasticRank;
 use crate::loose::Loose;
 use crate::part::Part;
 use std::alloc::Global;
@@ -25,7 +26,7 @@ impl Model for Held {
 }
 
 impl Held {
-    ghost use Rattle.rank_handles.specs.Lends.{lends_part, lends_rank};
+    ghost use Rattle.rank_handles.specs.Lends.{lends_part, lends_rank, lends_elastic};
 
     /// Nothing.
     pub(crate) fn none() -> Held
@@ -62,6 +63,19 @@ impl Held {
         ensures value { Some result.now ≡ rank_in self.old.value }
     {
         let Part::Rank(rank) = self.part_mut() else {
+            unreachable!()
+        };
+        rank
+    }
+
+    /// The elastic rank, in place.
+    #[inline]
+    pub(crate) fn elastic_mut(&mut self) -> &mut ElasticRank
+        requires there { is_some (elastic_in self.old.value) ≡ true }
+        ensures* writes_back { sem 𝓛 (lends_elastic self.entry result) }
+        ensures value { Some result.now ≡ elastic_in self.old.value }
+    {
+        let Part::Elastic(rank) = self.part_mut() else {
             unreachable!()
         };
         rank

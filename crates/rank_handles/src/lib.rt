@@ -7,9 +7,10 @@
 //!
 //! | | |
 //! |---|---|
-//! | `BaleGroup`, `BaleRank` | the handles: nothing, or a `Part`, which `take` takes out and `put` puts in; `get_mut` lends a rank in place |
-//! | `make_group`, `make_rank` | a group of these numbers; a rank of a group |
+//! | `BaleGroup`, `BaleRank`, `BaleElastic` | the handles: nothing, or a `Part`, which `take` takes out and `put` puts in; `get_mut` lends a rank if it stands |
+//! | `make_group`, `make_rank`, `make_elastic` | a group of these numbers; a rank of a group, for items or for strings |
 //! | `Exchange` | the conveyor's own calls, each a step of the exchange machine, one or many at a time |
+//! | `ElasticRank` | strings of up to 65,535 bytes over such an exchange: `push` and `pull` of whole strings |
 //! | `BaleStatistics` | what a rank sent and received so far |
 //! | `push_number`, `pull_number` | calls of many items, as the number that C is told |
 //!
@@ -21,12 +22,15 @@
 //! The definitions, in the order in which to read them: `Codes` (the numbers that C knows),
 //! `Seated` (a rank, and a call that makes a step), `Answers` (when each answer comes), `Calls`
 //! (what a call leaves), `Grouped` (a group, and a rank that was just made), `Handles` and
-//! `HandleView` (what a handle has), `Many` (calls of many items), `Statistics`, `Items`.
-//! `RankAtBank`, `Cases`, `Ownership`, `Lends` and `LendsRank` are the code's own.
+//! `HandleView` (what a handle has), `Many` (calls of many items), `Statistics`, `Items`, `Strings`
+//! and `StringCalls` (ranks for strings). `RankAtBank`, `ElasticKept`, `Cases`, `Ownership`,
+//! `Lends`, `LendsRank` and `LendsElastic` are the code's own.
 #![tactic(auto)]
 
 mod answer;
 mod cases;
+mod elastic_handle;
+mod elastic_rank;
 mod exchange;
 mod group;
 mod handle;
@@ -39,16 +43,20 @@ mod numbers;
 mod part;
 mod rank;
 mod statistics;
+mod strings;
 mod view;
 
 pub use answer::Answer;
 pub use cases::{AnyGroup, AnyRank};
+pub use elastic_handle::BaleElastic;
+pub use elastic_rank::ElasticRank;
 pub use exchange::Exchange;
 pub use handle::{BaleGroup, BaleRank};
 pub use held::Held;
 pub use item::{BaleItem, bale_item_from, item_from};
-pub use making::{make_group, make_rank};
+pub use making::{make_elastic, make_group, make_rank};
 pub use numbers::{pull_number, push_number};
 pub use part::Part;
 pub use statistics::BaleStatistics;
+pub use strings::BaleString;
 pub use view::BaleView;

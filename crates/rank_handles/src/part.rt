@@ -1,5 +1,6 @@
 //! What a handle may have.
 use crate::cases::{AnyGroup, AnyRank};
+use crate::elastic_rank::ElasticRank;
 
 /// What a handle may have.
 #[derive(Drop)]
@@ -8,6 +9,7 @@ pub enum Part {
     Empty,
     Group(AnyGroup),
     Rank(AnyRank),
+    Elastic(ElasticRank),
 }
 
 fn crosses<T: Send>(_value: &T) {}

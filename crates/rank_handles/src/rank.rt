@@ -268,6 +268,7 @@ fn advance_at<const CAP: usize, const HOPS: usize>(
     ensures epoch { conveyor.new.epoch ≡ conveyor.old.epoch }
     ensures done { conveyor.new.done ≡ done }
     ensures begun { conveyor.new.phase ≢ Phase.Dormant }
+    ensures working { done ≡ false → conveyor.new.phase ≡ Phase.Working }
     ensures step { IsOwnStep (advance_step conveyor.old.done done (is_complete conveyor.new.phase))
         (part_of (buffers_of conveyor.old) (posted_on seat.entry) (collected_from seat.entry))
         (part_of (buffers_of conveyor.new) (posted_on result.1) (collected_from result.1)) }

@@ -29,11 +29,13 @@ pub enum Error {
     LastEpoch,
     /// Fewer items are there to be viewed than are to be pulled.
     NotLent,
+    /// A string has more than 65,535 bytes.
+    TooLong,
 }
 
 /// Each error, the answer of `bale.h` that it stands for, and its text. A rank or a group of this
 /// crate always has a live handle, so -7 (no handle) and -9 (a handle made twice) never come.
-const ERRORS: [(Error, i64, &str); 10] = [
+const ERRORS: [(Error, i64, &str); 11] = [
     // answers: checks/answers writes these lines
     (Error::NoMemory, -1, "no memory"),
     (Error::NotBegun, -2, "the epoch has not begun"),
@@ -45,6 +47,7 @@ const ERRORS: [(Error, i64, &str); 10] = [
     (Error::Taken, -10, "the rank was made before"),
     (Error::LastEpoch, -11, "no number is left for another epoch"),
     (Error::NotLent, -12, "a view lends fewer items"),
+    (Error::TooLong, -13, "a string has more than 65,535 bytes"),
     // end of answers
 ];
 
@@ -86,8 +89,8 @@ mod tests {
     }
 
     #[test]
-    #[should_panic(expected = "another version: it answered -13")]
+    #[should_panic(expected = "another version: it answered -14")]
     fn an_unknown_answer_is_no_success() {
-        let _ = checked(-13);
+        let _ = checked(-14);
     }
 }

@@ -24,6 +24,13 @@ pub struct Lent {
     pub from: u32,
 }
 
+/// The bytes of a string that a rank lends. It begins as an address that can be read, and no byte.
+#[repr(C)]
+pub struct Bytes {
+    pub bytes: *const u8,
+    pub nbytes: usize,
+}
+
 extern "C" {
     pub fn bale_group_new(
         dims: *const u32,
@@ -59,6 +66,16 @@ extern "C" {
     pub fn bale_ranks(rank: *mut Handle) -> u32;
     pub fn bale_phase(rank: *mut Handle) -> i32;
     pub fn bale_statistics(rank: *mut Handle, statistics: *mut Statistics) -> i32;
+    pub fn bale_elastic_new(group: *mut Handle, number: u32, rank: *mut Handle) -> i32;
+    pub fn bale_elastic_begin(rank: *mut Handle) -> i32;
+    pub fn bale_epush(rank: *mut Handle, bytes: *const u8, nbytes: usize, to: u32) -> i32;
+    pub fn bale_elastic_pull(rank: *mut Handle, from: *mut u32) -> i32;
+    pub fn bale_elastic_string(rank: *mut Handle, string: *mut Bytes) -> i32;
+    pub fn bale_elastic_advance(rank: *mut Handle, done: bool) -> i32;
+    pub fn bale_elastic_reset(rank: *mut Handle) -> i32;
+    pub fn bale_elastic_ranks(rank: *mut Handle) -> u32;
+    pub fn bale_elastic_phase(rank: *mut Handle) -> i32;
+    pub fn bale_elastic_free(rank: *mut Handle) -> i32;
     pub fn bale_rank_free(rank: *mut Handle) -> i32;
     pub fn bale_group_free(group: *mut Handle) -> i32;
     pub fn bale_version() -> *const c_char;

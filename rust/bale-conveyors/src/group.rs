@@ -1,5 +1,5 @@
 //! The group: what ranks share.
-use crate::{error::checked, ffi, ffi::Handle, Error, Item, Rank};
+use crate::{error::checked, ffi, ffi::Handle, Elastic, Error, Item, Rank};
 use std::{fmt, marker::PhantomData};
 
 /// The memory that ranks share, and the ranks that are still to be made.
@@ -54,6 +54,20 @@ impl<T: Into<Item> + From<Item>> Group<T> {
         let answer = unsafe { ffi::bale_rank_new(&mut *self.handle, number, &mut *handle) };
         checked(answer.into())?;
         Ok(Rank::new(handle, number))
+    }
+
+    /// Makes the rank with this number as one for strings; its items have no `T`. All ranks of a
+    /// group are made for strings, or all for items.
+    ///
+    /// # Errors
+    ///
+    /// As of [`rank`](Group::rank).
+    pub fn elastic(&mut self, number: u32) -> Result<Elastic, Error> {
+        let mut handle = Handle::empty();
+        // SAFETY: both handles are valid and not shared, and the rank's is empty.
+        let answer = unsafe { ffi::bale_elastic_new(&mut *self.handle, number, &mut *handle) };
+        checked(answer.into())?;
+        Ok(Elastic::new(handle, number))
     }
 
     /// Makes all ranks, in the order of their numbers.

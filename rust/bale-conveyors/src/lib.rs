@@ -6,6 +6,8 @@
 //! a rank pushes items toward any other, advances the exchange, and pulls what came, until
 //! [`Progress::Complete`]. No call waits for another thread.
 //!
+//! Strings of bytes go between ranks of another kind, [`Elastic`].
+//!
 //! An item is any type that goes to the three words of an [`Item`] and back, such as `[u64; 3]`.
 //!
 //! ```
@@ -81,11 +83,13 @@
 //! environment variable `BALE_C_DIR` names, or without it in `c/out` of the repository, which
 //! `c/build` fills. Documentation and `cargo check` need no library. [`version`] says which one a
 //! program has.
+mod elastic;
 mod error;
 mod ffi;
 mod group;
 mod rank;
 
+pub use elastic::Elastic;
 pub use error::Error;
 pub use group::Group;
 pub use rank::{Drain, Phase, Progress, Pushed, Rank, Statistics, Unpushed, View};

@@ -46,6 +46,16 @@ pub enum Progress {
 }
 
 impl Progress {
+    /// By the answer of an advance.
+    pub(crate) fn from_answer(answer: i64) -> Progress {
+        match answer {
+            3 => Progress::More,
+            4 => Progress::Near,
+            5 => Progress::Complete,
+            other => panic!("the library is of another version: advance answered {other}"),
+        }
+    }
+
     /// Whether the epoch is over for this rank.
     #[must_use]
     pub fn is_complete(self) -> bool {
@@ -66,6 +76,20 @@ pub enum Phase {
     Cleanup,
     /// Every rank said that it is done, and this rank has pulled all that was pushed to it.
     Complete,
+}
+
+impl Phase {
+    /// By its number.
+    pub(crate) fn from_answer(answer: i32) -> Phase {
+        match answer {
+            100 => Phase::Dormant,
+            101 => Phase::Working,
+            102 => Phase::Endgame,
+            103 => Phase::Cleanup,
+            104 => Phase::Complete,
+            other => panic!("the library is of another version: phase answered {other}"),
+        }
+    }
 }
 
 /// One rank's side of an exchange, for one thread at a time.
@@ -229,12 +253,8 @@ impl<T: Into<Item> + From<Item>> Rank<T> {
     /// [`Error::NotBegun`]; [`Error::SaidDone`] if `done` is false after it was true.
     pub fn advance(&mut self, done: bool) -> Result<Progress, Error> {
         // SAFETY: as said above.
-        match checked(unsafe { ffi::bale_advance(&mut *self.handle, done) }.into())? {
-            3 => Ok(Progress::More),
-            4 => Ok(Progress::Near),
-            5 => Ok(Progress::Complete),
-            other => panic!("the library is of another version: advance answered {other}"),
-        }
+        let answer = unsafe { ffi::bale_advance(&mut *self.handle, done) };
+        Ok(Progress::from_answer(checked(answer.into())?))
     }
 
     /// Ends an epoch: from [`Phase::Complete`] to [`Phase::Dormant`].
@@ -258,14 +278,7 @@ impl<T: Into<Item> + From<Item>> Rank<T> {
     /// The state of this rank.
     pub fn phase(&mut self) -> Phase {
         // SAFETY: as said above.
-        match unsafe { ffi::bale_phase(&mut *self.handle) } {
-            100 => Phase::Dormant,
-            101 => Phase::Working,
-            102 => Phase::Endgame,
-            103 => Phase::Cleanup,
-            104 => Phase::Complete,
-            other => panic!("the library is of another version: phase answered {other}"),
-        }
+        Phase::from_answer(unsafe { ffi::bale_phase(&mut *self.handle) })
     }
 }
 

@@ -27,4 +27,4 @@ returns-clause-advances g c =
     ] in
     let answer = advanced_answer old.phase new.phase (old.done && not c.args.done) begun undone in
     subst (λ (z : Seated). Advances c.args.done z (at seat' new)) (ap (λ (m : SeatView). at m old) (sym there) ∙ c.self.view_is)
-    (advances_on c.args.done (at c.in-Some.seat old) (at seat' new) (λ e. progress_begun new.phase (sym answer ∙ e)) (λ e. progress_undone new.phase (sym answer ∙ e)) (moved_on (arc_value c.self.inside.bank) c.deref.result.now c.in-Some.seat seat' old new (advance_step old.done c.args.done (is_complete new.phase)) c.deref.ensures was told.at_bank told.rank told.dims told.step) told.done)
+    (advances_on c.args.done (at c.in-Some.seat old) (at seat' new) (λ e. progress_begun new.phase (sym answer ∙ e)) (λ e. progress_undone new.phase (sym answer ∙ e)) (moved_on (arc_value c.self.inside.bank) c.deref.result.now c.in-Some.seat seat' old new (advance_step old.done c.args.done (is_complete new.phase)) c.deref.ensures was told.at_bank told.rank told.dims told.step) told.done (record { begun = told.begun; working = told.working; undone = λ e. sym told.done ∙ told.at_bank.working e }))

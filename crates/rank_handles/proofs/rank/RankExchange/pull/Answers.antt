@@ -1,5 +1,6 @@
-use Rattle.std.proofs.Common.{◌≡◌, ◌≢◌, sym, ap, ◌∙◌, subst, ℕ, Result, Err, IfOk}
+use Rattle.std.proofs.Common.{◌≡◌, ◌≢◌, ◌<◌, sym, ap, ◌∙◌, subst, ℕ, Result, Err, IfOk}
 use Rattle.bale_items.specs.declared.item.Item.{Item}
+use Rattle.route_tensor.specs.Grid.{ranks}
 use Rattle.port_bank.specs.Machine.Step.{Pull, Idle}
 use Rattle.hop_core.specs.declared.phase.Phase.TheVariants.{Dormant}
 use Rattle.hop_core.specs.State.{State, lowest_unread, pull_from}
@@ -8,7 +9,7 @@ use Rattle.rank_handles.specs.declared.answer.Answer.TheVariants.{Nothing}
 use Rattle.rank_handles.specs.Seated.{Seated, Moved}
 use Rattle.rank_handles.specs.Answers.{item_or_nothing, pull_result}
 use Rattle.rank_handles.specs.RankAtBank.{seat_in}
-use Rattle.rank_handles.proofs.Moves.{at, begun_pull, never_not_begun, pull_moved, pulls_begun, seated_still, pulled_phase, pulled_rank, pulled_dims, pulled_epoch, pulled_done}
+use Rattle.rank_handles.proofs.Moves.{at, begun_pull, never_not_begun, pull_moved, sender_ok, none_given, pulls_begun, seated_still, pulled_phase, pulled_rank, pulled_dims, pulled_epoch, pulled_done}
 use Rattle.std.specs.Arc.{arc_value}
 use Rattle.rank_handles.proofs.rank.RankExchange.pull.Goals as goal
 
@@ -23,7 +24,10 @@ returns-in_default g c =
     let value = c.some_item.ensures ∙ (ap item_or_nothing c.pull.ensures.value ∙ (begun_pull old.phase (item_or_nothing (pull_from old l)) begun ∙ ap pull_result c.self.view_is)) in
     record {
       value = value;
-      pulls = pulls_begun c.args.self.now (at seat new) c.some_item.result value (λ e. never_not_begun c.pull.result (sym c.some_item.ensures ∙ e)) (ap (λ (z : Seated). z.seat) c.self.view_is) seen.0 seen.1;
+      pulls = pulls_begun c.args.self.now (at seat new) c.some_item.result value (λ e. never_not_begun c.pull.result (sym c.some_item.ensures ∙ e)) (ap (λ (z : Seated). z.seat) c.self.view_is) seen.0 seen.1
+          (subst (λ (z : Seated). IfOk c.some_item.result (λ p. p.0 < ranks z.state.dims)) c.self.view_is
+          (subst (λ (r : Result (ℕ × Item) Answer). IfOk r (λ p. p.0 < ranks old.dims)) (sym c.some_item.ensures) (sender_ok (ranks old.dims) c.pull.result c.pull.ensures.sender)))
+          (λ e. ap (λ (z : State). pull_result (at seat z)) (c.pull.ensures.none (none_given c.pull.result (sym c.some_item.ensures ∙ e))).state ∙ (ap pull_result c.self.view_is ∙ (sym value ∙ e)));
     }
 
 pub invariant_of-self : goal.invariant_of-self

@@ -11,7 +11,8 @@
 //! | `bale_ranks`, `bale_phase`, `bale_rank_free` | `rank_calls` | how many ranks there are; how far the rank is |
 //! | `bale_statistics` | `rank_calls` | what the rank sent and received so far |
 //! | `bale_lend`, `bale_pulled` | `view_calls` | the entries that the next pulls give, if they are; pulls the first ones |
-//! | `bale_elastic_new`, `bale_epush`, `bale_elastic_pull`, `bale_elastic_string`, and the other `bale_elastic_` calls | `elastic_calls` | strings of up to 65,535 bytes: pushed whole or not at all, and lent whole |
+//! | `bale_elastic_new`, `bale_elastic_begin`, `bale_epush`, `bale_elastic_pull`, `bale_elastic_string`, `bale_elastic_advance`, `bale_elastic_reset` | `elastic_calls` | strings of up to 65,535 bytes: pushed whole or not at all, and lent whole |
+//! | `bale_elastic_ranks`, `bale_elastic_phase`, `bale_elastic_free` | `elastic_calls` | as those of a rank of items |
 //! | `bale_push_many`, `bale_pull_many` | `many_calls` | how many items were moved, as by so many single calls |
 //!
 //! Misuse has an answer of its own, by a code below 0, and changes nothing.
